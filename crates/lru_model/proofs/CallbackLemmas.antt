@@ -1,8 +1,8 @@
--- For callers that pass a callback: it may be called with the entries that may be evicted, removed or rejected,
+-- For callers that pass a callback: it may be called with each pair that may be evicted, removed or rejected,
 --     always_each, always_replaced, always_inserted      if it may always be called
---     may_take_always      as a hint for `search`: name it on the function, in `#[tactic(auto, using(..))]`
---     takes_always         it may always be called after the call, too
---     each_by              if an invariant of the callback holds after n calls
+--     may_take_always      the same, for `search`: name it on the function, in `#[tactic(auto, using(..))]`
+--     takes_always         after such calls, it may still always be called
+--     each_by              if an invariant of the callback permits each call
 use Rattle.std.proofs.Common.{◌≡◌, ℕ, suc, ◌+◌, ◌<◌, ◌≤◌, List, [], ◌∷◌, length, Bool, refl, subst, arith}
 use Rattle.std.proofs.lemmas.List.Elements.{All-head, All-tail}
 use Rattle.std.specs.Prelude.{All}
@@ -24,7 +24,7 @@ module _ {K V F : Type 0} (closure : Mut F (K × (V × Unit {0})) (Unit {0})) wh
       → CalledWith closure f before g → MayBeCalled closure g (pair.0, (pair.1, tt))
   may_take_always f before g pair h taken = ((takes_always before f g taken h).at ((pair.0, (pair.1, tt)) ∷ [])).0
 
-  -- `Inv m` is an invariant of the callback after m of at most n calls
+  -- `Inv m` holds of the callback after m calls; the callback is called at most n times
   module _ (passes : K × V → Type 0) (n : ℕ) (Inv : ℕ → F → Type 0)
       (asks : (m : ℕ) (g : F) (pair : K × V) → m < n → Inv m g → passes pair
       → MayBeCalled closure g (pair.0, (pair.1, tt)))

@@ -1,38 +1,38 @@
 -- For proofs of callers of a map.
---     read_back            a get through which nothing is written only brings the pair to the front
---     promoted-summed      such a get keeps the sum of the costs
---     promoted-absent, demoted-absent      if nothing is found, nothing moves to the front or to the back
---     written-absent       if nothing is found, a write changes nothing
---     written-found        after a value was written through a get, a look-up finds it
---     read-all             what holds of each pair still does after a get through which nothing is written
---     offers_of-keeps      a limiter that stores pairs as they come keeps their values
---     offers_of-determined the state and the arguments determine what such a limiter does
---     offers_of-accepts    when such a limiter accepts a pair of a new key
+--     read_back            a get only brings the pair to the front, if its value is not written
+--     promoted-summed      a promotion keeps the sum of the costs
+--     promoted-absent, demoted-absent      if the key is not there, nothing moves to the front or to the back
+--     written-absent       if the key is not there, a write changes nothing
+--     written-found        a look-up finds the value that was written through a get
+--     read-all             if P holds of each pair, it does after a get whose value is not written
+--     offers_of-keeps      a limiter that stores pairs unchanged keeps their values
+--     offers_of-determined the state and the arguments determine what this limiter does
+--     offers_of-accepts    when this limiter accepts a pair of a new key
 --     plain-grants, by_weight-grants, by_cost-grants                    these limiters permit every growth
 --     plain-changes_none, by_weight-changes_none, by_cost-changes_none  these limiters change no removed pair
---     stored_key-same      a key that equals no other key is stored as it came
---     stored-came          a limiter that stores pairs as they come stores such a pair as it came
---     inserted-found       under such a limiter, after an insert that returned true, a look-up finds the value
---     inserted-only        whatever the insert returned, a look-up finds no other value
---     inserted-all         what holds of each pair still does after an insert, if it holds of the inserted pair
---     all-without          what holds of each pair still does after a removal
+--     stored_key-same      if equal keys are the same, the stored key is the inserted key
+--     stored-came          if equal keys are the same, an insert stores the pair unchanged
+--     inserted-found       after an insert that returned true, a look-up finds the inserted value
+--     inserted-only        after any insert, a look-up finds no other value
+--     inserted-all         if P holds of each pair and of the inserted pair, it does after an insert
+--     all-without          if P holds of each pair, it does after a removal
 --     given-found          a search by a hash with a closure that tests a key returns the pair of that key
---     given-tag            such a search returns only a pair whose hash has the tag of the hash
---     given-promoted       such a search through which nothing is written only brings that pair to the front
---     none-found           if such a search returns none, no pair of that key has the hash
+--     given-tag            this search returns only a pair whose key has a hash of the same tag
+--     given-promoted       this search only brings the pair to the front, if its value is not written
+--     none-found           if this search returns none, no pair of that key has the hash
 --     empty_is_map         `IsMap` holds of a map without pairs and buckets
---     has_tables           there are tables for the pairs of a map if links and bytes reach a table for many more
+--     has_tables           there are tables for the pairs if there is a table for eight times as many
 --     tables_of_next       or if there is a table for one pair more, and an entry takes a byte or more
---     shrink_contents      a shrink leaves the pairs and the limiter
---     usage_bytes          the bytes of a table that has a usage
+--     shrink_contents      a shrink keeps the pairs and the limiter
+--     usage_bytes          the usage of a table with buckets is `bytes_of`
 --     value_removed        a removal may return only the value of the removed entry
---     step_keeps_number    no call changes a number that no callback of the limiter changes
---     step_stays_short     a call keeps the pairs within a limit by length
+--     step_keeps_number    a call changes a number only if a callback of the limiter does
+--     step_stays_short     a call keeps the map within its limit of length
 --     any_is_map           each call leaves `IsMap`, if the table is sound
---     any_step_same        no call changes what builds the hashers, how far links reach, or what a bucket takes
---     lookup-entry, no_pair      a look-up returns the value of the pair that is found, and none if no pair is
---     without_none         if no pair is named, removing the named pair changes nothing
---     length-front_pairs   bringing a pair to the front keeps the number of pairs
+--     any_step_same        no call changes `hasher`, `max` or `entry_bytes`
+--     lookup-entry, no_pair      `lookup` returns the value of the pair that `lookup_entry` returns
+--     without_none         if no key is named, a removal changes nothing
+--     length-front_pairs   a promotion keeps the number of pairs
 pub use Rattle.lru_model.proofs.Theorems.KeySearches.{given-found, given-tag, none-found}
 pub use Rattle.lru_model.proofs.States.EmptyMaps.{empty_is_map}
 pub use Rattle.lru_model.proofs.States.LeavingPairs.{leaves_trans, length-without_first, length-without_last}

@@ -1,12 +1,12 @@
--- Each public call is a step, or steps one after another. The arguments are what the contract of the call says.
+-- Each public call is a step, or steps one after another. The lemmas take what the contract of the call ensures.
 --
--- These clauses are steps as they are: `gets` of `promote` and `get_key_value`, `demotes`, `removes` of `remove`,
--- `pops_oldest`, `pops_newest`, `clears`, `reserves`, `shrinks`, `trims`, `inserts`, `updates`. The lemmas for the
--- others:
+-- Some calls are steps by their contracts alone: `gets` is `promote` and `get_key_value`, `removes` is `remove`,
+-- and so on for `demotes`, `pops_oldest`, `pops_newest`, `clears`, `reserves`, `shrinks`, `trims`, `inserts` and
+-- `updates`. The lemmas for the other calls:
 --     removes_entry            `remove_entry`
 --     retains_pairs            `retain`, `retain_with`
 --     makes_step               `ensure_newest`
---     one_step, no_step, joined, any_steps      a run of one step, of none, of two runs, of `AnyStep`s
+--     one_step, no_step, joined, any_steps      runs of one step, of no step, of two runs, and of `AnyStep`s
 --     makes_if_made            `ensure_newest_fallible`, and `get_or_insert_fallible` up to the loan
 --     keeps_run                `insert_and_keep`
 --     pops_if, tries_pop       `pop_oldest_if`, `try_pop_oldest`
@@ -17,7 +17,8 @@
 --     writes_all               `for_each_mut`
 --     writes_at                each loan of `iter_mut`
 --     inserts_all, fails_at    `try_extend`
--- `without_insert`, `run_without_insert`: a call that inserts nothing is a step, whatever type the inserted keys have.
+-- `without_insert`, `run_without_insert`: a call other than an insert, a get that inserts, or an update is a step with
+-- any type of inserted keys.
 use Rattle.std.proofs.Common.{◌≡◌, ℕ, zero, suc, Bool, true, false, List, [], ◌∷◌, ◌++◌, refl, sym, ap, ◌∙◌, subst}
 use Rattle.std.proofs.Common.{Option, Some, Result, Ok, Err, option_map, unwrap_or, slice_get}
 use Rattle.std.proofs.lemmas.List.{append_assoc}

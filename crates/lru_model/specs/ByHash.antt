@@ -16,19 +16,19 @@ module _ {K V F : Type 0} (closure : Mut F (Bor K × (Bor V × Unit {0})) Bool) 
     pub shows : (key.now ≡ pair.0) × (value.now ≡ pair.1)
     pub called : Called closure f (key, (value, tt)) answer g
 
-  -- f was called with these pairs, one after another, rejected each, and is then g
+  -- f was called with these pairs, one after another, returned false for each, and is then g
   abbrev pub Refuses : F → List (K × V) → F → Type 0
   Refuses f pairs g = FoldsTo (λ p pair q. Asks p pair false q) f pairs g
 
 module _ {K V : Type 0} (eq : K → K → Bool) (hash_of : K → ℕ) (all : List (K × V)) (hash : ℕ) where
-  -- pairs of the map with distinct keys; the hash of each key has the same tag (the top 7 bits) as the searched hash
+  -- These pairs are in the map, and their keys are distinct. Each key's hash has the tag (the top 7 bits) of `hash`.
   pub record AreCandidates (pairs : List (K × V)) : Type 0 where
     pub distinct : IsDistinct eq (keys_of pairs)
     pub there : (pair : K × V) → Contains pairs pair → Contains all pair
     pub tags : (pair : K × V) → Contains pairs pair → hash_tag (hash_of pair.0) ≡ hash_tag hash
 
   module _ {F : Type 0} (closure : Mut F (Bor K × (Bor V × Unit {0})) Bool) where
-    -- f was called with candidates, each once; it rejected all but the last, which the search returns
+    -- f was called with candidates, each once; it returned false for each one in `before`, and then true for `pair`
     pub record GivesByHash (f : F) (pair : K × V) : Type 0 where
       pub before : List (K × V)
       pub candidates : AreCandidates (before ++ pair ∷ [])
@@ -37,7 +37,9 @@ module _ {K V : Type 0} (eq : K → K → Bool) (hash_of : K → ℕ) (all : Lis
       pub last : F
       pub accepted : Asks closure between pair true last
 
-    -- f was called with candidates, each once, and rejected all; each pair of the map with this hash was among them
+    -- f was called with candidates, each once, and returned false for all. Each pair whose key has this hash is a
+    -- candidate.
+    -- hash
     pub record GivesNoneByHash (f : F) : Type 0 where
       pub asked : List (K × V)
       pub candidates : AreCandidates asked

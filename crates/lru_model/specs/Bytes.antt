@@ -1,4 +1,4 @@
--- A map under a limit of bytes: its table and what its pairs own, together.
+-- A map under a limit of the bytes of its table plus the bytes that its pairs own.
 --     bytes_of k v      how many bytes the pair of k and v owns
 use Rattle.std.specs.Prelude.{◌≡◌, ℕ, ◌+◌, ◌≤◌, Some, sum_by}
 use Rattle.lru_limits.specs.Bytes.{Bytes}
@@ -13,12 +13,12 @@ module _ {K V S H : Type 0} (bytes_of : K → V → ℕ) where
       × (table + sum_by (λ pair. bytes_of pair.0 pair.1) st.pairs ≤ n)
 
 module _ {K V H : Type 0} (bytes_of : K → V → ℕ) where
-  -- The limiter counts the bytes that the pairs own. Its bytes for the table are at least what the table uses.
+  -- The limiter counts exactly the bytes that the pairs own, and at least the bytes that the table uses.
   pub record CountsBytes (st : State K V Bytes H) : Type 0 where
     pub table : UsesAtMost st.limiter.table st
     pub owned : IsSummed bytes_of (λ b. b.owned) st
 
-  -- the limiter counts the bytes of the map (`CountsBytes`), and these are within its limit
+  -- the limiter counts the bytes of the map (`CountsBytes`), and the counted bytes are within its limit
   pub record KeepsBytes (st : State K V Bytes H) : Type 0 where
     pub counts : CountsBytes st
     pub within : st.limiter.owned + st.limiter.table ≤ st.limiter.limit

@@ -1,6 +1,5 @@
 -- How gets, writes, removals, pops and a clear change a map. Each other kind of call has a file of its own.
---     rules      the limiter's `Rules` (`lru_limits`)
---     names      whether a key is the one that is looked up
+--     names      whether a key is the looked-up key
 use Rattle.std.specs.Prelude.{◌≡◌, Bool, List, [], Option, Some, None, option_map, replicate}
 use Rattle.std.specs.Map.{set_value}
 use Rattle.group_table.specs.Bucket.{empty}
@@ -10,26 +9,26 @@ use Rattle.lru_model.specs.Lists.{front_places, back, back_places}
 use Rattle.lru_model.specs.State.{State, buckets, Contents, contents, Leaves, after_removal}
 
 module _ {K V S H : Type 0} where
-  -- the map with the pair of the named key, if there is one, as the newest
+  -- the map after the pair of the named key, if there is one, became the newest
   abbrev pub promoted : (K → Bool) → State K V S H → State K V S H
   promoted names st = record st {
     pairs = front names st.pairs;
     table = record st.table { places = front_places names st.pairs st.table.places };
   }
 
-  -- the map with the pair of the named key, if there is one, as the oldest
+  -- the map after the pair of the named key, if there is one, became the oldest
   abbrev pub demoted : (K → Bool) → State K V S H → State K V S H
   demoted names st = record st {
     pairs = back names st.pairs;
     table = record st.table { places = back_places names st.pairs st.table.places };
   }
 
-  -- the map with this value for the named key, if the key is there
+  -- the map after the named key got this value, if the key is there
   abbrev pub written : (K → Bool) → V → State K V S H → State K V S H
   written names value st = record st { pairs = set_value names st.pairs value }
 
-  -- A get lends the value of the named key. Its pair becomes the newest, with the value last written through the loan
-  -- (`left`). If the key is not there, nothing changes.
+  -- A get lends the value of the named key, and the pair becomes the newest. The caller may write through the loan:
+  -- `left` is the value afterwards. If the key is not there, nothing changes.
   pub data Get (names : K → Bool) (old : State K V S H) (result : Option V) (new : State K V S H) : Type 0 where
     found : (value left : V) → lookup names old.pairs ≡ Some value →
         result ≡ Some value → new ≡ written names left (promoted names old) →
@@ -74,8 +73,8 @@ module _ {K V S H : Type 0} (rules : Rules K V S) where
     pub value : result ≡ option_map (λ p. p.1) (left_of rules old.limiter (lookup_entry names old.pairs))
     pub state : Leaves old (removal rules names (contents old)) new
 
-  -- The map without pairs. The number of buckets stays, and all are empty. The limiter is notified of the clear, and
-  -- not of each pair.
+  -- The map without pairs. The number of buckets stays, and all buckets are empty. The limiter is notified once, of the
+  -- clear, and not of each pair.
   abbrev pub cleared : State K V S H → State K V S H
   cleared st = record st {
     pairs = [];

@@ -1,4 +1,4 @@
--- What a whole drain takes out of a map: pairs from both ends, and the other pairs when the drain is dropped.
+-- What a drain takes out of a map: pairs from both ends, and all other pairs when the drain is dropped.
 use Rattle.std.specs.Prelude.{◌≡◌, ℕ, zero, suc, List, [], ◌++◌, option_to_list}
 use Rattle.lru_limits.specs.Rules.{Rules}
 use Rattle.lru_model.specs.Lists.{first, last}
@@ -23,8 +23,8 @@ module _ {K V S : Type 0} (rules : Rules K V S) where
   oldest_given (suc n) c = option_to_list (left_of rules c.limiter (last c.pairs)) ++ oldest_given n (pop rules c)
 
 module _ {K V S H : Type 0} (rules : Rules K V S) where
-  -- A whole drain: it pops the newest pair `newest` times, then the oldest pair `oldest` times, and returns these
-  -- pairs. Then it is dropped, which clears the map.
+  -- A drain from its creation to its drop. It pops the newest pair `newest` times, then the oldest pair `oldest` times,
+  -- and returns these pairs. Its drop clears the map.
   pub record Drained (newest oldest : ℕ) (old : State K V S H) (result : List (K × V))
       (new : State K V S H) : Type 0 where
     pub pairs : result ≡ newest_given rules newest (contents old)

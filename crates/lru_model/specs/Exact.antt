@@ -1,5 +1,5 @@
--- How an insert changes a list of pairs and a limiter. The list, the limiter and the report of the table determine the
--- result, unless memory runs out. In a table of up to 16 buckets the growth left determines the report.
+-- How an insert changes a list of pairs and a limiter. Unless memory runs out, the list, the limiter, what `on_insert`
+-- returns and the report of the table determine how the insert ends.
 use Rattle.std.specs.Prelude.{◌≡◌, ◌≢◌, ℕ, ◌+◌, ◌-◌, ◌/◌, ◌<◌, ◌≤◌, nat_lt, nat_le, Bool, true, false, not}
 use Rattle.std.specs.Prelude.{if◌then◌else◌, ◌∷◌, length, Option, Some, None, MatchOption, Result, Ok, IsErr}
 use Rattle.std.specs.declared.alloc.AllocError.{AllocError}
@@ -20,17 +20,17 @@ pub record Report : Type 0 where
   -- whether there is a bucket for the pair
   pub has_bucket : Bool
 
--- there is a bucket, without a query or an eviction
+-- there is a bucket for the pair, without a query or an eviction
 abbrev pub at_once : Report
 at_once = record { asked = None; evicted = 0; has_bucket = true }
 
 module _ {K V S : Type 0} (rules : Rules K V S) where
-  -- Growth is refused, after the query `asked`, if there was one. Then the n oldest pairs of c are evicted. If c has no
-  -- pairs, there is no bucket.
+  -- Growth is refused, and the n oldest pairs of c are evicted. If c has no pairs, there is no bucket. `asked` has the
+  -- bytes of the query, if the limiter was queried.
   abbrev pub refusal : Option ℕ → ℕ → Contents K V S → Report
   refusal asked n c = record { asked = asked; evicted = n; has_bucket = not (is_empty c.pairs) }
 
-  -- what a table that is too small reports, for each `Target` of its growth
+  -- what a table reports if it grows into this `Target`, or if growth is refused
   abbrev pub report_of : Target → ℕ → Contents K V S → Report
   report_of no_table n c = refusal None n c
   report_of same_table n c = at_once
@@ -40,8 +40,8 @@ module _ {K V S : Type 0} (rules : Rules K V S) where
 
   -- what the table of a map may report for a pair of this hash
   pub data MayReport {H : Type 0} (hash : ℕ) (st : State K V S H) (report : Report) : Type 0 where
-    -- Growth is left, or a rehash is enough, or a deleted bucket takes the pair. A deleted bucket exists only in a
-    -- table of more than 16 buckets.
+    -- Growth is left, or a rehash is enough, or the table has more than 16 buckets and a deleted bucket may take the
+    -- pair.
     fits : (growth_left st ≡ 0 → full_capacity (buckets st) / 2 < length st.pairs + 1 → 16 < buckets st) →
         report ≡ at_once →
         MayReport hash st report
@@ -51,8 +51,8 @@ module _ {K V S : Type 0} (rules : Rules K V S) where
         report ≡ report_of (table_for 1 st) n (contents st) →
         MayReport hash st report
 
-  -- What a table of up to 16 buckets reports. Since `st`, its growth left has risen by one for each pair that is no
-  -- longer in c.
+  -- What a table of up to 16 buckets reports. c is the contents of `st` after some pairs were removed. The growth left
+  -- has risen by one for each of them.
   abbrev pub small_report : {H : Type 0} → State K V S H → Contents K V S → Report
   small_report st c =
       if nat_lt 0 (growth_left st + length st.pairs - length c.pairs) then at_once
@@ -63,7 +63,7 @@ module _ {K V S : Type 0} (rules : Rules K V S) where
   queried None s = s
   queried (Some bytes) s = (rules.on_grow s bytes).limiter
 
-  -- the pairs and the limiter just before a new pair is stored
+  -- the contents just before a new pair is stored
   abbrev pub met : Report → Contents K V S → Contents K V S
   met report c = pops rules report.evicted (record { pairs = c.pairs; limiter = queried report.asked c.limiter })
 
@@ -71,17 +71,17 @@ module _ {K V S : Type 0} (rules : Rules K V S) where
   abbrev pub trimmed : Contents K V S → Result Bool AllocError × Contents K V S
   trimmed c = (Ok (not (is_empty (trim rules c).pairs)), trim rules c)
 
-  -- the pair is not stored, and the limiter is notified of it
+  -- the pair is not stored, and the limiter is notified of the pair
   abbrev pub not_stored : Report → K × V → Contents K V S → Contents K V S
   not_stored report pair c = let d = met report c in after_removal rules (Some pair) d.pairs d.limiter
 
-  -- the pair is stored as the newest, if there is a bucket for it
+  -- if there is a bucket for the pair, it is stored as the newest; otherwise it is not stored
   abbrev pub stored : Report → K × V → Contents K V S → Result Bool AllocError × Contents K V S
   stored report pair c = let d = met report c in
       if report.has_bucket then trimmed (record { pairs = pair ∷ d.pairs; limiter = d.limiter })
       else (Ok false, not_stored report pair c)
 
--- if the limiter accepts the value, the pair gets it and is the newest; otherwise the pair is removed
+-- if the limiter accepts the value, the pair gets it and becomes the newest; otherwise the pair is removed
 abbrev pub exchanged : {K V S I : Type 0} (rules : Rules K V S) (offers : Offers K V S I) (names : I → K → Bool) (i : I)
     (v : V) → Contents K V S → K × V → Result Bool AllocError × Contents K V S
 exchanged rules offers names i v c pair =
@@ -89,16 +89,16 @@ exchanged rules offers names i v c pair =
     else (Ok false, with_removed rules offers names pair i v c)
 
 -- What an insert into a list returns and leaves. `Tells s pair report` says that the table may report `report`, after
--- the limiter returned the pair and became s.
+-- `on_insert` returned the pair and left the limiter as s.
 module _ {K V S I : Type 0} (rules : Rules K V S) (offers : Offers K V S I) (names : I → K → Bool)
     (Tells : S → K × V → Report → Type 0) (i : I) (v : V) (old : Contents K V S) (result : Result Bool AllocError)
     (new : Contents K V S) where
   pub data InsertsNew : Type 0 where
-    -- The limiter runs out of memory, or returns no pair to store,
+    -- The limiter runs out of memory, or returns no pair to store.
     not_offered : offers.may_run_out old.limiter (length old.pairs) i v → IsErr result → new ≡ old → InsertsNew
     not_admitted : (s : S) → MayGive rules offers names i v old s None →
         result ≡ Ok false → new ≡ record { pairs = old.pairs; limiter = s } → InsertsNew
-    -- or it returns a pair, which is stored as the table reports, or the map runs out of memory.
+    -- Or the limiter returns a pair. The pair is stored as the table reports, or the map runs out of memory.
     admitted : (s : S) (pair : K × V) → MayGive rules offers names i v old s (Some pair) →
         (report : Report) → Tells s pair report →
         stored rules report pair (make_room rules (record { pairs = old.pairs; limiter = s })) ≡ (result, new) →
@@ -113,23 +113,23 @@ module _ {K V S I : Type 0} (rules : Rules K V S) (offers : Offers K V S I) (nam
       (λ pair. exchanged rules offers names i v old pair ≡ (result, new))
 
 module _ {K V S I : Type 0} (rules : Rules K V S) (offers : Offers K V S I) (names : I → K → Bool) where
-  -- an insert into a list, if the limiter and the pair determine the report
+  -- an insert into a list, with the report `reports s pair`
   abbrev pub InsertsGiven : (S → K × V → Report) → I → V → Contents K V S → Result Bool AllocError → Contents K V S →
       Type 0
   InsertsGiven reports = InsertsBy rules offers names (λ s pair report. report ≡ reports s pair)
 
-  -- an insert without a table: a bucket is always there
+  -- an insert into a list without a table
   abbrev pub InsertsInList : I → V → Contents K V S → Result Bool AllocError → Contents K V S → Type 0
   InsertsInList = InsertsGiven (λ s pair. at_once)
 
   module _ {H : Type 0} (old : State K V S H) where
-    -- an insert into this map
+    -- an insert into the map `old`
     abbrev pub InsertsAsReported : (H → K → ℕ) → I → V → Result Bool AllocError → Contents K V S → Type 0
     InsertsAsReported hash_of i v = InsertsBy rules offers names (λ s pair report. (ready : State K V S H)
         × Leaves (record old { limiter = s }) (make_room rules (record { pairs = old.pairs; limiter = s })) ready
         × MayReport rules (hash_of ready.hasher pair.0) ready report) i v (contents old)
 
-    -- an insert into this map, if its table has up to 16 buckets
+    -- an insert into the map `old`, if its table has up to 16 buckets
     abbrev pub InsertsInSmallTable : I → V → Result Bool AllocError → Contents K V S → Type 0
     InsertsInSmallTable i v = InsertsGiven (λ s pair. small_report rules old
         (make_room rules (record { pairs = old.pairs; limiter = s }))) i v (contents old)

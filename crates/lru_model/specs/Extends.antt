@@ -1,7 +1,4 @@
 -- Inserts of a list of pairs, one after another.
---     rules, offers       the limiter's `Rules` and `Offers` (`lru_limits`)
---     names i k           the inserted key i names k
---     hash_of h k         the hash of k by the hasher h
 use Rattle.std.specs.Prelude.{ℕ, Bool, List, [], ◌∷◌, ◌++◌, Ok, Err}
 use Rattle.std.specs.declared.alloc.AllocError.{AllocError}
 use Rattle.lru_limits.specs.Rules.{Rules, Offers}

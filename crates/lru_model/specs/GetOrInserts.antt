@@ -1,7 +1,4 @@
 -- What `ensure_newest` and `get_or_insert` do: they look up a key, and insert it if it is not there.
---     rules, offers       the limiter's `Rules` and `Offers` (`lru_limits`)
---     names i k           the inserted key i names k
---     hash_of h k         the hash of k by the hasher h
 --     makes v             the closure may return v
 use Rattle.std.specs.Prelude.{◌≡◌, ℕ, Bool, true, Some, None, Result, Ok, OnErr}
 use Rattle.std.specs.declared.alloc.AllocError.{AllocError}
@@ -25,19 +22,19 @@ module _ {K V S H I : Type 0} (rules : Rules K V S) (offers : Offers K V S I) (n
         (v : V) → makes v → Insert rules offers names hash_of i v old result new →
         MakesNewest makes i old result new
 
-  -- why the call fails: the closure returned v, and the insert of v ran out of memory
+  -- why the call runs out of memory: the closure returned v, and the insert of v ran out of memory
   abbrev pub IsOutOfMemoryFor : (makes : V → Type 0) → I → State K V S H → State K V S H → Type 0
   IsOutOfMemoryFor makes i old new = (v : V) × makes v × IsOutOfMemory rules offers names hash_of i v old new
 
 module _ {K V S H E : Type 0} where
-  -- If the result is true, the pair of the key is the newest. If it is false or an error, the key is not there.
+  -- If the result is true, the pair of the key is the newest. If the result is false or an error, the key is not there.
   abbrev pub SaysNewest : (K → Bool) → Result Bool E → State K V S H → Type 0
   SaysNewest names (Ok true) new = IsNewest names new.pairs
   SaysNewest names result new = lookup_entry names new.pairs ≡ None
 
 module _ {K V S H I : Type 0} (rules : Rules K V S) (offers : Offers K V S I) (names : I → K → Bool)
     (hash_of : H → K → ℕ) where
-  -- what such a call does (`step`), what its result says (`says`), and why it runs out of memory (`out_of_memory`)
+  -- what the call does (`step`), what its result says (`says`), and why it runs out of memory (`out_of_memory`)
   pub record GetsOrInserts (makes : V → Type 0) (i : I) (old : State K V S H) (result : Result Bool AllocError)
       (new : State K V S H) : Type 0 where
     pub step : MakesNewest rules offers names hash_of makes i old result new

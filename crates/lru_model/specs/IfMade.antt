@@ -1,4 +1,4 @@
--- What `GetOrInserts` defines, for a closure that may fail (`ensure_newest_fallible`, `get_or_insert_fallible`).
+-- What `ensure_newest_fallible` and `get_or_insert_fallible` do. Their closure may fail.
 use Rattle.std.specs.Prelude.{◌≡◌, ℕ, Bool, None, Result, Ok, Err, IsErrOf}
 use Rattle.std.specs.declared.alloc.AllocError.{AllocError}
 use Rattle.lru_limits.specs.Rules.{Rules, Offers}
@@ -16,7 +16,7 @@ or_memory (Err e) = Err Memory
 module _ {K V S H I E : Type 0} (rules : Rules K V S) (offers : Offers K V S I) (names : I → K → Bool)
     (hash_of : H → K → ℕ) where
   -- If the closure fails, nothing changes, and the call returns the error of the closure. Otherwise the call does what
-  -- `MakesNewest` says, and its error is `Memory`.
+  -- `MakesNewest` says. If memory runs out, it returns `Memory`.
   pub data MakesNewestIfMade (makes : Result V E → Type 0) (i : I) (old : State K V S H)
       (result : Result Bool (GetOrInsertError E)) (new : State K V S H) : Type 0 where
     failed : lookup (names i) old.pairs ≡ None →

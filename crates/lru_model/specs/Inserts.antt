@@ -11,30 +11,31 @@ use Rattle.lru_model.specs.declared.results.Inserted.{Inserted}
 use Rattle.lru_model.specs.State.{State, buckets, growth_left, Contents, contents, Leaves, pop, trim}
 use Rattle.lru_model.specs.Place.{Place, Outcome, placed, refused, no_memory}
 
--- The value that the map does not keep after a new value was offered: the old value if the limiter accepted the new
--- value, and otherwise the new value.
+-- The value that the map does not keep. If the limiter accepted the new value, this is the old value. Otherwise it is
+-- the new value.
 abbrev pub unkept_of : {K V S : Type 0} → Replaced K V S → V
 unkept_of r = if r.taken then r.old_value else r.new_value
 
--- whether the key is in the map, by the `Inserted` that an insert returned
+-- whether the key is in the map, from the result of an insert
 abbrev pub kept_of : {V E : Type 0} → Result (Inserted V) E → Result Bool E
 kept_of (Ok inserted) = Ok inserted.kept
 kept_of (Err e) = Err e
 
--- the oldest pair is evicted, if the limiter would be over its limit with one more pair
+-- if the limiter would be over its limit with one more pair, the oldest pair is evicted
 abbrev pub make_room : {K V S : Type 0} → Rules K V S → Contents K V S → Contents K V S
 make_room rules c = if rules.is_over_the_limit c.limiter (length c.pairs + 1) then pop rules c else c
 
 module _ {K V S H : Type 0} (rules : Rules K V S) where
-  -- What follows an insertion into the table. If the pair was stored, the oldest pairs are evicted while the limiter is
-  -- over its limit. The result is then whether a pair is left. If the pair was not stored, nothing follows.
+  -- How an insert goes on after the insertion into the table. If the pair was stored, the oldest pairs are evicted
+  -- while the limiter is over its limit. The result is then whether a pair is left. If the pair was not stored, nothing
+  -- more changes.
   abbrev pub Settles : Outcome → State K V S H → Result Bool AllocError → State K V S H → Type 0
   Settles placed landed result new =
       (result ≡ Ok (not (is_empty new.pairs))) × Leaves landed (trim rules (contents landed)) new
   Settles refused landed result new = (result ≡ Ok false) × (new ≡ landed)
   Settles no_memory landed result new = IsErr result × (new ≡ landed)
 
-  -- the pair of a new key is inserted into the table, and what follows (`Settles`)
+  -- the pair of a new key is inserted into the table (`Place`), and then the insert goes on (`Settles`)
   abbrev pub PlacesAndTrims : (H → K → ℕ) → K × V → State K V S H → Result Bool AllocError → State K V S H → Type 0
   PlacesAndTrims hash_of pair old result new = (outcome : Outcome) × (landed : State K V S H)
       × Place rules hash_of pair old outcome landed × Settles outcome landed result new
@@ -49,11 +50,11 @@ module _ {K V S I : Type 0} (rules : Rules K V S) (offers : Offers K V S I) (nam
   abbrev pub replacement : K × V → I → V → Contents K V S → Replaced K V S
   replacement pair i v c = offers.on_replace c.limiter (length c.pairs) pair.0 i pair.1 v
 
-  -- the pair with the new value, as the limiter leaves both
+  -- the key of the pair and the new value, as the limiter leaves both
   abbrev pub with_new_value : K × V → I → V → Contents K V S → K × V
   with_new_value pair i v c = let r = replacement pair i v c in (r.key, r.new_value)
 
-  -- the pair with the old value, as the limiter leaves both
+  -- the key of the pair and the old value, as the limiter leaves both
   abbrev pub with_old_value : K × V → I → V → Contents K V S → K × V
   with_old_value pair i v c = let r = replacement pair i v c in (r.key, r.old_value)
 
@@ -74,15 +75,15 @@ module _ {K V S I : Type 0} (rules : Rules K V S) (offers : Offers K V S I) (nam
   abbrev pub unkept_value : I → V → Contents K V S → Option V
   unkept_value i v c = option_map (λ pair. unkept_of (replacement pair i v c)) (lookup_entry (names i) c.pairs)
 
-  -- for a new key, `on_insert` of the limiter may return `given`, a pair to store or none, and leave the limiter s
+  -- if a new key is offered, `on_insert` of the limiter may return `given` (a pair or none) and leave the limiter as s
   abbrev pub MayGive : I → V → Contents K V S → S → Option (K × V) → Type 0
   MayGive i v c s given = offers.on_insert c.limiter (length c.pairs) i v s given
 
   module _ {H : Type 0} (hash_of : H → K → ℕ) where
     pub data Insert (i : I) (v : V) (old : State K V S H) (result : Result Bool AllocError)
         (new : State K V S H) : Type 0 where
-      -- The key is there, and the limiter accepts the new value. The pair becomes the newest with this value. The
-      -- oldest pairs are evicted while the limiter is over its limit.
+      -- The key is there, and the limiter accepts the new value. The pair becomes the newest, with the new value. The
+      -- oldest pairs are then evicted while the limiter is over its limit.
       replaced : (pair : K × V) → lookup_entry (names i) old.pairs ≡ Some pair →
           (replacement pair i v (contents old)).taken ≡ true →
           result ≡ Ok (not (is_empty new.pairs)) → Leaves old (trim rules (with_replaced pair i v (contents old))) new →
@@ -92,7 +93,7 @@ module _ {K V S I : Type 0} (rules : Rules K V S) (offers : Offers K V S I) (nam
           (replacement pair i v (contents old)).taken ≡ false →
           result ≡ Ok false → Leaves old (with_removed pair i v (contents old)) new →
           Insert i v old result new
-      -- The key is new, and the limiter runs out of memory, or returns no pair to store,
+      -- The key is new, and the limiter runs out of memory, or returns no pair to store. All pairs stay.
       no_memory_to_admit : lookup_entry (names i) old.pairs ≡ None →
           offers.may_run_out old.limiter (length old.pairs) i v →
           IsErr result → new ≡ old →
@@ -101,14 +102,15 @@ module _ {K V S I : Type 0} (rules : Rules K V S) (offers : Offers K V S I) (nam
           (s : S) → MayGive i v (contents old) s None →
           result ≡ Ok false → new ≡ record old { limiter = s } →
           Insert i v old result new
-      -- or it returns a pair, which is inserted into the table, with evictions before and after.
+      -- The key is new, and the limiter returns a pair. This pair is inserted into the table, with evictions before and
+      -- after.
       admitted : lookup_entry (names i) old.pairs ≡ None →
           (s : S) (pair : K × V) → MayGive i v (contents old) s (Some pair) →
           PlacesNew rules hash_of pair (record old { limiter = s }) result new →
           Insert i v old result new
 
-    -- The table may need memory for the pair that the limiter returned. No growth is left. Either there are no buckets,
-    -- or the map contains a pair after `make_room`. (A rehash of a table without pairs needs no memory.)
+    -- Why the table may need memory for the pair that the limiter returned. No growth is left, and either there are no
+    -- buckets, or the map contains a pair after `make_room`. (A rehash of a table without pairs needs no memory.)
     pub record NeedsMemory (i : I) (v : V) (old : State K V S H) : Type 0 where
       pub no_growth_left : growth_left old ≡ 0
       pub s : S
@@ -117,7 +119,7 @@ module _ {K V S I : Type 0} (rules : Rules K V S) (offers : Offers K V S I) (nam
       pub needed : (buckets old ≡ 0) ⊎ (0 < length (make_room rules (record { pairs = old.pairs; limiter = s })).pairs)
 
     -- Why an insert runs out of memory. The key is new. Either `on_insert` of the limiter ran out of memory, and
-    -- nothing changed; or the table needed memory.
+    -- nothing changed, or the table needed memory.
     abbrev pub IsOutOfMemory : I → V → State K V S H → State K V S H → Type 0
     IsOutOfMemory i v old new = (lookup_entry (names i) old.pairs ≡ None)
         × ((offers.may_run_out old.limiter (length old.pairs) i v × (new ≡ old)) ⊎ NeedsMemory i v old)

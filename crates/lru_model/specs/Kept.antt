@@ -1,7 +1,5 @@
--- What an insert keeps. An insert loses no pair. It evicts no pair if growth is left, and if the limiter is not over
--- its limit with the new pair. With `ByLength` it leaves the newest pairs.
---     rules, offers       the limiter's `Rules` and `Offers` (`lru_limits`)
---     names i k           the inserted key i names k
+-- What an insert keeps. An insert loses no pair. If growth is left, and the limiter accepts the new pair and is then
+-- not over its limit, the insert evicts nothing. With `ByLength`, an insert leaves the newest pairs.
 use Rattle.std.specs.Prelude.{◌≡◌, ◌⊎◌, ℕ, ◌+◌, ◌-◌, ◌^◌, ◌≤◌, ◌<◌, Bool, true, false, not, List, []}
 use Rattle.std.specs.Prelude.{◌∷◌, ◌++◌, length, reverse, take, fold, nat_lt, Option, Some, None, unwrap_or}
 use Rattle.std.specs.Prelude.{option_map, Result, Ok, IsOk, IsErr, OnOk, OnErr}
@@ -19,17 +17,17 @@ pub record ChangesNoPair {K V S : Type 0} (rules : Rules K V S) : Type 0 where
   pub value : (s : S) (k : K) (v : V) → (rules.on_removed s k v).value ≡ v
 
 module _ {K V S H I : Type 0} (rules : Rules K V S) (offers : Offers K V S I) (names : I → K → Bool) where
-  -- An insert loses nothing but a value that it replaces. Each old pair, and the pair that the limiter returned for a
-  -- new key, is left or was passed to the callback. `passed` lists what the callback got, oldest first.
+  -- An insert loses only a value that it replaces or rejects. Each old pair, and the pair that the limiter returned for
+  -- a new key, is in the map or was passed to the callback. `passed` lists what the callback got, in order.
   pub data LosesNothing (i : I) (v : V) (old : State K V S H) (result : Result Bool AllocError)
       (passed : List (K × V)) (new : State K V S H) : Type 0 where
-    -- A pair is stored as the newest, before the pairs of other keys. (If no pair is left, the stored pair was evicted,
-    -- too.)
+    -- A pair is stored as the newest, before the old pairs of other keys. The callback got the oldest of these pairs.
+    -- (If no pair is left, the stored pair was evicted, too.)
     stored : (pair : K × V) → Stores rules offers names i v old pair →
         result ≡ Ok (not (is_empty new.pairs)) →
         new.pairs ++ reverse passed ≡ pair ∷ without (names i) old.pairs →
         LosesNothing i v old result passed new
-    -- The key is there, and its new value is rejected: its pair alone is passed to the callback, with the old value.
+    -- The key is there, and its new value is rejected: only its pair is passed to the callback, with the old value.
     value_rejected : (was : K × V) → lookup_entry (names i) old.pairs ≡ Some was →
         (replacement rules offers names was i v (contents old)).taken ≡ false →
         result ≡ Ok false →
@@ -42,14 +40,14 @@ module _ {K V S H I : Type 0} (rules : Rules K V S) (offers : Offers K V S I) (n
         ⊎ ((s : S) × MayGive rules offers names i v (contents old) s None × (result ≡ Ok false)) →
         passed ≡ [] → new.pairs ≡ old.pairs →
         LosesNothing i v old result passed new
-    -- The key is new, and the pair that the limiter returns is not stored. The callback gets it last.
+    -- The key is new, and the pair that the limiter returns is not stored. The callback gets this pair last.
     pair_not_stored : lookup_entry (names i) old.pairs ≡ None →
         (s : S) (pair : K × V) → MayGive rules offers names i v (contents old) s (Some pair) →
         (result ≡ Ok true → ⊥) →
         (evicted : List (K × V)) → passed ≡ evicted ++ pair ∷ [] → new.pairs ++ reverse evicted ≡ old.pairs →
         LosesNothing i v old result passed new
 
-  -- The pair is added to all the others. The number of buckets stays, and the growth left falls by at most one.
+  -- The pair is added, and all others stay. The number of buckets stays, and the growth left falls by at most one.
   pub record IsAdded (i : I) (v : V) (pair : K × V) (old : State K V S H) (result : Result Bool AllocError)
       (new : State K V S H) : Type 0 where
     pub answer : result ≡ Ok true
@@ -59,38 +57,36 @@ module _ {K V S H I : Type 0} (rules : Rules K V S) (offers : Offers K V S I) (n
     pub growth_left : growth_left old ≤ growth_left new + 1
 
 module _ {K V S I : Type 0} (rules : Rules K V S) (offers : Offers K V S I) (names : I → K → Bool) where
-  -- For this key and value the limiter does not run out of memory, returns this pair to store, and is then not over its
-  -- limit with one more pair.
+  -- If this key and value are offered, the limiter does not run out of memory, and returns this pair to store. It is
+  -- then not over its limit with one more pair.
   pub record AcceptsNew (i : I) (v : V) (c : Contents K V S) (pair : K × V) : Type 0 where
     pub finds : offers.may_run_out c.limiter (length c.pairs) i v → ⊥
     pub gives : (s : S) (given : Option (K × V)) → MayGive rules offers names i v c s given →
         (given ≡ Some pair) × (rules.is_over_the_limit s (length c.pairs + 1) ≡ false)
 
--- the stored key that is named, if there is one, otherwise the inserted key
+-- the key of the named pair, if there is one, and otherwise `key`
 abbrev pub stored_key : {K V : Type 0} → (K → Bool) → K → List (K × V) → K
 stored_key names key pairs = unwrap_or (option_map (λ pair. pair.0) (lookup_entry names pairs)) key
 
--- the pairs after `inserted` were inserted into `old` one after another, with at most `most` pairs left after each
--- insert
+-- the pairs after `inserted` were inserted into `old`, one after another; each insert leaves the newest `most` pairs
 abbrev pub newest_after : {K V : Type 0} → (K → K → Bool) → ℕ → List (K × V) → List (K × V) → List (K × V)
 newest_after eq most inserted old = fold
     (λ left pair. take most ((stored_key (eq pair.0) pair.0 left, pair.1) ∷ without (eq pair.0) left)) old inserted
 
--- What an insert leaves under a maximum length: the new pair, and then the newest of the other pairs, up to this length
--- in all. If the insert runs out of memory, it leaves only the newest of the old pairs, and at most one less than this
--- length.
+-- What an insert leaves if the maximum length is `most`: the new pair, and then the newest other pairs, up to `most`
+-- pairs in all. If the insert runs out of memory, it leaves the newest old pairs, up to `most` - 1 pairs.
 pub record LeavesTheNewest {K V : Type 0} (eq : K → K → Bool) (most : ℕ) (key : K) (value : V) (old : List (K × V))
     (result : Result Bool AllocError) (new : List (K × V)) : Type 0 where
   pub answer : IsOk result → result ≡ Ok (nat_lt 0 most)
   pub newest : OnOk result (new ≡ take most ((stored_key (eq key) key old, value) ∷ without (eq key) old))
   pub others : OnErr result (new ≡ take (most - 1) old)
 
--- half of the full capacity of the largest table whose buckets links of 32 bits can number
+-- half of the full capacity of the largest table for links of 32 bits
 abbrev pub most_exact_length : ℕ
 most_exact_length = 939524096
 
--- The map is within its maximum length, and there is a table for each length up to this maximum: the maximum is at most
--- `most_exact_length`, links have 32 bits, and an entry takes fewer than 2 ^ 32 - 1 bytes.
+-- The map is within its maximum length. There is a table for each length up to this maximum, because the maximum is at
+-- most `most_exact_length`, links have 32 bits, and an entry takes fewer than 2 ^ 32 - 1 bytes.
 pub record KeepsToLength {K V H : Type 0} (st : State K V ℕ H) : Type 0 where
   pub within : length st.pairs ≤ st.limiter
   pub half : st.limiter ≤ most_exact_length

@@ -26,7 +26,7 @@ module _ {X : Type 0} where
   without_last (x ∷ []) = []
   without_last (x ∷ y ∷ ys) = x ∷ without_last (y ∷ ys)
 
-  -- the n-th element, counted from 1, if there is one
+  -- the n-th element, counted from 1, if the list has n elements
   abbrev pub last_of : ℕ → List X → Option X
   last_of zero xs = None
   last_of (suc n) xs = slice_get xs n
@@ -40,15 +40,15 @@ module _ {X : Type 0} where
   IsFront xs ys = (rest : List X) × (ys ≡ xs ++ rest)
 
 module _ {K V : Type 0} where
-  -- the pair of the named key first, and then the others in their order
+  -- the pair of the named key first, and then the other pairs in their order
   abbrev pub front : (K → Bool) → List (K × V) → List (K × V)
   front names pairs = after (lookup_entry names pairs) (without names pairs)
 
-  -- the others in their order, and then the pair of the named key
+  -- the other pairs in their order, and then the pair of the named key
   abbrev pub back : (K → Bool) → List (K × V) → List (K × V)
   back names pairs = without names pairs ++ option_to_list (lookup_entry names pairs)
 
-  -- the place (a bucket number) of the pair of the named key; `places` lists the places of the pairs, in their order
+  -- the bucket number (the place) of the pair of the named key; `places` lists the place of each pair, in order
   abbrev pub place_of : (K → Bool) → List (K × V) → List ℕ → Option ℕ
   place_of names [] places = None
   place_of names (pair ∷ pairs) [] = None
@@ -76,7 +76,7 @@ module _ {K V : Type 0} where
   abbrev pub newest_value : List (K × V) → Option V
   newest_value pairs = option_map (λ p. p.1) (first pairs)
 
-  -- the list with the value w in the pair at position i, counted from 0
+  -- the list after w became the value of the pair at position i, counted from 0
   abbrev pub set_value_at : List (K × V) → ℕ → V → List (K × V)
   set_value_at [] i w = []
   set_value_at (pair ∷ pairs) zero w = (pair.0, w) ∷ pairs

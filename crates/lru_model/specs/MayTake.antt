@@ -1,6 +1,5 @@
--- What a call requires of its callback. If n pairs may be evicted, removed or rejected, the callback may be called n
+-- What a call requires of its callback. If the call may evict, remove or reject n pairs, the callback may be called n
 -- times, each time with any of these pairs.
---     rules, offers       the limiter's `Rules` and `Offers` (`lru_limits`)
 --     names i k           the inserted key i names k
 --     closure             how the callback may be called
 --     f                   the callback before the call
@@ -13,22 +12,22 @@ use Rattle.lru_model.specs.Calls.{left_of}
 use Rattle.lru_model.specs.Inserts.{replacement, with_replaced, MayGive}
 use Rattle.lru_model.specs.Callbacks.{CalledWith}
 
--- f may be called with n pairs that pass the test, one after another
+-- f may be called n times, one after another, each time with a pair that passes the test
 abbrev pub MayTake : {K V F : Type 0} → Mut F (K × (V × Unit {0})) (Unit {0}) → (K × V → Type 0) → ℕ → F → Type 0
 MayTake {K} {V} {F} closure passes n f = (before : List (K × V)) (g : F) (pair : K × V) → length before < n
     → All passes before → CalledWith closure f before g → passes pair → MayBeCalled closure g (pair.0, (pair.1, tt))
 
 module _ {K V S : Type 0} (rules : Rules K V S) where
-  -- `left` is one of these pairs as `on_removed` may leave it
+  -- `left` is one of these pairs, as `on_removed` may leave it
   abbrev pub IsLeftOf : List (K × V) → K × V → Type 0
   IsLeftOf pairs left = (s : S) × (pair : K × V) × Contains pairs pair × (left_of rules s (Some pair) ≡ Some left)
 
   module _ {F : Type 0} (closure : Mut F (K × (V × Unit {0})) (Unit {0})) where
-    -- f may be called once for each of n pairs; each call may be with any of the n pairs, as the limiter leaves it
+    -- f may be called n times for a list of n pairs, each time with any pair of the list, as the limiter leaves it
     abbrev pub MayTakeEach : List (K × V) → F → Type 0
     MayTakeEach pairs f = MayTake closure (IsLeftOf pairs) (length pairs) f
 
-    -- if the limiter rejects a new value, f may be called with the pair, which is removed
+    -- if the limiter rejects a new value, f may be called with the removed pair
     abbrev pub MayTakeRejected : Replaced K V S → F → Type 0
     MayTakeRejected by f = by.taken ≡ false → MayTakeEach ((by.key, by.old_value) ∷ []) f
 

@@ -1,7 +1,4 @@
--- What all insertions into the table cost. A reservation may make insertions, too, if no growth was left before it.
---     terms, rules        the limiter's `Terms` and `Rules` (`lru_limits`)
---     eq                  whether two keys are equal
---     hash_of h k         the hash of k by the hasher h
+-- What all insertions into the table cost. Insertions by a reservation count, too, if no growth was left before it.
 use Rattle.std.specs.Prelude.{◌≡◌, ℕ, ◌+◌, ◌-◌, ◌*◌, ◌^◌, ◌≤◌, ◌<◌, Bool, Result}
 use Rattle.lru_limits.specs.Rules.{Rules}
 use Rattle.lru_limits.specs.Admissions.{Terms, offers_of}
@@ -10,8 +7,8 @@ use Rattle.lru_model.specs.TryInserts.{TryInsert}
 use Rattle.lru_model.specs.Runs.{AnyStep, calls, reserves}
 
 -- The number of insertions into the table, plus the potential, rises by at most 3 for each entry that is stored, plus 2
--- for each entry that a shrink rehashed. This holds until the count of stored or of rehashed entries stops at its
--- maximum.
+-- for each entry that a shrink rehashed. This holds until the count of stored entries, or of rehashed entries, stops at
+-- its maximum.
 pub record PaysForInsertions {K V S H : Type 0} (old new : State K V S H) : Type 0 where
   pub placed : old.counts.placed ≤ new.counts.placed
   pub shrunk : old.counts.shrunk ≤ new.counts.shrunk
@@ -21,12 +18,12 @@ pub record PaysForInsertions {K V S H : Type 0} (old new : State K V S H) : Type
 
 module _ {K V S H : Type 0} (terms : Terms K V S) (rules : Rules K V S) (eq : K → K → Bool)
     (hash_of : H → K → ℕ) where
-  -- if the step is a reservation, no growth was left
+  -- if the step is a reservation, no growth was left before it
   abbrev pub ReservesIfFull : (old new : State K V S H) → AnyStep rules (offers_of terms) eq hash_of old new → Type 0
   ReservesIfFull old new (calls (reserves n result h)) = growth_left old ≡ 0
   ReservesIfFull old new step = Unit {0}
 
-  -- a `try_insert`, or any other step except a reservation while growth was left
+  -- a `try_insert`, or any other step; a reservation only if no growth was left before it
   pub data PaidStep (old new : State K V S H) : Type 0 where
     tries : (key : K) (value : V) (result : Result (Unit {0}) (K × V)) →
         TryInsert terms rules key value old eq hash_of result new → PaidStep old new

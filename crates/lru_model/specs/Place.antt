@@ -10,8 +10,8 @@ use Rattle.lru_limits.specs.Rules.{Rules}
 use Rattle.lru_model.specs.Sizes.{target, Target, no_table, new_table}
 use Rattle.lru_model.specs.State.{State, TableState, buckets, growth_left, FirstFreeIs, count_insert, contents, Leaves, pop}
 
--- How the insertion ends: the pair is stored (`placed`), the table cannot grow and there is no pair to evict
--- (`refused`), or the map ran out of memory.
+-- How an insertion ends: the pair is stored (`placed`), or the table cannot grow and there is no pair to evict
+-- (`refused`), or the map runs out of memory (`no_memory`).
 pub data Outcome : Type 0 where
   placed refused no_memory : Outcome
 
@@ -20,8 +20,9 @@ outcome_of (Ok true) = placed
 outcome_of (Ok false) = refused
 outcome_of (Err e) = no_memory
 
--- The newest pair fills the first free bucket that a search for the hash finds. No other bucket has changed. If the
--- bucket was empty, the growth left falls by one. If it was deleted (only above 16 buckets), the growth left stays.
+-- The newest pair fills the first free bucket that a search for the hash finds. No other bucket changes. If the bucket
+-- was empty, the growth left falls by one. If the bucket was deleted, the growth left stays, and the table has more
+-- than 16 buckets.
 pub record FillsBucket (hash : ℕ) (old new : TableState) : Type 0 where
   pub bucket : ℕ
   pub first : IsFirstFree old.states hash bucket
@@ -30,23 +31,23 @@ pub record FillsBucket (hash : ℕ) (old new : TableState) : Type 0 where
   pub spends : ((bucket_at old.states bucket ≡ empty) × (growth_left_of new.states + 1 ≡ growth_left_of old.states))
       ⊎ ((bucket_at old.states bucket ≡ deleted) × (16 < length old.states) × (growth_left_of new.states ≡ growth_left_of old.states))
 
--- In a table of n pairs no bucket takes a pair of this hash: no growth is left, and the first free bucket that a search
--- finds is empty. A table without pairs is not searched: if it has no growth left, it is rehashed, even if a deleted
--- bucket could take the pair.
+-- No bucket of a table of n pairs takes a pair of this hash. No growth is left, and the first free bucket that a search
+-- for the hash finds is empty. A table without pairs is not searched: if it has no growth left, no bucket takes the
+-- pair.
 pub record NoBucketTakes (hash n : ℕ) (states : List BucketState) : Type 0 where
   pub no_growth_left : growth_left_of states ≡ 0
   pub first_empty : 0 < n → FirstFreeIs empty hash states
 
--- No bucket takes a pair of this hash. A rehash does not help: with one pair more, the table would be over half full.
--- Either there is no table yet, or the table contains pairs.
+-- No bucket takes a pair of this hash. A rehash is not enough: with one pair more, the table would be more than half
+-- full. Either there is no table yet, or the table contains pairs.
 pub record IsTooSmallFor (hash n : ℕ) (states : List BucketState) : Type 0 where
   pub no_bucket : NoBucketTakes hash n states
   pub above_half : full_capacity (length states) / 2 < n + 1
   pub begun : (length states ≡ 0) ⊎ (0 < n)
 
 module _ {K V S H : Type 0} where
-  -- The pair is the newest now. The table has `count` buckets, and `spare` growth left. `moves` entries moved for the
-  -- pair.
+  -- The pair is the newest now. The table has `count` buckets, and `spare` growth left. The insert moved `moves`
+  -- entries.
   pub record IsPlaced (pair : K × V) (count spare moves : ℕ) (old new : State K V S H) : Type 0 where
     pub table : buckets new ≡ count
     pub room_left : growth_left new ≡ spare
@@ -56,7 +57,7 @@ module _ {K V S H : Type 0} where
       counts = count_insert moves old.counts;
     }
 
-  -- the pair is in a bucket of the same table, and no entry moved for it
+  -- the pair was stored in a table of the same size, and no entry moved for it
   abbrev pub IsPlacedInTable : K × V → State K V S H → State K V S H → Type 0
   IsPlacedInTable pair old new = IsPlaced pair (buckets old) (growth_left new) 0 old new
 
@@ -67,7 +68,7 @@ module _ {K V S H : Type 0} where
   abbrev pub IsOutgrown : ℕ → State K V S H → Type 0
   IsOutgrown hash st = IsTooSmallFor hash (length st.pairs) st.table.states
 
-  -- into which table a map grows for n more pairs
+  -- the table into which the map grows for n more pairs
   abbrev pub table_for : ℕ → State K V S H → Target
   table_for n st = target st.max st.entry_bytes (buckets st) (length st.pairs + n)
 
@@ -75,7 +76,7 @@ module _ {K V S H : Type 0} where
   HasPairsButNoGrowth st = (0 < length st.pairs) × (growth_left st ≡ 0)
 
 module _ {K V S H : Type 0} (rules : Rules K V S) where
-  -- the map after its limiter was queried for a table of n bytes (`on_grow`)
+  -- the map after its limiter was queried for a table of `bytes` bytes (`on_grow`)
   abbrev pub asked : ℕ → State K V S H → State K V S H
   asked bytes st = record st { limiter = (rules.on_grow st.limiter bytes).limiter }
 
@@ -89,33 +90,33 @@ module _ {K V S H : Type 0} (rules : Rules K V S) where
   abbrev pub unstored : K × V → State K V S H → State K V S H
   unstored pair st = record st { limiter = (rules.on_removed st.limiter pair.0 pair.1).limiter }
 
-  -- The n oldest pairs were evicted, one after another, each because no bucket took a pair of this hash.
+  -- The n oldest pairs were evicted, one after another. Before each eviction no bucket took a pair of this hash.
   abbrev pub OldestEvicted : ℕ → ℕ → State K V S H → State K V S H → Type 0
   OldestEvicted hash zero old new = new ≡ old
   OldestEvicted hash (suc n) old new = (before : State K V S H) × OldestEvicted hash n old before
       × HasNoBucket hash before × Leaves before (pop rules (contents before)) new
 
-  -- The pair is stored as `IsPlaced` says. Or the map ran out of memory, and the limiter was notified of the pair.
+  -- Either the pair is stored (`IsPlaced`), or the map ran out of memory and notified the limiter of the pair.
   abbrev pub IsPlacedIfMemory : K × V → ℕ → ℕ → ℕ → State K V S H → Outcome → State K V S H → Type 0
   IsPlacedIfMemory pair count spare moves old placed new = IsPlaced pair count spare moves old new
   IsPlacedIfMemory pair count spare moves old no_memory new = new ≡ unstored pair old
   IsPlacedIfMemory pair count spare moves old refused new = ⊥
 
-  -- all entries moved into a table of `count` buckets, and the pair was stored there, unless the map ran out of memory
+  -- All entries moved into a table of `count` buckets, and the pair was stored there. Or the map ran out of memory.
   abbrev pub IsPlacedByMove : K × V → ℕ → State K V S H → Outcome → State K V S H → Type 0
   IsPlacedByMove pair count old =
       IsPlacedIfMemory pair count (full_capacity count - length old.pairs - 1) (length old.pairs) old
 
-  -- The table cannot grow: there is no larger table (`table_for`), or the limiter was queried and refuses the larger
-  -- table. `mid` is the map after the query, or `old` if there was none.
+  -- The table cannot grow. Either there is no larger table (`table_for`), and `mid` is `old`. Or the limiter refuses
+  -- the larger table, and `mid` is the map after this query.
   pub data CannotGrow (old mid : State K V S H) : Type 0 where
     no_target : table_for 1 old ≡ no_table → mid ≡ old → CannotGrow old mid
     denied : (count bytes : ℕ) → table_for 1 old ≡ new_table count bytes → Denies bytes old →
         mid ≡ asked bytes old → CannotGrow old mid
 
   -- The oldest pairs of `mid` are evicted until a bucket takes the new pair. Once fewer pairs are left than half of the
-  -- pairs that the table may hold, the table is rehashed instead. If there is no pair to evict, the new pair is not
-  -- stored. `old` is the map before the limiter was queried for a larger table, and `mid` the map after.
+  -- capacity, the table is rehashed, and no more pairs are evicted. If there is no pair to evict, the new pair is not
+  -- stored. `old` and `mid` are the maps of `CannotGrow`.
   pub data Evicts (hash : ℕ) (pair : K × V) (old mid : State K V S H) (outcome : Outcome)
       (new : State K V S H) : Type 0 where
     nothing_to_evict : old.pairs ≡ [] →
@@ -140,18 +141,19 @@ module _ {K V S H : Type 0} (rules : Rules K V S) (hash_of : H → K → ℕ) wh
         FillsBucket (hash_of old.hasher pair.0) old.table new.table →
         outcome ≡ placed → IsPlacedInTable pair old new →
         Place pair old outcome new
-    -- Or no bucket takes the pair, and the table would be at most half full with it: then the table is rehashed. If the
-    -- map has no pairs, this needs no memory.
+    -- Or no bucket takes the pair, and the table would be at most half full with the pair. Then the table is rehashed.
+    -- If the map has no pairs, the rehash needs no memory.
     rehashed : HasNoBucket (hash_of old.hasher pair.0) old → length old.pairs + 1 ≤ full_capacity (buckets old) / 2 →
         (outcome ≡ no_memory → 0 < length old.pairs) →
         IsPlacedByMove rules pair (buckets old) old outcome new →
         Place pair old outcome new
-    -- Or the table grows, if there is a larger table and the limiter permits it.
+    -- Or the table is too small, there is a larger table, and the limiter permits it. Then the table grows.
     grown : IsOutgrown (hash_of old.hasher pair.0) old →
         (count bytes : ℕ) → table_for 1 old ≡ new_table count bytes → Grants rules bytes old →
         IsPlacedByMove rules pair count (asked rules bytes old) outcome new →
         Place pair old outcome new
-    -- Otherwise one or more of the oldest pairs are evicted. If the map has no pairs, the new pair is not stored.
+    -- Or the table is too small and cannot grow. Then one or more of the oldest pairs are evicted. If the map has no
+    -- pairs, the new pair is not stored.
     not_grown : IsOutgrown (hash_of old.hasher pair.0) old →
         (mid : State K V S H) → CannotGrow rules old mid →
         Evicts rules (hash_of old.hasher pair.0) pair old mid outcome new →

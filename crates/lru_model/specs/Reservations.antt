@@ -14,12 +14,12 @@ module _ {K V S H : Type 0} (n : ℕ) (st : State K V S H) where
 
   -- why a reservation changes nothing
   pub data ReservesNothing (result : Result (Unit {0}) ReserveError) : Type 0 where
-    -- there is enough growth left,
+    -- Enough growth is left.
     enough_room : n ≤ growth_left st → length st.pairs + n < 2 ^ 64 → result ≡ Ok tt → ReservesNothing result
-    -- or the number of pairs, plus n, does not fit 64 bits, or no table holds this number of pairs,
+    -- Or the number of pairs, plus n, does not fit 64 bits, or no table holds this number of pairs.
     too_many : 2 ^ 64 ≤ length st.pairs + n → result ≡ Err TooLarge → ReservesNothing result
     no_such_table : NeedsGrowthFor → table_for n st ≡ no_table → result ≡ Err TooLarge → ReservesNothing result
-    -- or the allocation for a rehash fails, which needs memory only if there are pairs
+    -- Or the allocation for a rehash fails. A rehash needs memory only if there are pairs.
     no_memory_to_rehash : NeedsGrowthFor → table_for n st ≡ same_table → 0 < length st.pairs → result ≡ Err Memory →
         ReservesNothing result
 
@@ -29,22 +29,22 @@ module _ {K V S H : Type 0} (rules : Rules K V S) where
   FailsToGrow bytes st result =
       (Grants rules bytes st × (result ≡ Err Memory)) ⊎ (Denies rules bytes st × (result ≡ Err Refused))
 
-  -- A reservation fails, or leaves growth for at least n pairs. The pairs and the counts of moves stay.
+  -- A reservation fails, or leaves growth for at least n pairs. The pairs stay.
   pub data Reserve (n : ℕ) (old : State K V S H) (result : Result (Unit {0}) ReserveError)
       (new : State K V S H) : Type 0 where
-    -- Nothing changes,
+    -- Nothing changes.
     unchanged : ReservesNothing n old result → new ≡ old →
         Reserve n old result new
-    -- or the table is rehashed at its size, for which the limiter is not queried,
+    -- Or the table is rehashed at its size. The limiter is not queried.
     rehashed : NeedsGrowthFor n old → table_for n old ≡ same_table →
         result ≡ Ok tt → MovesTo (buckets old) old new →
         Reserve n old result new
-    -- or the table grows, if the limiter permits it,
+    -- Or the limiter permits a larger table, and the table grows.
     reserved : NeedsGrowthFor n old → (count bytes : ℕ) → table_for n old ≡ new_table count bytes
         → Grants rules bytes old →
         result ≡ Ok tt → MovesTo count (asked rules bytes old) new →
         Reserve n old result new
-    -- or the table does not grow, and the limiter was only queried.
+    -- Or the limiter was queried, but the table does not grow.
     asked_only : NeedsGrowthFor n old → (count bytes : ℕ) → table_for n old ≡ new_table count bytes
         → FailsToGrow bytes old result → new ≡ asked rules bytes old →
         Reserve n old result new

@@ -1,5 +1,4 @@
 -- What `retain` does: it removes the pairs that its closure rejects.
---     rules      the limiter's `Rules` (`lru_limits`)
 --     closure    how the closure may be called
 use Rattle.std.specs.Prelude.{◌≡◌, Bool, true, false, List, [], ◌∷◌, Some, map}
 use Rattle.std.specs.Borrow.{Bor}
@@ -10,14 +9,14 @@ use Rattle.lru_model.specs.ByHash.{Asks}
 use Rattle.lru_model.specs.Callbacks.{noting, noted}
 
 module _ {K V S : Type 0} (rules : Rules K V S) where
-  -- The contents with this pair as the newest, if the closure returned true for it. Otherwise the pair is removed, and
-  -- the limiter is notified.
+  -- If the closure returned true for the pair, the pair becomes the newest of the contents. Otherwise the pair is
+  -- removed, and the limiter is notified.
   abbrev pub answered : (K × V) × Bool → Contents K V S → Contents K V S
   answered (pair, true) c = record { pairs = pair ∷ c.pairs; limiter = c.limiter }
   answered (pair, false) c = record { pairs = c.pairs; limiter = notified_of rules (Some pair) c.limiter }
 
-  -- What is left of these pairs, newest first. Each pair is listed with the flag that the closure returned for it. The
-  -- closure was called with the oldest pair first.
+  -- What is left of these pairs. Each pair is listed with the flag that the closure returned for it, newest pair first.
+  -- The closure was called with the oldest pair first.
   abbrev pub retained : List ((K × V) × Bool) → S → Contents K V S
   retained [] s = record { pairs = []; limiter = s }
   retained (newest ∷ older) s = answered newest (retained older s)
@@ -28,7 +27,7 @@ module _ {K V F : Type 0} (closure : Mut F (Bor K × (Bor V × Unit {0})) Bool) 
   Answers f [] g = g ≡ f
   Answers f (newest ∷ older) g = (between : F) × Answers f older between × Asks closure between newest.0 newest.1 g
 
-  -- the closure is called with each pair once, oldest first; the accepted pairs stay, in their order
+  -- the closure is called with each pair once, oldest first; the pairs for which it returns true stay, in their order
   pub record Retains {S H : Type 0} (rules : Rules K V S) (f : F) (old new : State K V S H) : Type 0 where
     pub asked : List ((K × V) × Bool)
     pub each : map (λ one. one.0) asked ≡ old.pairs

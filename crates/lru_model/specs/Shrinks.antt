@@ -18,17 +18,17 @@ module _ {K V S H : Type 0} where
   abbrev pub shrink_counted : State K V S H → State K V S H
   shrink_counted st = record st { counts = record st.counts { shrunk = count_up st.counts.shrunk (length st.pairs) } }
 
-  -- The pairs move into the least number of buckets that holds them. The moves are counted, and nothing else changes.
+  -- If the table has more buckets than the pairs need, the pairs move into the least number of buckets that holds them.
   pub data Shrink (old : State K V S H) (result : Result Bool AllocError) (new : State K V S H) : Type 0 where
-    -- The table has no more buckets than the pairs need,
+    -- The table has no more buckets than the pairs need.
     kept : IsTight old →
         result ≡ Ok false → new ≡ old →
         Shrink old result new
-    -- or the pairs move (without pairs the table is freed, which needs no memory),
+    -- Or the pairs move. If there are no pairs, the table is freed, which needs no memory.
     shrunk : (count : ℕ) → IsLooseFor count old →
         result ≡ Ok true → MovesTo count (shrink_counted old) new →
         Shrink old result new
-    -- or the allocation fails, and nothing changes.
+    -- Or the allocation fails, and nothing changes.
     no_memory_to_shrink : (count : ℕ) → IsLooseFor count old → 0 < length old.pairs →
         IsErr result → new ≡ old →
         Shrink old result new

@@ -1,29 +1,29 @@
--- Numbers of entries and of links, the bytes of a table, and into which table a map grows. Quotients are rounded down.
+-- How links number buckets, the bytes of a table, and into which table a map grows. Quotients are rounded down.
 use Rattle.std.specs.Prelude.{◌≡◌, ◌⊎◌, ℕ, ◌+◌, ◌-◌, ◌*◌, ◌/◌, ◌^◌, ◌<◌, ◌≤◌, ◌==◌, nat_lt, nat_le, if◌then◌else◌}
 use Rattle.std.specs.Prelude.{Option, Some, None}
 use Rattle.group_table.specs.Sizes.{IsPowerFromFour, full_capacity, buckets_for}
 
--- the number of the link `MAX`, if links have 32 bits, and if they have 64; each bucket has a smaller number
+-- the number of the link `MAX`, for links of 32 and of 64 bits; each bucket has a smaller number
 abbrev pub max_of_32_bits : ℕ
 max_of_32_bits = 2 ^ 32 - 1
 
 abbrev pub max_of_64_bits : ℕ
 max_of_64_bits = 2 ^ 64 - 1
 
--- the bytes of a table: its entries, rounded up to a multiple of 16, a byte for each bucket, and 16 more
+-- the bytes of a table: the bytes of its entries, rounded up to a multiple of 16, plus a byte for each bucket, plus 16
 abbrev pub bytes_of : ℕ → ℕ → ℕ
 bytes_of entry_bytes buckets = (entry_bytes * buckets + 15) / 16 * 16 + buckets + 16
 
--- the bytes that a table of this number of buckets uses, if these are at most 2 ^ 63 - 16; a table without buckets uses
--- 0 bytes
+-- The bytes that a table of `buckets` buckets uses, or `None` if they are more than 2 ^ 63 - 16. A table without
+-- buckets uses 0 bytes.
 unfoldable pub usage : ℕ → ℕ → Option ℕ
 usage entry_bytes buckets =
     if buckets == 0 then Some 0
     else (if nat_le (bytes_of entry_bytes buckets) (2 ^ 63 - 16) then Some (bytes_of entry_bytes buckets)
     else None)
 
--- the greatest number of bytes within the budget that a table uses, among the tables of fewer than `max` buckets; 0 if
--- no table is within the budget
+-- `bytes` is the greatest usage within the budget, among the tables of fewer than `max` buckets. It is 0 if no such
+-- table is within the budget.
 pub record IsGreatestUsage (max entry_bytes budget bytes : ℕ) : Type 0 where
   pub within : bytes ≤ budget
   pub of_table : (bytes ≡ 0)
@@ -31,8 +31,8 @@ pub record IsGreatestUsage (max entry_bytes budget bytes : ℕ) : Type 0 where
   pub greatest : (buckets other : ℕ) → IsPowerFromFour buckets → buckets < max →
       usage entry_bytes buckets ≡ Some other → other ≤ budget → other ≤ bytes
 
--- Into which table a map grows: none, one of the same size (a rehash), or one with these numbers of buckets and of
--- bytes.
+-- Into which table a map grows: no table, a table of the same size (a rehash), or a new table with these numbers of
+-- buckets and bytes.
 pub data Target : Type 0 where
   no_table same_table : Target
   new_table : ℕ → ℕ → Target
@@ -46,8 +46,8 @@ table_with entry_bytes None = no_table
 table_with entry_bytes (Some buckets) = table_of buckets (usage entry_bytes buckets)
 
 -- A table of `buckets` buckets grows for `pairs` pairs, which need `need` buckets. If the table has fewer buckets, it
--- grows to `need` buckets. If it has enough, and `pairs` is at most half of the pairs that it may hold, it keeps its
--- size. Otherwise it grows to twice its buckets.
+-- grows to `need` buckets. Otherwise, if `pairs` is at most half of its capacity, it keeps its size. Otherwise it grows
+-- to twice its buckets.
 abbrev pub target_from : ℕ → ℕ → ℕ → ℕ → Option ℕ → Target
 target_from max entry_bytes buckets pairs None = no_table
 target_from max entry_bytes buckets pairs (Some need) =
@@ -55,11 +55,11 @@ target_from max entry_bytes buckets pairs (Some need) =
     else (if nat_le pairs (full_capacity buckets / 2) then same_table
     else table_with entry_bytes (buckets_for max (full_capacity (2 * buckets))))
 
--- into which table a table of `buckets` buckets grows for `pairs` pairs
+-- the table into which a table of `buckets` buckets grows for `pairs` pairs
 unfoldable pub target : ℕ → ℕ → ℕ → ℕ → Target
 target max entry_bytes buckets pairs = target_from max entry_bytes buckets pairs (buckets_for max pairs)
 
--- the larger table, by its buckets and bytes, if there is one
+-- the larger table with these numbers of buckets and bytes, or no table
 abbrev pub larger : Option (ℕ × ℕ) → Target
 larger None = no_table
 larger (Some table) = new_table table.0 table.1

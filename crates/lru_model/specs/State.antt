@@ -20,16 +20,16 @@ pub record Contents (K V S : Type 0) : Type 0 where
 pub record TableState : Type 0 where
   -- whether each bucket is empty, deleted or full
   pub states : List BucketState
-  -- the bucket of each pair, newest first
+  -- the bucket number of each pair, newest pair first
   pub places : List ℕ
 
 abbrev pub empty_table : TableState
 empty_table = record { states = []; places = [] }
 
 pub record Counts : Type 0 where
-  -- how many insertions the table has made
+  -- how many insertions the table has made, of new and of moved entries
   pub insertions : ℕ
-  -- how many entries inserts moved, and how many new ones they stored
+  -- how many entries the inserts moved, and how many new entries they stored
   pub moved : ℕ
   pub placed : ℕ
   -- how many entries shrinks rehashed
@@ -43,16 +43,16 @@ pub record State (K V S H : Type 0) : Type 0 where
   pub hasher : H
   pub table : TableState
   pub counts : Counts
-  -- how many bytes of the table an entry takes, as passed to the constructor
+  -- how many bytes an entry takes in the table, as passed to the constructor
   pub entry_bytes : ℕ
-  -- the number of the link `MAX`, above the number of each bucket
+  -- the number of the link `MAX`; each bucket has a smaller number
   pub max : ℕ
 
--- in every map of n pairs, this holds of the bucket states and the counts
+-- The table is sound: what holds of the bucket states and the counts of every map of n pairs.
 pub record IsSound (n entry_bytes max : ℕ) (states : List BucketState) (counts : Counts) : Type 0 where
   pub table : IsTable states
   pub taken : entry_count states ≡ n
-  -- links reach every bucket
+  -- a link can number every bucket
   pub reachable : (length states ≡ 0) ⊎ (length states < max)
   -- the table takes at most 2 ^ 63 - 16 bytes
   pub usable : (bytes : ℕ) × (usage entry_bytes (length states) ≡ Some bytes)
@@ -60,32 +60,32 @@ pub record IsSound (n entry_bytes max : ℕ) (states : List BucketState) (counts
   pub placed : counts.placed < 2 ^ 64
   pub shrunk : counts.shrunk < 2 ^ 64
 
--- n more moves are paid for, unless the count of rehashed entries has stopped at its maximum
+-- if the count of rehashed entries is below its maximum, n more moves are paid for
 abbrev pub IsAhead : ℕ → Counts → Type 0
 IsAhead n counts = counts.shrunk < 2 ^ 64 - 1 → counts.moved + n ≤ 2 * counts.placed + counts.shrunk
 
 -- Inserts moved at most two entries for each entry that they stored, plus one for each entry that a shrink rehashed.
--- Another `potential` moves are paid for in advance.
+-- The next `potential` moves are already paid for, too.
 pub record IsPaid (potential : ℕ) (counts : Counts) : Type 0 where
   pub moved : counts.moved ≤ 2 * counts.placed + counts.shrunk
   pub ahead : IsAhead potential counts
 
--- There were `was` pairs, and n are left. The growth left never falls, and rises by at most one for each removed pair;
--- in a table of up to 16 buckets, by exactly one.
+-- How the bucket states change when `was` pairs become n. The growth left never falls. It rises by at most one for each
+-- removed pair, and by exactly one in a table of up to 16 buckets.
 pub record GivesBack (was n : ℕ) (old new : List BucketState) : Type 0 where
   pub table : length new ≡ length old
   pub keeps : growth_left_of old ≤ growth_left_of new
   pub at_most : n + growth_left_of new ≤ was + growth_left_of old
   pub exact : length old ≤ 16 → n + growth_left_of new ≡ was + growth_left_of old
-  -- if no pair was removed, no bucket has changed its state
+  -- if no pair was removed, each bucket keeps its state
   pub untouched : n ≡ was → new ≡ old
 
--- the first bucket that a search for the hash finds empty or deleted is in this state
+-- the first free bucket (empty or deleted) that a search for the hash finds has this state
 abbrev pub FirstFreeIs : BucketState → ℕ → List BucketState → Type 0
 FirstFreeIs state hash states = (b : ℕ) × IsFirstFree states hash b × (bucket_at states b ≡ state)
 
--- `place` is the bucket of a removed pair, and is free now. It is empty if each run of 16 neighbouring buckets that
--- includes it contained an empty bucket before, and deleted otherwise. Each other bucket stays as it was.
+-- The bucket of a removed pair, at `place`, is free now. If each run of 16 neighbouring buckets around the bucket
+-- contained an empty bucket, the bucket is empty now. Otherwise it is deleted. The other buckets keep their states.
 pub record Frees (place : Option ℕ) (old new : TableState) : Type 0 where
   pub bucket : ℕ
   pub there : place ≡ Some bucket
@@ -95,7 +95,7 @@ pub record Frees (place : Option ℕ) (old new : TableState) : Type 0 where
 abbrev pub no_counts : Counts
 no_counts = record { insertions = 0; moved = 0; placed = 0; shrunk = 0 }
 
--- the counts after an insertion of an entry, for which `moves` other entries moved
+-- the counts after an entry was inserted, and `moves` other entries moved for it
 abbrev pub count_insert : ℕ → Counts → Counts
 count_insert moves c = record c {
   insertions = count_up c.insertions (moves + 1);
@@ -121,14 +121,14 @@ module _ {K V S H : Type 0} where
   abbrev pub buckets : State K V S H → ℕ
   buckets st = length st.table.states
 
-  -- the growth left: how many more pairs the table is sure to hold
+  -- the growth left: how many empty buckets may still be filled before the table has to grow
   abbrev pub growth_left : State K V S H → ℕ
   growth_left st = growth_left_of st.table.states
 
   abbrev pub place_in : (K → Bool) → State K V S H → Option ℕ
   place_in names st = place_of names st.pairs st.table.places
 
-  -- The table is sound. This holds of the table and the counts of every map; it says nothing about the keys.
+  -- The table is sound: what holds of the table and the counts of every map. This says nothing about the keys.
   abbrev pub IsSized : State K V S H → Type 0
   IsSized st = IsSound (length st.pairs) st.entry_bytes st.max st.table.states st.counts
 
@@ -142,11 +142,11 @@ module _ {K V S H : Type 0} where
     pub sized : IsSized st
     pub paid : IsPaid (potential st) st.counts
 
-  -- how the growth left and the bucket states change if pairs were removed
+  -- how the growth left and the bucket states change when pairs are removed
   abbrev pub FreesGrowth : State K V S H → State K V S H → Type 0
   FreesGrowth old new = GivesBack (length old.pairs) (length new.pairs) old.table.states new.table.states
 
-  -- all pairs moved into a table of `count` buckets; no bucket is deleted
+  -- all pairs moved into a table of `count` buckets, which has no deleted bucket
   pub record MovesTo (count : ℕ) (old new : State K V S H) : Type 0 where
     pub table : buckets new ≡ count
     pub exact : length old.pairs + growth_left new ≡ full_capacity count
@@ -155,19 +155,19 @@ module _ {K V S H : Type 0} where
       counts = record old.counts { insertions = count_up old.counts.insertions (length old.pairs) };
     }
 
-  -- `new` is `old` with the contents `left`, after some pairs were evicted or removed. The bucket states and the places
-  -- may have changed, but nothing else.
+  -- `new` is `old` with the contents `left`, after some pairs were evicted or removed. Apart from the contents, only
+  -- the bucket states and the places may have changed.
   pub record Leaves (old : State K V S H) (left : Contents K V S) (new : State K V S H) : Type 0 where
     pub is : new ≡ record old { pairs = left.pairs; limiter = left.limiter; table = new.table }
     pub growth_left : FreesGrowth old new
 
 module _ {K V S : Type 0} (rules : Rules K V S) where
-  -- the limiter after it was notified of a removed pair, if there is one
+  -- the limiter, after it was notified of the removed pair if there is one
   abbrev pub notified_of : Option (K × V) → S → S
   notified_of None s = s
   notified_of (Some pair) s = (rules.on_removed s pair.0 pair.1).limiter
 
-  -- the pairs `left`, and the limiter after it was notified of the removed pair `gone`, if there is one
+  -- the pairs `left`, and the limiter after it was notified of the removed pair `gone` if there is one
   abbrev pub after_removal : Option (K × V) → List (K × V) → S → Contents K V S
   after_removal gone left s = record { pairs = left; limiter = notified_of gone s }
 
@@ -184,7 +184,7 @@ module _ {K V S : Type 0} (rules : Rules K V S) where
   trim_from zero c = c
   trim_from (suc n) c = if rules.is_over_the_limit c.limiter (suc n) then trim_from n (pop c) else c
 
-  -- the oldest pairs are evicted while the limiter is over its limit
+  -- the contents after the oldest pairs were evicted, one by one, while the limiter was over its limit
   unfoldable pub trim : Contents K V S → Contents K V S
   trim c = trim_from (length c.pairs) c
 

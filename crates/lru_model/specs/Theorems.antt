@@ -12,8 +12,8 @@ use Rattle.lru_model.specs.State.{State, Counts, buckets, contents, potential}
 use Rattle.lru_model.specs.Place.{HasPairsButNoGrowth, CannotGrow}
 use Rattle.lru_model.specs.Inserts.{replacement, with_new_value, MayGive, IsOutOfMemory}
 
--- The count of insertions into the table rises by the number of entries that are moved, plus the number of entries that
--- are stored. This holds until a count stops at its maximum.
+-- The count `insertions` rises by as much as the counts `moved` and `placed` together, until a count stops at its
+-- maximum.
 abbrev pub CountsInsertions : Counts → Counts → Type 0
 CountsInsertions old new = new.insertions < 2 ^ 64 - 1 → new.moved < 2 ^ 64 - 1 → new.placed < 2 ^ 64 - 1 →
     new.insertions + old.moved + old.placed ≡ old.insertions + new.moved + new.placed
@@ -29,7 +29,7 @@ module _ {K V S H : Type 0} where
         ≤ old.counts.moved + potential old + 2 * new.counts.placed
 
   -- The count `moved`, plus the potential, rises by at most 2 for each entry that is stored, plus 1 for each entry that
-  -- a shrink rehashed. This holds until the count of stored or of rehashed entries stops at its maximum.
+  -- a shrink rehashed. This holds until the count of stored entries, or of rehashed entries, stops at its maximum.
   pub record PaysForMoves (old new : State K V S H) : Type 0 where
     pub placed : old.counts.placed ≤ new.counts.placed
     pub shrunk : old.counts.shrunk ≤ new.counts.shrunk
@@ -40,7 +40,7 @@ module _ {K V S H : Type 0} where
   abbrev pub UsesAtMost : ℕ → State K V S H → Type 0
   UsesAtMost most st = (bytes : ℕ) × (usage st.entry_bytes (buckets st) ≡ Some bytes) × (bytes ≤ most)
 
-  -- the running total is the sum of the costs
+  -- the running total of the limiter is the sum of the costs of the pairs
   abbrev pub IsSummed : (K → V → ℕ) → (S → ℕ) → State K V S H → Type 0
   IsSummed cost account st = account st.limiter ≡ sum_by (λ p. cost p.0 p.1) st.pairs
 
@@ -58,12 +58,12 @@ pub record IsNewest {K V : Type 0} (names : K → Bool) (pairs : List (K × V)) 
 -- limiter rejects the new value for this pair.
 pub data EvictsOldest {K V : Type 0} (names : K → Bool) (refuses : K × V → Type 0) (old new : List (K × V))
     : Type 0 where
-  -- The pair of the key is the newest, and the newest pairs of other keys follow it in their order. Or nothing is left.
+  -- The pair of the key is the newest, followed by the newest pairs of other keys, in their order. Or nothing is left.
   behind : (newest : K × V) → names newest.0 ≡ true → IsFront new (newest ∷ without names old) →
       EvictsOldest names refuses old new
   -- The key was not there, and its pair is not stored. The oldest pairs may have been evicted.
   with_none : lookup_entry names old ≡ None → IsFront new old → EvictsOldest names refuses old new
-  -- only the pair whose replacement is rejected is removed
+  -- Only the pair of the key is removed, because the limiter rejects its new value.
   without_one : (pair : K × V) → lookup_entry names old ≡ Some pair → refuses pair → new ≡ without names old →
       EvictsOldest names refuses old new
 
@@ -72,7 +72,7 @@ module _ {K V S H : Type 0} (rules : Rules K V S) where
   pub record IsRefusedGrowth (st : State K V S H) : Type 0 where
     pub is_full : HasPairsButNoGrowth st
     pub above_half : full_capacity (buckets st) / 2 < length st.pairs + 1
-    -- the map after its limiter was queried
+    -- the map after its limiter was queried, or `st` if there was no query
     pub mid : State K V S H
     pub refused : CannotGrow rules st mid
 
@@ -84,7 +84,7 @@ module _ {K V S H : Type 0} (rules : Rules K V S) where
   SaysWhether names result new = lookup_entry names new.pairs ≡ None
 
 module _ {K V S H I : Type 0} (rules : Rules K V S) (offers : Offers K V S I) (names : I → K → Bool) where
-  -- The pair that an insert stores. If the key was there, this is the stored key with the new value, as the replacement
+  -- The pair that an insert stores. If the key was there, this is the stored key with the new value, as `on_replace`
   -- left both. If the key is new, this is the pair that the limiter returned.
   pub data Stores (i : I) (v : V) (old : State K V S H) (pair : K × V) : Type 0 where
     left : (was : K × V) → lookup_entry (names i) old.pairs ≡ Some was
@@ -95,9 +95,9 @@ module _ {K V S H I : Type 0} (rules : Rules K V S) (offers : Offers K V S I) (n
         (s : S) → MayGive rules offers names i v (contents old) s (Some pair) →
         Stores i v old pair
 
-  -- How an insert ends. Its result says whether the key is in the map afterwards (`says`). If it is, the newest pair is
-  -- the pair that the insert stored (`stores`). Only an insert of a new key runs out of memory (`out_of_memory`). Then
-  -- it may have evicted some of the oldest pairs, but no others (`keeps`).
+  -- How an insert ends. The result says whether the key is in the map (`says`). If the key is in the map, the newest
+  -- pair is the pair that the insert stored (`stores`). If memory runs out, the key is new (`out_of_memory`), and only
+  -- the oldest pairs may have been evicted (`keeps`).
   pub record InsertEnds (hash_of : H → K → ℕ) (i : I) (v : V) (old : State K V S H) (result : Result Bool AllocError)
       (new : State K V S H) : Type 0 where
     pub says : SaysWhether rules (names i) result new
@@ -105,7 +105,7 @@ module _ {K V S H I : Type 0} (rules : Rules K V S) (offers : Offers K V S I) (n
     pub out_of_memory : OnErr result (IsOutOfMemory rules offers names hash_of i v old new)
     pub keeps : OnErr result (IsFront new.pairs old.pairs)
 
--- the limiter stores each value as it was inserted
+-- the limiter stores each value as it was offered
 pub record KeepsValues {K V S I : Type 0} (offers : Offers K V S I) : Type 0 where
   pub given : (s : S) (n : ℕ) (i : I) (v : V) (t : S) (k : K) (w : V) → offers.on_insert s n i v t (Some (k, w)) → w ≡ v
   pub replaced : (s : S) (n : ℕ) (k : K) (i : I) (v w : V) → (offers.on_replace s n k i v w).new_value ≡ w

@@ -1,7 +1,4 @@
 -- What `try_insert` does: it inserts a new pair only if nothing has to be evicted for it.
---     terms, rules        the limiter's `Terms` and `Rules` (`lru_limits`)
---     eq                  whether two keys are equal
---     hash_of h k         the hash of k by the hasher h
 use Rattle.std.specs.Prelude.{◌≡◌, ℕ, ◌+◌, ◌<◌, Bool, true, false, not, if◌then◌else◌, length, Some, None}
 use Rattle.std.specs.Prelude.{Result, Ok, Err}
 use Rattle.lru_limits.specs.Rules.{Rules}
@@ -12,7 +9,7 @@ use Rattle.lru_model.specs.Reservations.{Reserve}
 use Rattle.lru_model.specs.Inserts.{Insert}
 use Rattle.lru_model.specs.declared.results.ReserveError.{ReserveError}
 
--- `ready` is the map before the insert: `old` if it has growth left, or `old` after a successful reservation
+-- `ready` is the map just before the insert. This is `old` if growth is left, and otherwise `old` after a reservation.
 pub data IsReady {K V S H : Type 0} (rules : Rules K V S) (old ready : State K V S H) : Type 0 where
   has_growth : 0 < growth_left old → ready ≡ old →
       IsReady rules old ready
@@ -43,12 +40,12 @@ module _ {K V S : Type 0} (terms : Terms K V S) (rules : Rules K V S) where
         cannot_store : lookup_entry (eq key) old.pairs ≡ None → can_store key value (contents old) ≡ false →
             result ≡ Err (key, value) → new ≡ old →
             TryInsert result new
-        -- The limiter can store the pair, but no growth is left. A reservation fails, or leaves a limiter that cannot
-        -- store the pair.
+        -- The limiter can store the pair, but no growth is left. Either the reservation fails, or the limiter cannot
+        -- store the pair after the reservation.
         unready : lookup_entry (eq key) old.pairs ≡ None → can_store key value (contents old) ≡ true →
             IsUnready new → result ≡ Err (key, value) →
             TryInsert result new
-        -- The limiter can store the pair, and it is inserted.
+        -- The limiter can store the pair, and the pair is inserted.
         inserted : lookup_entry (eq key) old.pairs ≡ None → can_store key value (contents old) ≡ true →
             (ready : State K V S H) → IsReady rules old ready → can_store key value (contents ready) ≡ true →
             result ≡ Ok tt → Insert rules (offers_of terms) eq hash_of key value ready (Ok true) new →

@@ -1,5 +1,4 @@
 -- What `update` does: it offers the limiter a new value for a key that is there.
---     rules, offers       the limiter's `Rules` and `Offers` (`lru_limits`)
 --     names i k           the given key i names the key k
 use Rattle.std.specs.Prelude.{◌≡◌, Bool, true, false, List, [], Some, None}
 use Rattle.lru_limits.specs.Rules.{Rules, Offers}
@@ -11,7 +10,7 @@ use Rattle.lru_model.specs.declared.results.Updated.{Updated}
 use Rattle.lru_model.specs.declared.results.Updated.TheVariants.{Replaced, Rejected, Absent}
 
 module _ {K V S I : Type 0} (rules : Rules K V S) (offers : Offers K V S I) (names : I → K → Bool) where
-  -- the contents after the limiter accepted the new value: the pair gets it, and keeps its place in the order
+  -- the contents after the limiter accepted the new value: the pair gets this value and keeps its place in the order
   abbrev pub with_updated : K × V → I → V → Contents K V S → Contents K V S
   with_updated pair i v c = record {
     pairs = set_entry (names i) (with_new_value rules offers names pair i v c) c.pairs;
@@ -20,25 +19,26 @@ module _ {K V S I : Type 0} (rules : Rules K V S) (offers : Offers K V S I) (nam
 
   pub data Update {H : Type 0} (i : I) (v : V) (old : State K V S H) (result : Updated V) (new : State K V S H)
       : Type 0 where
-    -- The limiter accepts the new value. The oldest pairs are evicted while the limiter is over its limit.
+    -- The key is there, and the limiter accepts the new value. The oldest pairs are then evicted while the limiter is
+    -- over its limit.
     updated : (pair : K × V) → lookup_entry (names i) old.pairs ≡ Some pair →
         (replacement rules offers names pair i v (contents old)).taken ≡ true →
         result ≡ Replaced (replacement rules offers names pair i v (contents old)).old_value →
         Leaves old (trim rules (with_updated pair i v (contents old))) new →
         Update i v old result new
-    -- The limiter rejects the new value, and the pair is removed.
+    -- The key is there, and the limiter rejects the new value: the pair is removed.
     rejected : (pair : K × V) → lookup_entry (names i) old.pairs ≡ Some pair →
         (replacement rules offers names pair i v (contents old)).taken ≡ false →
         result ≡ Rejected (replacement rules offers names pair i v (contents old)).new_value →
         Leaves old (with_removed rules offers names pair i v (contents old)) new →
         Update i v old result new
-    -- The key is not there, and nothing has changed.
+    -- The key is not there: nothing changes.
     not_there : lookup_entry (names i) old.pairs ≡ None →
         result ≡ Absent v → new ≡ old →
         Update i v old result new
 
--- An update that passes the pairs `passed` to its callback is an update under the limiter with a list. The list is
--- empty before the call, and `passed` after it.
+-- An update that passes the pairs `passed` to its callback. This is an update under the limiter with a list (`noting`).
+-- The list is empty before the update, and is `passed` after it.
 abbrev pub UpdatePasses : {K V S H I : Type 0} → Rules K V S → Offers K V S I → (I → K → Bool) → I → V → State K V S H
     → Updated V → List (K × V) → State K V S H → Type 0
 UpdatePasses rules offers names i v old result passed new =

@@ -1,4 +1,4 @@
--- What holds of a tenant's map still does after a get.
+-- A get keeps what holds of a tenant's map.
 use Rattle.std.proofs.Common.{◌≡◌, ℕ, Bool, List, Some, Option, Ok, sym, ap, subst}
 use Rattle.lru_limits.specs.Laws.{IsLookup}
 use Rattle.lru_model.specs.Calls.{promoted}

@@ -1,5 +1,5 @@
 -- A cache of tenants: a map for each open tenant.
---     names name      whether the name is the one that the call names
+--     names name      whether the call names this name
 use Rattle.std.specs.Prelude.{◌≡◌, ℕ, ◌≤◌, ◌<◌, ◌+◌, ◌-◌, ◌^◌, nat_lt, Bool, true, false, List, cond, Option, Some, None}
 use Rattle.std.specs.Prelude.{sum_by}
 use Rattle.std.specs.Option.{option_map, unwrap_or}
@@ -25,12 +25,12 @@ is_above None sum = false
 is_above (Some limit) sum = nat_lt limit sum
 
 pub record Cache (N K V L S : Type 0) : Type 0 where
-  -- the open tenants by their names, in an order that means nothing
+  -- the open tenants by their names, in no particular order
   pub tenants : List (N × State K V L S)
   -- what builds the hashers of names and keys, and the bytes of an entry
   pub hasher : S
   pub entry_bytes : ℕ
-  -- the greatest sum of all budgets that is permitted, if there is a limit
+  -- the limit of the sum of all budgets, if there is one
   pub total_limit : Option ℕ
 
 module _ {N K V L S : Type 0} where
@@ -38,14 +38,14 @@ module _ {N K V L S : Type 0} where
   abbrev pub tenant : (N → Bool) → Cache N K V L S → Option (State K V L S)
   tenant named cache = lookup named cache.tenants
 
-  -- the empty map with which a tenant opens, if `made` makes the limiter, and links are below `max`
+  -- the empty map with which a tenant opens; `made` makes its limiter, and each link is below `max`
   abbrev pub fresh : (ℕ → L) → ℕ → Cache N K V L S → ℕ → State K V L S
   fresh made max cache budget = empty_map (made budget) cache.hasher cache.entry_bytes max
 
-  -- the named tenant is `left` afterwards, and the others stay
+  -- the named tenant is `left` afterwards, and the other tenants do not change
   pub record Leaves (eq : N → N → Bool) (names : N → Bool) (left : Option (State K V L S)) (old new : Cache N K V L S)
       : Type 0 where
-    -- at most one name is named, up to equality
+    -- all named names are equal, and each equal name is named
     pub one : (x y : N) → names x ≡ true → names y ≡ eq x y
     pub own : tenant names new ≡ left
     pub tenants : (other : N) → tenant (eq other) new ≡ cond (names other) left (tenant (eq other) old)
@@ -53,7 +53,7 @@ module _ {N K V L S : Type 0} where
     pub entry_bytes : new.entry_bytes ≡ old.entry_bytes
     pub total_limit : new.total_limit ≡ old.total_limit
 
-  -- a call does to the cache what `Does` says of the named tenant, and leaves the other tenants as they are
+  -- a call changes the named tenant as `Does` says, and changes no other tenant
   abbrev pub On : {R : Type 0} → (N → N → Bool) → (N → Bool)
       → (Option (State K V L S) → R → Option (State K V L S) → Type 0) → Cache N K V L S → R → Cache N K V L S → Type 0
   On eq names Does old answer new =
@@ -65,7 +65,7 @@ module _ {N K V L S : Type 0} where
   abbrev pub budgets : (L → ℕ) → Cache N K V L S → ℕ
   budgets budget cache = sum_by (λ map. budget map.limiter) (values_of cache.tenants)
 
-  -- the sum of the budgets, once the tenant whose name passes the test has the budget `own`
+  -- the sum of the budgets if the named tenant had the budget `own`
   abbrev pub budgets_with : (L → ℕ) → (N → Bool) → ℕ → Cache N K V L S → ℕ
   budgets_with budget named own cache =
       budgets budget cache - unwrap_or (option_map (λ map. budget map.limiter) (tenant named cache)) 0 + own

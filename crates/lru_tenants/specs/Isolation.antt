@@ -13,13 +13,14 @@ pub record Did (N K V L S : Type 0) : Type 0 where
   pub left : Option (State K V L S)
 
 module _ {N K V L S : Type 0} where
-  -- Calls that take the cache from old to new. Each call leaves the tenants that it does not name as they are.
+  -- The calls take the cache from old to new. Each call changes only the tenant that it names.
   abbrev pub CacheRun : (N → N → Bool) → Cache N K V L S → List (Did N K V L S) → Cache N K V L S → Type 0
   CacheRun eq old [] new = new ≡ old
   CacheRun eq old (did ∷ more) new = (mid : Cache N K V L S) × (did.found ≡ tenant did.names old)
       × Leaves eq did.names did.left old mid × CacheRun eq mid more new
 
-  -- Each call that names the tenant found it as the call before left it. The last call left the new state.
+  -- Each call that names this tenant finds it as the previous such call left it. The first finds `old`, and the last
+  -- leaves `new`.
   abbrev pub Chain : N → Option (State K V L S) → List (Did N K V L S) → Option (State K V L S) → Type 0
   Chain name old [] new = new ≡ old
   Chain name old (did ∷ more) new = ((did.names name ≡ true) × (did.found ≡ old) × Chain name did.left more new)
@@ -27,8 +28,7 @@ module _ {N K V L S : Type 0} where
 
 module _ {N K V L S C R : Type 0} (named : C → N)
     (Does : C → Option (State K V L S) → R → Option (State K V L S) → Type 0) where
-  -- The calls that name the tenant, and their answers, take it from old to new. Calls that name others leave it as it
-  -- is.
+  -- The calls that name this tenant, with their answers, take the tenant from old to new. Other calls do not change it.
   abbrev pub OwnRun : (N → Bool) → Option (State K V L S) → List C → List R → Option (State K V L S) → Type 0
   OwnRun own old [] [] new = new ≡ old
   OwnRun own old (call ∷ calls) (answer ∷ answers) new =

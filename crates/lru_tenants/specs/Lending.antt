@@ -1,4 +1,4 @@
--- What becomes of a cache once the loan of one of its values has ended.
+-- What a cache is after the loan of one of its values has ended.
 use Rattle.std.specs.Prelude.{ℕ, Bool, Option, Result, Ok, Err, ⊤}
 use Rattle.std.specs.Borrow.{Fml, RattleType, Bor, MutBor, follows_so}
 use Rattle.std.specs.HashMap.Lent.{HashMembers}
@@ -12,7 +12,7 @@ use Rattle.lru_tenants.specs.Cache.{Cache}
 use Rattle.lru_tenants.specs.contracts.cache.TenantCache.{the_row}
 use mathlib.Core.Option.{none}
 
--- what a clause may use of `L.Budgeted`
+-- the members of `L.Budgeted` that a clause may use
 abbrev pub BudgetMembers : Type 0 → Type 0 → Type 0 → Type 0
 BudgetMembers K V L = record {
   rules : Rules K V L;

@@ -1,7 +1,5 @@
 -- What a call does to the tenant that it names, and what a run of calls does to each tenant.
---     rules, offers       the limiter's `Rules` and `Offers` (`lru_limits`)
 --     fresh budget        the empty map with which a tenant opens
---     hash_of h k         the hash of k by the hasher h
 use Rattle.std.specs.Prelude.{◌≡◌, ◌≤◌, ◌⊎◌, ℕ, Bool, true, false, List, [], length, reverse, Option, Some, None}
 use Rattle.std.specs.Prelude.{option_map, IfSome}
 use Rattle.std.specs.Prelude.{Result, Ok, Err}
@@ -33,9 +31,9 @@ abbrev pub put_answer : {R : Type 0} → Result R AllocError → Result R Tenant
 put_answer (Ok inserted) = Ok inserted
 put_answer (Err e) = Err Memory
 
--- below, what each call may answer, and how it leaves its tenant; `None` is a tenant that is not open
+-- What each call may answer, and how it leaves its tenant. `None` is a tenant that is not open.
 module _ {K V L S : Type 0} where
-  -- a tenant that is not open opens with this map, if the total limit permits it and there is memory
+  -- a tenant that is not open opens with the map `fresh`, unless this is over the total limit or memory runs out
   abbrev pub Opens : Bool → State K V L S → Option (State K V L S) → Result (Unit {0}) TenantError
       → Option (State K V L S) → Type 0
   Opens over fresh (Some map) answer new = (answer ≡ Err AlreadyOpen) × (new ≡ Some map)
@@ -46,27 +44,26 @@ module _ {K V L S : Type 0} where
   read_of reads None = Err NotOpen
   read_of reads (Some map) = Ok (reads map)
 
-  -- a call does what `does` says to an open tenant; for any other tenant it returns `NotOpen`, and the tenant stays
-  -- closed
+  -- If the tenant is open, the call does what `does` says. Otherwise it returns `NotOpen`, and the tenant stays closed.
   abbrev pub OfOpen : {R : Type 0} → (State K V L S → Result R TenantError → Option (State K V L S) → Type 0)
       → Option (State K V L S) → Result R TenantError → Option (State K V L S) → Type 0
   OfOpen does None answer new = (answer ≡ Err NotOpen) × (new ≡ None)
   OfOpen does (Some map) answer new = does map answer new
 
-  -- a call that never fails on an open tenant, and leaves it open
+  -- a call that never fails on an open tenant, and leaves the tenant open
   abbrev pub IfOpen : {R : Type 0} → (State K V L S → R → State K V L S → Type 0) → Option (State K V L S)
       → Result R TenantError → Option (State K V L S) → Type 0
   IfOpen {R} does = OfOpen (λ map answer new.
       (result : R) × (left : State K V L S) × does map result left × (answer ≡ Ok result) × (new ≡ Some left))
 
-  -- the tenant gets a budget, if the total limit permits it, and entries over the budget are evicted
+  -- if the total limit permits the budget, the tenant gets it, and the oldest entries over the budget are evicted
   abbrev pub SetsBudget : Rules K V L → (L → L) → Bool → State K V L S → Result (Unit {0}) TenantError
       → Option (State K V L S) → Type 0
   SetsBudget rules rebudgeted true map answer new = (answer ≡ Err OverTotal) × (new ≡ Some map)
   SetsBudget rules rebudgeted false map answer new = (left : State K V L S)
       × Trims rules (with_limiter (rebudgeted map.limiter) map) left × (answer ≡ Ok tt) × (new ≡ Some left)
 
-  -- what a call on an open tenant passes to its callback; on any other tenant it passes nothing
+  -- what a call on an open tenant passes to its callback; if the tenant is not open, the call passes nothing
   abbrev pub PassesOn : (State K V L S → List (K × V) → Option (State K V L S) → Type 0) → Option (State K V L S)
       → List (K × V) → Option (State K V L S) → Type 0
   PassesOn does None passed new = (passed ≡ []) × (new ≡ None)
@@ -77,7 +74,7 @@ module _ {K V L S : Type 0} where
   Gets names old answer new =
       (answer ≡ read_of (λ map. lookup names map.pairs) old) × (new ≡ option_map (promoted names) old)
 
-  -- `SetsBudget` passes on the entries over the budget
+  -- a call that sets a budget passes the evicted entries to its callback
   abbrev pub BudgetPasses : Rules K V L → (L → L) → Bool → State K V L S → List (K × V)
       → Option (State K V L S) → Type 0
   BudgetPasses rules rebudgeted true old passed new = (passed ≡ []) × (new ≡ Some old)
@@ -90,7 +87,7 @@ module _ {K V L S : Type 0} where
   abbrev pub Closes : State K V L S → Result ℕ TenantError → Option (State K V L S) → Type 0
   Closes map answer new = (answer ≡ Ok (length map.pairs)) × (new ≡ None)
 
-  -- a put inserts into the tenant's map, whose budget stays
+  -- a put inserts into the map of the tenant; the budget stays
   module _ (rules : Rules K V L) (offers : Offers K V L K) (budget_of : L → ℕ) (eq : K → K → Bool)
       (hash_of : S → K → ℕ) (key : K) (value : V) where
     pub record Puts (old : State K V L S) (answer : Result Bool TenantError) (new : Option (State K V L S))
@@ -111,9 +108,9 @@ module _ {K V L S : Type 0} where
 module _ {N K V L S : Type 0} (rules : Rules K V L) (offers : Offers K V L K) (cost : K → V → ℕ)
     (account budget_of : L → ℕ) (eq : K → K → Bool) (hash_of : S → K → ℕ) (fresh : ℕ → State K V L S)
     (total_limit : Option ℕ) where
-  -- The call may answer this, and leave the tenant that it names as `new`. `sum` is the sum of all budgets with the new
-  -- one. The other tenants decide it, so nothing is said of it except that it is at least the new budget. No call is
-  -- over the total if there is no limit.
+  -- The call may return `answer`, and leave the tenant that it names as `new`. `sum` is the sum of all budgets,
+  -- including the new budget. It depends on the other tenants, so the step only says that it is at least the new
+  -- budget. Without a total limit no sum is over the limit.
   abbrev pub TenantStep : TenantCall N K V → Option (State K V L S) → TenantAnswer V → Option (State K V L S) → Type 0
   TenantStep (calls.Open name budget) old answer new = (result : Result (Unit {0}) TenantError) × (sum : ℕ)
       × (budget ≤ sum) × Opens (is_above total_limit sum) (fresh budget) old result new
@@ -127,7 +124,7 @@ module _ {N K V L S : Type 0} (rules : Rules K V L) (offers : Offers K V L K) (c
   TenantStep (calls.Close name) old answer new = (result : Result ℕ TenantError)
       × OfOpen Closes old result new × (answer ≡ answers.Closed result)
 
-  -- a step after which the tenant's cost is within its budget
+  -- a step that leaves a sound tenant, whose cost is within its budget
   abbrev pub KeptStep : TenantCall N K V → Option (State K V L S) → TenantAnswer V → Option (State K V L S) → Type 0
   KeptStep call old answer new = TenantStep call old answer new × IfSome new (IsTenant eq cost account budget_of)
 

@@ -1,4 +1,4 @@
--- Caches with a limit of cost: the smaller cache is the front of the larger one.
+-- If two caches have limits of cost, the cache with the smaller limit contains the newest keys of the other cache.
 use Rattle.std.proofs.Common.{◌≡◌, ℕ, zero, suc, ◌+◌, ◌-◌, ◌≤◌, Bool, true, false, cond, List, [], ◌∷◌, length, take}
 use Rattle.std.proofs.Common.{refl, ap, arith, inl, inr}
 use Rattle.std.proofs.lemmas.Bool.{lt-leb, le-leb, cases_lt}
@@ -104,7 +104,7 @@ module _ {K : Type 0} (cost : K → ℕ) where
     | inr cheap ↦ rw (le-leb (cost key) n cheap) (omega (arith, cheap, affords_within (n - cost key) keys))
   ]
 
--- if equal keys cost the same, equal lists are affordable up to the same key, and references leave equal lists
+-- if equal keys cost the same, equal lists have equal affordable parts, and references keep lists equal
 module _ {K : Type 0} {eq : K → K → Bool} (laws : IsEquivalence eq) (cost : K → ℕ)
     (same : (x y : K) → eq x y ≡ true → cost x ≡ cost y) where
   pub affords_equal : (n : ℕ) (xs ys : List K) → AreEqual eq xs ys

@@ -40,7 +40,7 @@ pays_for_all false false false a m b f o p c new before few stored bypassed has 
     omega (arith, before, few, bypassed refl, has)
 
 module _ {K : Type 0} {eq : K → K → Bool} (laws : IsEquivalence eq) where
-  -- For each d, the other cache contains at most c more keys whose next reference is among the first d references.
+  -- For each d, the cache `old` has at most c more keys than MIN whose next reference is among the first d references.
   abbrev pub IsAhead : ℕ → List K → List K → List K → Type 0
   IsAhead c trace keys old = (d : ℕ) → near eq d trace (λ z. is_in eq z old) ≤ due eq d trace keys + c
 

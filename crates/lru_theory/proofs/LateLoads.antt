@@ -1,5 +1,5 @@
--- A demand policy follows a policy that loads keys ahead. It loads each key when it is referenced, and evicts a key
--- that the other policy does not contain.
+-- A demand policy can follow a policy that loads keys ahead. The demand policy loads each key when the key is
+-- referenced, and evicts a key that the other policy does not contain.
 use Rattle.std.proofs.Common.{◌≡◌, ℕ, suc, ◌+◌, ◌≤◌, ◌<◌, Bool, true, false, cond, List, [], ◌∷◌, ◌++◌, length}
 use Rattle.std.proofs.Common.{refl, sym, ap, ◌∙◌, arith, ◌⊎◌, inl, inr, length-append}
 use Rattle.std.proofs.lemmas.Bool.{cases_lt, or_right}
@@ -86,7 +86,7 @@ module _ {K : Type 0} {eq : K → K → Bool} (laws : IsEquivalence eq) where
     Demanded keys trace most = (demanded : ℕ) × (other : List K) × Served (Demands eq h) other keys trace demanded
         × (demanded ≤ most)
 
-    -- the demand policy contains the keys of the other policy, except for some that it owes
+    -- the demand policy contains the keys of the other policy, except for the keys `owed`
     abbrev Follows : List K → List K → ℕ → Type 0
     Follows ahead trace paid = (keys owed : List K) → length keys ≤ h → Within eq ahead (owed ++ keys)
         → Demanded keys trace (length owed + paid)

@@ -9,7 +9,7 @@ use Rattle.lru_theory.specs.Traces.{is_in}
 use Rattle.lru_theory.specs.Best.{until, put}
 
 module _ {K : Type 0} (eq : K → K → Bool) where
-  -- the others differ from the key, and their next references come no sooner than that of the key
+  -- each other key differs from the key, and its next reference comes no sooner than the next reference to the key
   abbrev pub Later : List K → K → List K → Type 0
   Later trace key [] = Unit {0}
   Later trace key (other ∷ keys) =
@@ -87,7 +87,7 @@ module _ {K : Type 0} {eq : K → K → Bool} (laws : IsEquivalence eq) where
       let parts = or_parts (eq key x) (is_in eq key xs) none in
       rw (parts.0) (ap (λ ys. x ∷ ys) (without_absent key xs parts.1))
 
-  -- The keys without the key that is referenced.
+  -- the keys `xs` without the key of the first reference
   pub record Left (key : K) (trace xs : List K) : Type 0 where
     pub absent : is_in eq key (remove_key (eq key) xs) ≡ false
     pub ordered : Ordered eq trace (remove_key (eq key) xs)

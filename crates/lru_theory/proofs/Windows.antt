@@ -1,5 +1,5 @@
--- While LRU misses at most k times, each miss is a reference to another key. No policy has more keys than it began with
--- and paid for.
+-- While LRU misses at most k times, its misses are references to different keys. A policy has only the keys that it
+-- began with, and the keys that it paid for.
 use Rattle.std.proofs.Common.{◌≡◌, ℕ, zero, suc, ◌+◌, ◌≤◌, ◌<◌, Bool, true, false, cond, List, [], ◌∷◌, ◌++◌}
 use Rattle.std.proofs.Common.{length, take, refl, sym, ap, ◌∙◌, arith, ◌⊎◌, inl, inr}
 use Rattle.std.proofs.lemmas.Bool.{cases_lt, or_parts}

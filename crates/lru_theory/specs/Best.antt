@@ -5,25 +5,25 @@ use Rattle.std.specs.Set.{remove_key}
 use Rattle.lru_theory.specs.Traces.{fault}
 
 module _ {K : Type 0} (eq : K → K → Bool) where
-  -- how many references of the trace come before the next one to the key, or the length of the trace if there is none
+  -- how many references come before the next reference to the key, or the length of the trace if there is no such
+  -- reference
   abbrev pub until : K → List K → ℕ
   until key [] = 0
   until key (other ∷ trace) = if eq key other then 0 else suc (until key trace)
 
-  -- Puts the key among others, in the order of their next references in the trace.
+  -- puts the key among the other keys, in the order of their next references in the trace
   abbrev pub put : List K → K → List K → List K
   put trace key [] = key ∷ []
   put trace key (other ∷ keys) = if nat_le (until key trace) (until other trace) then key ∷ (other ∷ keys)
       else other ∷ put trace key keys
 
-  -- The keys of MIN with n places after a reference to the key, in the order of their next references in the trace that
-  -- follows. It stores the key. If that is one key too many, it evicts one of the others: the key whose next reference
-  -- comes last.
+  -- The keys of MIN with n places after a reference to the key, in the order of their next references. MIN stores the
+  -- key. If there are then more than n keys, MIN evicts the other key whose next reference comes last.
   abbrev pub min_refer : ℕ → K → List K → List K → List K
   min_refer zero key trace keys = []
   min_refer (suc n) key trace keys = put trace key (take n (remove_key (eq key) keys))
 
-  -- The keys of MIN with bypass: the n of these keys whose next references come first.
+  -- The keys of MIN with bypass after a reference to the key: the n keys whose next references come first.
   abbrev pub bypass_refer : ℕ → K → List K → List K → List K
   bypass_refer n key trace keys = take n (put trace key (remove_key (eq key) keys))
 
@@ -32,7 +32,7 @@ module _ {K : Type 0} (eq : K → K → Bool) where
   faults_ahead refer keys [] = 0
   faults_ahead refer keys (key ∷ trace) = fault eq key keys + faults_ahead refer (refer key trace keys) trace
 
-  -- how often MIN with n places misses, from no keys; below, MIN with bypass
+  -- how often MIN (and below, MIN with bypass) with n places misses, if it begins with no keys
   abbrev pub min_misses : ℕ → List K → ℕ
   min_misses n trace = faults_ahead (min_refer n) [] trace
 

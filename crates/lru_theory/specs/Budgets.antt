@@ -12,12 +12,12 @@ module _ {K : Type 0} (cost : K → ℕ) where
   affordable n (key ∷ keys) = if nat_le (cost key) n then key ∷ affordable (n - cost key) keys else []
 
 module _ {K : Type 0} (eq : K → K → Bool) (cost : K → ℕ) where
-  -- The keys of an LRU cache with the limit n after a reference, the newest first: the key is the newest, and the
-  -- oldest are evicted while the keys cost more than n. No key alone may cost more than n.
+  -- The keys of an LRU cache with the limit n after a reference, newest first. The key becomes the newest, and the
+  -- oldest keys are evicted while the keys cost more than n. If the key alone costs more than n, no key is left.
   abbrev pub refer_within : ℕ → K → List K → List K
   refer_within n key keys = affordable cost n (key ∷ remove_key (eq key) keys)
 
-  -- its keys after a trace; below, how many references of the trace did not find their key
+  -- the keys after a trace, and below, how many references of the trace miss
   abbrev pub cached_within : ℕ → List K → List K → List K
   cached_within n = cached_by (refer_within n)
 

@@ -4,8 +4,8 @@ use Rattle.std.specs.Prelude.{◌≡◌, ℕ, ◌+◌, ◌-◌, ◌≤◌, Bool,
 use Rattle.std.specs.Set.{remove_key}
 use Rattle.lru_theory.specs.Traces.{is_in, refer}
 
--- What a call does to the keys of a cache: it references a key, makes a key the newest if it is there, removes a key,
--- removes all, or changes nothing.
+-- What a call does to the keys of a cache: it references a key, makes a key the newest if the key is there, removes a
+-- key, removes all keys, or changes nothing.
 pub data KeyCall (K : Type 0) : Type 0 where
   refers : K → KeyCall K
   promotes : K → KeyCall K
@@ -28,14 +28,14 @@ module _ {K : Type 0} (eq : K → K → Bool) (n : ℕ) where
   after_calls (call ∷ calls) keys = after_calls calls (after_call call keys)
 
 module _ {K : Type 0} (eq : K → K → Bool) where
-  -- keys equal to xs, one by one, are among ys, in the same order
+  -- ys contains, in the same order, a key equal to each key of xs
   pub data IsSubsequence : List K → List K → Type 0 where
     none : (ys : List K) → IsSubsequence [] ys
     both : (x y : K) (xs ys : List K) → eq x y ≡ true → IsSubsequence xs ys → IsSubsequence (x ∷ xs) (y ∷ ys)
     skips : (y : K) (xs ys : List K) → IsSubsequence xs ys → IsSubsequence xs (y ∷ ys)
 
-  -- A cache of n places is included in a cache of m: its keys are keys of the larger cache, in the same order, and the
-  -- larger cache contains at most m - n more keys.
+  -- A cache of n places is included in a cache of m places: its keys are keys of the larger cache, in the same order,
+  -- and the larger cache contains at most m - n more keys.
   pub record IsIncluded (n m : ℕ) (small large : List K) : Type 0 where
     pub keys : IsSubsequence small large
     pub more : length large ≤ length small + (m - n)

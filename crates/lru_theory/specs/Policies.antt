@@ -19,8 +19,8 @@ module _ {K : Type 0} (eq : K → K → Bool) (places : ℕ) where
     replaces : is_in eq key old ≡ false → (evicted : K) → length (remove_key (eq evicted) old) + 1 ≤ places →
         Demands key old 1 (key ∷ remove_key (eq evicted) old)
 
-  -- How a policy may change its cache at a reference, if it may load any keys, even ahead of their references, and
-  -- evict any. It pays for each key that it loads. The key of the reference is in its cache afterwards.
+  -- How a policy may change its cache at a reference, if it may load and evict any keys, even ahead of their
+  -- references. It pays for each key that it loads. The referenced key is in its cache afterwards.
   pub record Loads (key : K) (old : List K) (paid : ℕ) (new : List K) : Type 0 where
     pub fits : length new ≤ places
     pub stores : is_in eq key new ≡ true

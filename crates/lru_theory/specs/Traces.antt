@@ -1,12 +1,12 @@
 -- Definitions for traces. A trace is the list of the keys that were referenced, in order of time.
 --     eq        when two keys are equal
---     past      the keys that were referenced before, the last one first. The keys of a map are such a list.
+--     past      the keys that were referenced before, the last key first, like the keys of a map
 use Rattle.std.specs.Prelude.{◌≡◌, ℕ, ◌+◌, Bool, true, not, ◌||◌, nat_le, if◌then◌else◌, List, [], ◌∷◌, length, take}
 use Rattle.std.specs.Cmp.Lexicographic.{pointwise}
 use Rattle.std.specs.List.{list_any}
 use Rattle.std.specs.Set.{remove_key}
 
--- The keys of a cache after a trace, from these keys, if `refer` changes them at each reference.
+-- The keys of a cache after a trace. The cache begins with `keys`, and `refer` changes its keys at each reference.
 abbrev pub cached_by : {K : Type 0} → (K → List K → List K) → List K → List K → List K
 cached_by refer keys [] = keys
 cached_by refer keys (key ∷ trace) = cached_by refer (refer key keys) trace
@@ -19,21 +19,22 @@ module _ {K : Type 0} (eq : K → K → Bool) where
   abbrev pub AreEqual : List K → List K → Type 0
   AreEqual keys others = pointwise eq keys others ≡ true
 
-  -- The recency list: each key of the past once, the last referenced first.
+  -- The recency list: each key of the past once, the last referenced key first.
   abbrev pub recency : List K → List K
   recency [] = []
   recency (key ∷ past) = key ∷ remove_key (eq key) (recency past)
 
-  -- the references after the last one to the key
+  -- the references after the last reference to the key
   abbrev pub since : K → List K → List K
   since key [] = []
   since key (other ∷ past) = if eq key other then [] else other ∷ since key past
 
-  -- The reuse distance of the key: how many other keys were referenced after its last reference.
+  -- The reuse distance of the key: how many different keys were referenced after its last reference.
   abbrev pub distance : K → List K → ℕ
   distance key past = length (recency (since key past))
 
-  -- a reference to the key misses in n places: it is the first to this key, or its reuse distance is at least n
+  -- a reference to the key misses in n places: it is the first reference to the key, or the reuse distance is at least
+  -- n
   abbrev pub is_far : ℕ → K → List K → Bool
   is_far n key past = not (is_in key past) || nat_le n (distance key past)
 
@@ -42,8 +43,8 @@ module _ {K : Type 0} (eq : K → K → Bool) where
   misses n past [] = 0
   misses n past (key ∷ trace) = (if is_far n key past then 1 else 0) + misses n (key ∷ past) trace
 
-  -- The keys of an LRU cache of n places after a reference, the newest first: the key is the newest, and the oldest is
-  -- evicted if there are more than n.
+  -- The keys of an LRU cache of n places after a reference, newest first. The key becomes the newest, and the oldest
+  -- key is evicted if there are more than n keys.
   abbrev pub refer : ℕ → K → List K → List K
   refer n key keys = take n (key ∷ remove_key (eq key) keys)
 
@@ -56,7 +57,7 @@ module _ {K : Type 0} (eq : K → K → Bool) where
   faults_by refer keys [] = 0
   faults_by refer keys (key ∷ trace) = fault key keys + faults_by refer (refer key keys) trace
 
-  -- `cached_by` for an LRU cache of n places; below, `faults_by`
+  -- `cached_by` and `faults_by` for an LRU cache of n places
   abbrev pub cached : ℕ → List K → List K → List K
   cached n = cached_by (refer n)
 

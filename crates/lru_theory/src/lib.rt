@@ -47,7 +47,7 @@ pub fn lru_is_competitive<K: Eq>()
 {}
 
 /// Loading keys ahead gains nothing. If a policy with h places loads keys ahead and pays `paid` times, some demand
-/// policy misses at most `paid` times. It also has h places, and begins with the same keys.
+/// policy misses at most `paid` times. The demand policy has h places, too, and begins with the same keys.
 pub fn loading_ahead_gains_nothing<K: Eq>()
     ensures { (h : ℕ) (trace first left : List K) (paid : ℕ) → length first ≤ h →
         Served (Loads K.eq h) left first trace paid →
@@ -56,9 +56,9 @@ pub fn loading_ahead_gains_nothing<K: Eq>()
 
 /// A cache of n places is *included* in a cache of m places if its keys are keys of the larger cache, in the same
 /// order. The larger cache must contain at most m - n more keys. If the smaller cache is included before some calls, it
-/// is included after them (`included`). So the larger cache finds what the smaller one finds (`finds`), and misses no
-/// more often at the references of a trace (`misses`). The calls may reference keys, make them the newest, remove them
-/// or look at them.
+/// is included after them (`included`). So the larger cache finds each key that the smaller cache finds (`finds`), and
+/// misses no more often in a trace (`misses`). The calls may reference keys, make them the newest, remove them or look
+/// at them.
 pub fn a_smaller_cache_is_included<K: Eq>()
     ensures included { (n m : ℕ) (calls : List (KeyCall K)) (small large : List K) → n ≤ m →
         IsIncluded K.eq n m small large →
@@ -69,9 +69,9 @@ pub fn a_smaller_cache_is_included<K: Eq>()
         faults K.eq m large trace ≤ faults K.eq n small trace }
 {}
 
-/// A larger budget never means more misses. If the keys of the cache with the smaller limit of cost are the newest keys
-/// of the other cache, this is so after any trace, too (`front`). The smaller cache misses at least as often
-/// (`misses`).
+/// A larger budget never means more misses. Suppose that the cache with the smaller budget contains the newest keys of
+/// the other cache. This is so after any trace, too (`front`), and the cache with the smaller budget misses at least as
+/// often (`misses`).
 pub fn a_larger_budget_never_misses_more<K: Eq>()
     ensures front { (cost : K → ℕ) (n m some : ℕ) (keys trace : List K) → n ≤ m →
         let small = cached_within K.eq cost n (take some keys) trace in

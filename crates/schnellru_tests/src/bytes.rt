@@ -1,4 +1,4 @@
-//! A cache of texts of at most 200 MiB: a line of code and a theorem.
+//! A cache of texts that takes at most 200 MiB: a line of code and a theorem.
 ghost use Rattle.std.specs.Prelude.{◌≡◌, ◌*◌, ◌^◌, IfOk, string_capacity};
 ghost use Rattle.lru_limits.specs.Bytes.{both_own, block_bytes};
 ghost use Rattle.lru_model.specs.Bytes.{KeepsBytes, TakesAtMost};

@@ -1,4 +1,4 @@
-//! Tests of the memory of a map. No contract speaks of it.
+//! Tests of the memory of a map, which no contract mentions.
 mod clones;
 mod live;
 mod refused;

@@ -3,7 +3,7 @@
 //! No contract can say what memory is left, so these calls are only proved safe.
 use std::alloc::{AllocError, Global};
 
-// The sizes that are tried: `LARGEST`, again and again halved, and from `SMALL` down each multiple of `STEP`.
+// The sizes that are tried: `LARGEST`, halved again and again, and from `SMALL` down each multiple of `STEP`.
 const LARGEST: usize = 1 << 46;
 
 const SMALL: usize = 2048;

@@ -1,4 +1,3 @@
--- Whether a list is empty, by its length.
 use Rattle.std.proofs.Common.{◌≡◌, ◌<◌, ◌⊎◌, inl, inr, true, false, List, [], ◌∷◌, length, Some, None, refl, arith}
 use Rattle.lru_model.specs.Lists.{is_empty, last}
 

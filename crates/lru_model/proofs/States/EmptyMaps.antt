@@ -1,4 +1,3 @@
--- A map without pairs and without buckets.
 use Rattle.std.proofs.Common.{ℕ, Bool, [], refl, arith, inl}
 use Rattle.group_table.specs.Sizes.{full_capacity}
 use Rattle.group_table.specs.Table.{IsTable}

@@ -1,4 +1,4 @@
--- The steps of storing a pair: the facts from which the cases of `Place` are proved.
+-- How a pair is stored: the facts that prove the cases of `Place`.
 use Rattle.std.proofs.Common.{◌≡◌, ℕ, suc, ◌+◌, ◌-◌, ◌/◌, ◌<◌, ◌≤◌, ◌⊎◌, inl, inr, Bool, true, false, List, [], length}
 use Rattle.std.proofs.Common.{None, Result, Ok, Err, refl, sym, ap, ◌∙◌, subst, arith}
 use Rattle.std.specs.Prelude.{IsOk}
@@ -122,7 +122,7 @@ module _ {K V S H : Type 0} (st : State K V S H) (ok : IsSized st) (hash : ℕ) 
   }
   no_place_bucket (inr (none, b, first, is)) = record { no_growth_left = none; first_empty = λ some. (b, first, is) }
 
--- no bucket takes a pair of this hash, and the table contains at least `least` pairs
+-- no bucket takes a pair of this hash, and the map contains at least `least` pairs
 pub record IsStuck (hash least : ℕ) (states : List BucketState) (pairs : ℕ) : Type 0 where
   pub some : 0 < pairs
   pub half : least ≤ pairs

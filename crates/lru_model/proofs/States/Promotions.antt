@@ -1,4 +1,4 @@
--- What holds of a map still does if a pair becomes the first or the last, or gets another value.
+-- A map stays sound if a pair becomes the first or the last, or gets another value.
 use Rattle.std.proofs.Common.{◌≡◌, ℕ, Bool, List, [], length, Option, refl, sym, subst, ◌∙◌}
 use Rattle.std.specs.Cmp.{IsEquivalence}
 use Rattle.std.specs.List.{IsDistinct}

@@ -1,4 +1,4 @@
--- From every map an insert can end: some result and some state after it are permitted.
+-- For every map, `Insert` permits at least one result and one map after the insert.
 use Rattle.std.proofs.Common.{◌≡◌, ℕ, Bool, true, false, length}
 use Rattle.std.proofs.Common.{Option, Some, None, Result, Ok, Err, refl, arith, not}
 use Rattle.std.specs.declared.alloc.AllocError.{AllocError}

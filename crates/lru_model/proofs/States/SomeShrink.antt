@@ -1,4 +1,4 @@
--- From every map with a sound table a shrink can end: some result and some map after it are permitted.
+-- For every map with a sound table, `Shrink` permits a result and a map.
 use Rattle.std.proofs.Common.{◌≡◌, ℕ, Bool, true, false, Option, Some, None, Result, Ok, Err, List, [], ◌∷◌, length}
 use Rattle.std.proofs.Common.{inl, refl, sym, ap, ◌∙◌, arith}
 use Rattle.std.proofs.lemmas.Option.{same_Some}

@@ -1,4 +1,4 @@
--- From every map an update can end: some result and some state after it are permitted.
+-- For every map, `Update` permits a result and a map.
 use Rattle.std.proofs.Common.{◌≡◌, Bool, true, false, Option, Some, None, refl, arith}
 use Rattle.lru_limits.specs.Rules.{Rules, Offers}
 use Rattle.lru_model.specs.Lists.{lookup_entry}

@@ -1,4 +1,4 @@
--- The greatest usage within a budget, found among the tables one after another.
+-- The greatest usage within a budget, searched table by table.
 use Rattle.std.proofs.Common.{◌≡◌, ℕ, ◌+◌, ◌-◌, ◌*◌, ◌^◌, ◌<◌, ◌≤◌, ◌⊎◌, inl, inr, Some, None, refl, sym, ◌∙◌, arith}
 use Rattle.std.proofs.Common.{Bool, true, false, cond, pow_pos}
 use native.Mathlib.Decide.{dec_lt}
@@ -44,7 +44,7 @@ usage_fewer e m n bytes fewer is = elim (dec_lt 0 m) [
 ]
 
 module _ (max e budget : ℕ) where
-  -- the greatest usage of the tables below 4 * 2 ^ k
+  -- the greatest usage within the budget of tables below 4 * 2 ^ k buckets
   pub record IsBest (k best : ℕ) : Type 0 where
     pub within : best ≤ budget
     pub of_table : (best ≡ 0) ⊎ ((j : ℕ) × (j < k) × (4 * 2 ^ j < max) × (usage e (4 * 2 ^ j) ≡ Some best))

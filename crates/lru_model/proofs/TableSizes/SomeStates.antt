@@ -49,7 +49,7 @@ count-row p f d e =
 
 module _ {K V S H : Type 0} (old : State K V S H) (ok : IsSized old) (pairs : List (K × V)) (d : ℕ)
     (within : length pairs + d ≤ full_capacity (buckets old)) where
-  -- a state for each of the old buckets: one is full for each of these pairs, d are deleted, and the others are empty
+  -- some bucket states: a full bucket for each pair, then d deleted buckets, and empty buckets up to the old number
   abbrev pub some_states : List BucketState
   some_states = row (length pairs) d (buckets old - length pairs - d)
 

@@ -1,4 +1,3 @@
--- No call adds more than one pair.
 use Rattle.std.proofs.Common.{ℕ, ◌+◌, ◌≤◌, Bool, List, ◌∷◌, length, ap, arith}
 use Rattle.std.proofs.lemmas.Map.{length-set_value}
 use Rattle.lru_limits.specs.Laws.{IsLookup, IsInsertion}

@@ -1,6 +1,6 @@
--- A pair that the limiter can store, which its `terms` say in advance.
+-- A pair that the limiter can store, as its `terms` say in advance (`can_store`).
 --     accepts_new      the limiter accepts such a pair when an insert offers it
---     adds             with growth left, an insert adds it to all the others
+--     adds             if growth is left, an insert adds the pair and evicts nothing
 --     says             what a caller learns about `try_insert`
 use Rattle.std.proofs.Common.{◌≡◌, ℕ, ◌+◌, ◌<◌, Bool, true, false, ◌∷◌, length, None, Result, Ok, Err, refl}
 use Rattle.std.proofs.Common.{ap, ◌∙◌, subst, arith}

@@ -1,5 +1,5 @@
--- A limit of the bytes of the table and of what pairs own, such as `ByBytes`: the limiter after evictions and after an
--- insertion into the table.
+-- The limit of `ByBytes`, on the bytes of the table and of what pairs own, after evictions and after an insertion into
+-- the table.
 use Rattle.std.proofs.Common.{◌≡◌, ℕ, zero, suc, ◌+◌, ◌≤◌, ◌⊎◌, inl, inr, Bool, true, false, cond, List, [], ◌∷◌}
 use Rattle.std.proofs.Common.{length, Option, Some, None, if◌then◌else◌, refl, sym, ap, ◌∙◌, subst, arith}
 use Rattle.std.proofs.lemmas.Bool.Decides.{nat_tests}
@@ -23,7 +23,7 @@ use Rattle.lru_model.specs.Theorems.{UsesAtMost}
 use Rattle.lru_model.proofs.TableSizes.Budgets.{usage_fewer}
 use Rattle.lru_model.proofs.TableSizes.Growth.{target_doubles, target_usage}
 
--- c is b after pairs were removed
+-- c is b after pairs may have been removed
 pub record Frees (b c : Bytes) : Type 0 where
   pub limit : c.limit ≡ b.limit
   pub table : c.table ≡ b.table
@@ -94,8 +94,8 @@ module _ {K V : Type 0} (bytes_of : K → V → ℕ) where
       (notified_frees (Some pair) (retained rules older b).limiter)
 
   module _ {H : Type 0} (most : ℕ) where
-    -- the limit is `most`, and the limiter counts a table that is within the limit and no smaller than the table of the
-    -- map
+    -- The limit is `most`. The limiter counts a table that is within the limit, and at least as large as the table of
+    -- the map.
     pub record Counts (st : State K V Bytes H) : Type 0 where
       pub limit : st.limiter.limit ≡ most
       pub table : UsesAtMost st.limiter.table st
@@ -214,8 +214,8 @@ module _ {K V : Type 0} (bytes_of : K → V → ℕ) where
     evicted_calm hash (suc n) old new (before, more, none, l) = calm_trans old before new
         (evicted_calm hash n old before more) (leaves_calm before _ new l (pop_frees (contents before)))
 
-    -- What an insertion leaves of a pair that the limiter counts already: the pair is stored, or the limiter was
-    -- notified of it.
+    -- What an insertion leaves if the limiter already counts the pair: the pair is stored, or the limiter was notified
+    -- of its removal.
     abbrev pub Lands : Outcome → State K V Bytes H → Type 0
     Lands outcome new = Counts new × ((outcome ≡ placed) ⊎ Within 0 new)
 

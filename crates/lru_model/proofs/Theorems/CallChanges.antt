@@ -1,4 +1,4 @@
--- What each call changes in a map, except for inserts and shrinks.
+-- What each call except inserts and shrinks changes in a map.
 use Rattle.std.proofs.Common.{◌≡◌, ℕ, zero, suc, ◌+◌, ◌≤◌, inl, inr, Bool, true, List, [], ◌∷◌, length, replicate}
 use Rattle.std.proofs.Common.{Option, Result, refl, sym, ap, subst, arith}
 use Rattle.std.specs.Prelude.{map}

@@ -1,4 +1,4 @@
--- The list, the limiter and what the table reports determine how an insert ends.
+-- The list, the limiter and the report of the table determine how an insert ends.
 use Rattle.std.proofs.Common.{◌≡◌, ℕ, ◌+◌, ◌-◌, ◌/◌, ◌≤◌, inl, inr, Bool, true, false, [], length, Option, Some}
 use Rattle.std.proofs.Common.{None, Result, Ok, refl, sym, ap, ◌∙◌, subst, arith}
 use Rattle.std.specs.Prelude.{not, IsOk, MatchOption}
@@ -28,7 +28,7 @@ use Rattle.lru_model.specs.Exact.{exchanged}
 use Rattle.lru_model.specs.Exact.{IsDetermined}
 
 module _ {K V S : Type 0} (rules : Rules K V S) (pair : K × V) where
-  -- the insertion ends with this outcome as the report says
+  -- the contents after an insertion with this report and this outcome
   abbrev pub Lands : Report → Contents K V S → Outcome → Contents K V S → Type 0
   Lands report c placed new = (report.has_bucket ≡ true) × (new ≡ behind pair (met rules report c))
   Lands report c refused new = (report.has_bucket ≡ false) × (new ≡ not_stored rules report pair c)
@@ -50,7 +50,7 @@ module _ {K V S H : Type 0} (rules : Rules K V S) (pair : K × V) where
   is_placed report c there st same outcome new o p = rw o (there, ap contents p.state ∙ ap (behind pair) same)
 
   module _ (hash_of : H → K → ℕ) (old : State K V S H) where
-    -- a report of the table by which the insertion ends with this outcome
+    -- a report that the table may make, and that agrees with this outcome
     pub record Reported (outcome : Outcome) (new : State K V S H) : Type 0 where
       pub report : Report
       pub may : MayReport rules (hash_of old.hasher pair.0) old report
@@ -126,11 +126,11 @@ trimmed_is rules mid c result new r l =
     ∙ ap (λ x. (x, contents new)) (sym r)
 
 module _ {K V S H : Type 0} (rules : Rules K V S) (old : State K V S H) where
-  -- what an insert into this map finds after the limiter returned a pair and became s
+  -- the contents after the limiter returned a pair and became s, and after `make_room`
   abbrev pub way : S → Contents K V S
   way s = make_room rules (record { pairs = old.pairs; limiter = s })
 
-  -- the insert ends with this report as it does with one that `Tells` permits
+  -- `Tells` permits another report with which the insert ends the same way
   pub record Told (Tells : S → K × V → Report → Type 0) (s : S) (pair : K × V) (report : Report) : Type 0 where
     pub other : Report
     pub told : Tells s pair other
@@ -193,7 +193,7 @@ module _ {K V S I : Type 0} (rules : Rules K V S) (offers : Offers K V S I) (nam
   abbrev Ended : Type 0
   Ended = Result Bool AllocError × Contents K V S
 
-  -- how an insert of a new key ends, after the limiter returned this
+  -- how an insert of a new key ends, from what `on_insert` returned
   abbrev ending_new : S → Option (K × V) → Ended
   ending_new s None = (Ok false, record { pairs = old.pairs; limiter = s })
   ending_new s (Some pair) =

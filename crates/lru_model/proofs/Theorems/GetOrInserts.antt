@@ -1,4 +1,3 @@
--- What the result of `ensure_newest` says.
 use Rattle.std.proofs.Common.{◌≡◌, ℕ, Bool, true, false, List, Option, Some, None, Result, Ok, Err, refl, sym, ◌∙◌}
 use Rattle.std.proofs.Common.{option_map, arith}
 use Rattle.std.specs.declared.alloc.AllocError.{AllocError}

@@ -1,5 +1,5 @@
--- If growth is left, or the limiter permits every growth and there are tables, an insert does what it would do to a
--- list without a table.
+-- An insert changes the pairs as it would change a list without a table if growth is left. It also does if the limiter
+-- permits every growth and there are tables.
 use Rattle.std.proofs.Common.{◌≡◌, ◌≢◌, ℕ, ◌+◌, ◌⊎◌, inl, inr, Bool, true, false, cond, length, Some, Result}
 use Rattle.std.proofs.Common.{refl, sym, ap, ◌∙◌, subst, arith, ◌<◌, ◌≤◌}
 use Rattle.std.specs.declared.alloc.AllocError.{AllocError}
@@ -64,7 +64,7 @@ module _ {K V S H I : Type 0} (rules : Rules K V S) (offers : Offers K V S I) (n
   abbrev Ready : S → State K V S H → Type 0
   Ready s ready = Leaves (record old { limiter = s }) (make_room rules (record { pairs = old.pairs; limiter = s })) ready
 
-  -- with this report an insert does what it would do without a table
+  -- with this report an insert changes the contents as it would change a list without a table
   abbrev Comes : S → Report → Type 0
   Comes s report = let c = make_room rules (record { pairs = old.pairs; limiter = s }) in
       (report.has_bucket ≡ true) × (met rules report c ≡ c)

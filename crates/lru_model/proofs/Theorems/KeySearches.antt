@@ -1,4 +1,4 @@
--- A search by a hash, whose closure tests the key and changes nothing, finds the pair of the key.
+-- If the closure of a search by a hash tests for a key and changes nothing, the search finds the pair of this key.
 use Rattle.std.proofs.Common.{◌≡◌, ℕ, zero, suc, Bool, true, false, cond, List, [], ◌∷◌, ◌++◌, Some, refl}
 use Rattle.std.proofs.Common.{sym, ap, ◌∙◌, subst, arith}
 use Rattle.std.specs.Prelude.{Contains, unwrap_or}

@@ -1,4 +1,4 @@
--- Calls are made of these moves of the pairs and the limiter. If each move keeps a relation R, every call keeps it.
+-- Each call is made of moves of the pairs and the limiter. If each move keeps a relation R, every call keeps R.
 --     KeepsWay rules R                      the moves before a pair is stored keep R
 --     Keeps rules R                         all moves that need no offers keep R
 --     KeepsOffers rules offers names R      the moves of an insert keep R, too
@@ -40,7 +40,7 @@ module _ {K V S : Type 0} (rules : Rules K V S) where
     pub cleared : (c : Contents K V S) → R c (record { pairs = []; limiter = rules.on_cleared c.limiter })
 
 module _ {K V S I : Type 0} (rules : Rules K V S) (offers : Offers K V S I) (names : I → K → Bool) where
-  -- a replacement rewrites the pair, which becomes the newest
+  -- the pair gets its value after a replacement, and becomes the newest
   abbrev pub exchange : K × V → I → V → Contents K V S → Contents K V S
   exchange pair i v c = let r = offers.on_replace c.limiter (length c.pairs) pair.0 i pair.1 v in
       record { pairs = (r.key, kept_value r) ∷ without (names i) c.pairs; limiter = r.limiter }

@@ -1,5 +1,4 @@
--- If there is a table for one pair more, there is a table for the pairs. An entry must take a byte or more: else a full
--- table of 2 ^ 61 buckets may grow for one pair more, but not for its own pairs.
+-- If there is a table for one pair more, and an entry takes a byte or more, there is a table for the pairs.
 use Rattle.std.proofs.Common.{◌≡◌, ◌≢◌, ℕ, ◌+◌, ◌*◌, ◌/◌, ◌^◌, ◌<◌, ◌≤◌, inl, inr, ◌⊎◌, length, Some, refl, arith}
 use Rattle.std.proofs.Common.{pow-add, pow_pos}
 use Rattle.std.proofs.Math.Nat.{mul-le-mul_right}

@@ -1,4 +1,4 @@
--- Of the pairs whose keys no call names, the newest are left.
+-- The newest pairs whose keys no call names are left.
 use Rattle.std.proofs.Common.{◌≡◌, ℕ, Bool, true, false, cond, not, List, [], ◌∷◌, ◌++◌, Option, Some, None}
 use Rattle.std.proofs.Common.{refl, sym, ap, ◌∙◌, subst}
 use Rattle.std.specs.Prelude.{Contains, map, option_to_list}

@@ -1,4 +1,4 @@
--- Insertions into the table are paid for, even the insertions of a reservation, if no growth was left before it.
+-- Insertions into the table are paid for, including those of a reservation if no growth was left before it.
 use Rattle.std.proofs.Common.{◌≡◌, ℕ, ◌+◌, ◌≤◌, Bool, Result, Ok, length, ap, subst, arith, true}
 use Rattle.std.proofs.lemmas.Map.{length-set_value}
 use Rattle.std.specs.declared.alloc.AllocError.{AllocError}
@@ -34,12 +34,12 @@ module _ {K V S H : Type 0} where
   abbrev pub RisesBy : ℕ → State K V S H → State K V S H → Type 0
   RisesBy n old new = new.counts.insertions + potential new ≤ old.counts.insertions + potential old + n
 
-  -- insertions and potential rise by at most 3, and are paid for
+  -- insertions plus potential rise by at most 3, and the insertions are paid for
   pub record StoresOne (old new : State K V S H) : Type 0 where
     pub rises : RisesBy 3 old new
     pub pays : PaysForInsertions old new
 
-  -- insertions and potential do not rise, and nothing else is counted
+  -- insertions plus potential do not rise; no entry is counted as stored or rehashed
   pub record StoresNone (old new : State K V S H) : Type 0 where
     pub rises : RisesBy 0 old new
     pub placed : new.counts.placed ≡ old.counts.placed

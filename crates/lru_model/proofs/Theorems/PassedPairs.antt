@@ -1,4 +1,4 @@
--- The pairs that an insert leaves or passes to its callback are at most one more than there were.
+-- The number of pairs that an insert leaves or passes to its callback is at most one more than there were pairs before.
 use Rattle.std.proofs.Common.{◌≡◌, ℕ, zero, suc, ◌+◌, ◌≤◌, Bool, true, false, List, [], ◌∷◌, ◌++◌, length}
 use Rattle.std.proofs.Common.{Result, refl, ap, ◌∙◌, arith, length-append}
 use Rattle.std.specs.Prelude.{if◌then◌else◌}

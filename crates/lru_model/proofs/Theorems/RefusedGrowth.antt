@@ -17,14 +17,14 @@ use Rattle.lru_model.proofs.States.Outcomes.{placed-not_no_memory, refused-not_n
 use Rattle.lru_model.proofs.States.LeavingPairs.{length-pops, known_is, oldest_leaves}
 
 module _ {K V S H : Type 0} (rules : Rules K V S) (hash_of : H → K → ℕ) (pair : K × V) (old : State K V S H) where
-  -- at least half of what the table may hold is left, the new pair included; in a table of up to 16 buckets only the
-  -- oldest pair is evicted
+  -- After refused growth, the map has at least half as many pairs as the table may hold, including the new pair. In a
+  -- table of up to 16 buckets only the oldest pair is evicted.
   pub record GivesWay (new : State K V S H) : Type 0 where
     pub half : full_capacity (buckets old) / 2 ≤ length new.pairs
     pub one : buckets old ≤ 16 → new.pairs ≡ pair ∷ without_last old.pairs
     pub same_table : buckets new ≡ buckets old
 
-  -- the pair is stored with all others; if growth is refused, the table has more than 16 buckets
+  -- the pair is stored, and all others stay; if growth is refused, the table has more than 16 buckets
   pub record KeepsAll (new : State K V S H) : Type 0 where
     pub pairs : new.pairs ≡ pair ∷ old.pairs
     pub large : IsRefusedGrowth rules old → 16 < buckets old

@@ -1,5 +1,5 @@
--- If growth is left, or a deleted bucket takes the pair, an accepted pair is added to all the others. Nothing is passed
--- to the callback.
+-- If growth is left, or a deleted bucket takes the pair, an insert of an accepted pair evicts nothing, and passes
+-- nothing to the callback.
 use Rattle.std.proofs.Common.{◌≡◌, ℕ, ◌+◌, ◌<◌, ◌≤◌, Bool, false, List, [], length, Some, None, Result, Ok, refl}
 use Rattle.std.proofs.Common.{sym, ap, ◌∙◌, subst, arith}
 use Rattle.std.specs.Prelude.{not, unwrap_or}

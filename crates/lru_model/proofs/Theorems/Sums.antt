@@ -27,7 +27,7 @@ module _ {X : Type 0} (f : X → ℕ) where
   pub total-least : (xs ys : List X) → IsFront xs ys → total xs ≤ total ys
   total-least xs ys h = omega (arith, ap total h.1, total-append xs h.0)
 
-  -- the total of xs is the total of ys, plus the removed pair, if there is one
+  -- the total of xs is the total of ys, plus the cost of the removed element, if there is one
   abbrev pub IsSplit : List X → Option X → List X → Type 0
   IsSplit xs None ys = ys ≡ xs
   IsSplit xs (Some x) ys = total ys + f x ≡ total xs

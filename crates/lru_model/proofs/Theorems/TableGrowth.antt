@@ -12,7 +12,7 @@ use Rattle.lru_model.proofs.Theorems.Moves.{leaves_keep}
 use Rattle.lru_model.proofs.Theorems.Potential.{Pays, IsBounded, pays_trans, pays_calm}
 
 module _ {K V S H : Type 0} where
-  -- nothing is inserted, and the table has the same number of buckets, no less growth left and no more pairs
+  -- nothing is inserted: the number of buckets stays, the growth left does not fall, and no pair is added
   pub record Calm (old new : State K V S H) : Type 0 where
     pub hasher : new.hasher ≡ old.hasher
     pub max : new.max ≡ old.max
@@ -87,7 +87,7 @@ module _ {K V S H : Type 0} where
   }
 
 module _ {K V S : Type 0} (rules : Rules K V S) (P : S → Type 0) where
-  -- there can be a table of n buckets, and a limiter with the property P permits it
+  -- a table of `count` buckets is possible, and some limiter with the property P permits it
   pub record IsPermitted (entry_bytes count : ℕ) : Type 0 where
     pub bytes : ℕ
     pub usable : usage entry_bytes count ≡ Some bytes
@@ -96,11 +96,11 @@ module _ {K V S : Type 0} (rules : Rules K V S) (P : S → Type 0) where
     pub granted : (rules.on_grow limiter bytes).allowed ≡ true
 
 module _ {K V S H : Type 0} (rules : Rules K V S) (P : S → Type 0) where
-  -- the table has no more buckets than before, or a limiter with the property P permits their number
+  -- the table has no more buckets than before, or some limiter with the property P permits the table
   abbrev pub IsNextCount : State K V S H → ℕ → Type 0
   IsNextCount old count = (count ≤ buckets old) ⊎ IsPermitted rules P old.entry_bytes count
 
-  -- how a call changes the table, if it adds at most `more` pairs, and shrinks rehash `anew` entries
+  -- what a call does to the table if it adds at most `more` pairs and rehashes `anew` entries in shrinks
   pub record Tables (more anew : ℕ) (old new : State K V S H) : Type 0 where
     pub hasher : new.hasher ≡ old.hasher
     pub max : new.max ≡ old.max

@@ -1,4 +1,4 @@
--- How an insertion into the table, and an insert, change a map, stated once for all laws.
+-- How an insertion into the table changes a map, and how an insert does, stated once for all laws.
 use Rattle.std.proofs.Common.{◌≡◌, ℕ, ◌+◌, ◌-◌, ◌*◌, ◌<◌, ◌≤◌, inl, inr, Bool, true, [], ◌∷◌, length, Result, refl, sym}
 use Rattle.std.proofs.Common.{ap, ◌∙◌, subst, arith}
 use Rattle.std.specs.declared.alloc.AllocError.{AllocError}
@@ -30,7 +30,7 @@ use Rattle.lru_model.proofs.Theorems.TableGrowth.{limiter_calm, leaves_calm, cal
 use Rattle.lru_model.proofs.Theorems.TableGrowth.{then_calm, calm_changes, leaves_changes}
 
 module _ {K V S H : Type 0} (rules : Rules K V S) (P : S → Type 0) (pair : K × V) (old : State K V S H) where
-  -- the pair is placed in `mid`, in the old table or a permitted one, and its moves are paid for
+  -- the pair is placed in `mid`, in a table that is no larger than the old one or permitted; its moves are paid for
   pub record Fills (mid new : State K V S H) : Type 0 where
     pub count : ℕ
     pub spare : ℕ
@@ -40,7 +40,7 @@ module _ {K V S H : Type 0} (rules : Rules K V S) (P : S → Type 0) (pair : K �
     pub paid : IsBounded old → moves + (full_capacity count - 2 * spare) ≤ potential old + 2
     pub little : IsBounded old → buckets old < count → full_capacity count < 4 * (length old.pairs + 1)
 
-  -- the pair is stored as `Fills` says, or not at all; if it is refused, no pair was there
+  -- the pair is stored (`Fills`) or not stored; it is refused only if there are no pairs
   abbrev pub Lands : Outcome → State K V S H → State K V S H → Type 0
   Lands placed mid new = Fills mid new
   Lands refused mid new = (mid.pairs ≡ []) × (new ≡ unstored rules pair mid)
@@ -227,7 +227,7 @@ module _ {K V S : Type 0} (rules : Rules K V S) (R : Contents K V S → Contents
 module _ {K V S H I : Type 0} {rules : Rules K V S} {offers : Offers K V S I} {names : I → K → Bool}
     {R : Contents K V S → Contents K V S → Type 0} (k : KeepsOffers rules offers names R) (i : I) (v : V)
     (old : State K V S H) where
-  -- a replacement keeps R, if w is the value that stays
+  -- a replacement keeps R; w is the value that stays in the pair
   exchanges : (pair : K × V) (w : V) → kept_value (replacement rules offers names pair i v (contents old)) ≡ w
       → R (contents old) (exchange rules offers names pair i v (contents old))
       → R (contents old) (record {

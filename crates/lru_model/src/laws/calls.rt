@@ -1,5 +1,6 @@
-//! What is proved of every call. A step is the change that one call makes to a map (`specs/Runs`). `Step` is for calls
-//! that write nothing through a reference, and `AnyStep` also for writes to a value or to the limiter.
+//! What is proved of every call. A step is the change that one call makes to a map (`specs/Runs`). `Step` describes a
+//! call that writes nothing through a reference. `AnyStep` also describes a write to a value, and a change of the
+//! limiter.
 
 ghost use Rattle.std.specs.Prelude.{◌≡◌, ℕ, ◌+◌, ◌≤◌, Bool, length};
 ghost use Rattle.std.specs.List.{IsDistinct};
@@ -14,9 +15,10 @@ ghost use Rattle.lru_model.specs.Theorems.{UsesAtMost, IsSummed, others};
 use lru_limits::{Budgeted, Insertion, KeyHasher, LookupKey};
 use std::hash::Hash;
 
-/// After each call no two keys are equal (`keys`). If the table is sound after the call, inserts moved at most two
-/// entries for each entry that they stored, plus one for each entry that a shrink rehashed (`map`). The clause `map` of
-/// each call says that the table is sound.
+/// If no two keys are equal before a call, no two are equal after it (`keys`). If `IsMap` holds before a call, and the
+/// table is sound after the call, `IsMap` holds after it (`map`). So inserts moved at most two entries for each entry
+/// that they stored, plus one for each entry that a shrink rehashed. The clause `map` of each call ensures that the
+/// table is sound.
 pub fn calls_keep_maps<K: Eq + Hash, V, I: LookupKey<K>, L: Insertion<K, V, I>, S: KeyHasher<K>>()
     ensures keys { (old new : State K V L S) →
         AnyStep L.rules L.offers I.names S.hash_of old new →
@@ -26,8 +28,8 @@ pub fn calls_keep_maps<K: Eq + Hash, V, I: LookupKey<K>, L: Insertion<K, V, I>, 
         IsMap K.eq old → IsSized new → IsMap K.eq new }
 {}
 
-/// If a limiter's running total is the sum of the costs of the entries, it stays so after each call that writes nothing
-/// through a reference. Each `Summing` has such a running total (`IsAccount`).
+/// Suppose that the running total of the limiter is the sum of the costs of the entries. After each call that writes
+/// nothing through a reference, it is still this sum. Each `Summing` has such a running total (`IsAccount`).
 pub fn calls_keep_sums<K: Eq + Hash, V, I: LookupKey<K>, L: Insertion<K, V, I>, S: KeyHasher<K>>()
     ensures { (cost : K → V → ℕ) (account : L → ℕ) → IsAccount L.rules L.offers cost account →
         (old new : State K V L S) →
@@ -35,8 +37,9 @@ pub fn calls_keep_sums<K: Eq + Hash, V, I: LookupKey<K>, L: Insertion<K, V, I>, 
         IsSummed cost account old → IsSummed cost account new }
 {}
 
-/// Suppose that the limiter limits the length to `most` entries (`LimitsLength`), as `ByLength` does. Each call leaves
-/// this limit as it is. If there were at most `most` entries before a call, there are at most `most` after it.
+/// Suppose that the limiter limits the length to `most` entries (`LimitsLength`), as `ByLength` does. No call changes
+/// this limit (`limit`). If there are at most `most` entries before a call, there are at most `most` after it
+/// (`length`).
 pub fn calls_keep_the_length<K: Eq + Hash, V, L: Insertion<K, V, K>, S: KeyHasher<K>>()
     ensures limit { (most : L → ℕ) → LimitsLength L.rules L.offers most → (old new : State K V L S) →
         Step L.rules L.offers K.eq S.hash_of old new → most new.limiter ≡ most old.limiter }
@@ -45,9 +48,9 @@ pub fn calls_keep_the_length<K: Eq + Hash, V, L: Insertion<K, V, K>, S: KeyHashe
         length old.pairs ≤ most old.limiter → length new.pairs ≤ most old.limiter }
 {}
 
-/// Suppose that the limiter permits tables of at most `most` bytes (`LimitsMemory`), as `ByMemoryUsage` does, alone, in
-/// `Storing` or in `Both`. Each call leaves this limit as it is. If the table had at most `most` bytes before a call,
-/// it has at most `most` after it.
+/// Suppose that the limiter permits only tables of at most `most` bytes (`LimitsMemory`). `ByMemoryUsage` does so,
+/// alone or in `Storing` or `Both`. No call changes this limit (`limit`). If the table takes at most `most` bytes
+/// before a call, it takes at most `most` bytes after it (`usage`).
 pub fn calls_keep_the_memory_usage<K: Eq + Hash, V, L: Insertion<K, V, K>, S: KeyHasher<K>>()
     ensures limit { (most : L → ℕ) → LimitsMemory L.rules L.offers most → (old new : State K V L S) →
         Step L.rules L.offers K.eq S.hash_of old new → most new.limiter ≡ most old.limiter }
@@ -56,8 +59,9 @@ pub fn calls_keep_the_memory_usage<K: Eq + Hash, V, L: Insertion<K, V, K>, S: Ke
         UsesAtMost (most old.limiter) old → UsesAtMost (most old.limiter) new }
 {}
 
-/// With any limiter that has a budget, as `ByCost` and `ByWeight` have, each call leaves the budget as it is. If the
-/// running total was the sum of the costs of the entries, and at most the budget, it stays at most the budget.
+/// Suppose that the limiter has a budget, as `ByCost` and `ByWeight` have. No call changes the budget (`budget`).
+/// Suppose that the running total is the sum of the costs of the entries, and at most the budget. Then it is at most
+/// the budget after each call (`total`).
 pub fn calls_keep_the_budget<K: Eq + Hash, V, L: Budgeted<K, V>, S: KeyHasher<K>>()
     ensures budget { (old new : State K V L S) →
         Step L.rules (offers_of L.terms) K.eq S.hash_of old new → L.budget_of new.limiter ≡ L.budget_of old.limiter }
@@ -67,7 +71,7 @@ pub fn calls_keep_the_budget<K: Eq + Hash, V, L: Budgeted<K, V>, S: KeyHasher<K>
         L.account new.limiter ≤ L.budget_of new.limiter }
 {}
 
-/// No call adds more than one entry.
+/// Each call adds at most one entry.
 pub fn calls_add_one_pair<
     K: Eq + Hash,
     V,
@@ -80,11 +84,11 @@ pub fn calls_add_one_pair<
         length new.pairs ≤ length old.pairs + 1 }
 {}
 
-/// A call evicts only from the old end. Take the entries whose keys the call does not name: those that stay are the
-/// newest of them, in the same order. This excludes `pop_newest`, which removes the newest entry.
+/// A call evicts only the oldest of the entries whose keys it does not name. The newest of these entries stay, in their
+/// order. The law excludes `pop_newest`, which removes the newest entry.
 ///
-/// A call names the key that it inserts, looks up or removes, or whose value it writes. A retain names the keys that
-/// its closure rejects.
+/// A call names the key that it inserts, updates, looks up or removes, and the key whose value it writes. A retain
+/// names the keys that its closure rejects.
 pub fn calls_evict_the_oldest<
     K: Eq + Hash,
     V,

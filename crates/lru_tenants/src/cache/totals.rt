@@ -17,7 +17,7 @@ impl<N: Eq + Hash, K: Eq + Hash, V, L: Budgeted<K, V>, S: KeyHasher<K> + Copy> T
     L,
     S,
 > {
-    /// Sets the greatest sum that the budgets of all tenants may have, or that nothing limits their sum.
+    /// Sets the limit of the sum of all tenants' budgets. `None` means that there is no limit.
     ///
     /// ```
     /// assert_eq!(rt; cache.set_total_limit(Some(5)), Ok(()));
@@ -28,7 +28,7 @@ impl<N: Eq + Hash, K: Eq + Hash, V, L: Budgeted<K, V>, S: KeyHasher<K> + Copy> T
     ///
     /// # Errors
     ///
-    /// `OverTotal`: the sum is above the limit.
+    /// `OverTotal`: the sum is above the limit, and nothing has changed.
     pub fn set_total_limit(&mut self, limit: Option<u64>) -> Result<(), TenantError>
         ensures over { is_above limit (budgets L.budget_of self.old) ≡ true →
             (result ≡ Err OverTotal) × (self.new ≡ self.old) }
@@ -42,7 +42,7 @@ impl<N: Eq + Hash, K: Eq + Hash, V, L: Budgeted<K, V>, S: KeyHasher<K> + Copy> T
         Ok(())
     }
 
-    /// Returns the greatest sum that the budgets of all tenants may have, if there is a limit.
+    /// Returns the limit of the sum of all tenants' budgets, if there is one.
     ///
     /// ```
     /// assert_eq!(rt; cache.set_total_limit(Some(5)), Ok(()));

@@ -32,7 +32,7 @@ impl Lives {
     }
 }
 
-/// A number that is counted while it lives.
+/// A number. `lives` counts how many numbers are alive.
 #[derive_where(PartialEq, Eq, Hash)]
 pub struct Live<'a> {
     pub number: u64,

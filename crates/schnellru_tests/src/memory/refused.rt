@@ -1,4 +1,4 @@
-//! Copies of texts, and keys that the limiter makes. Their requests for memory are refused in turn.
+//! Copies of texts, and keys that the limiter makes. Each request for memory is refused in turn.
 use schnellru::LruMap;
 use std::alloc::Global;
 use test_helpers::{Counting, Hog, InsertKey, check};
