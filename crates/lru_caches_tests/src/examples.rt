@@ -100,42 +100,44 @@ fn cache_1(cache: &mut Cache<'_>) -> bool {
         rewrite(cache),
         cache.read_with(1, |block| *block / 2) == Ok(10),
         rewrite(cache),
+        cache.prefetch(2..4) == Ok(()) && cache.contains(2) && cache.contains(3),
+        rewrite(cache),
         (cache.write_with(1, |block| *block = 21), cache.read(1)) == (Ok(()), Ok(21)),
         rewrite(cache),
         (cache.dirty_len(), cache.flush_page(1), cache.dirty_len()) == (1, Ok(()), 0),
         cache.device().blocks == [10, 20, 12, 13],
         rewrite(cache),
-        cache.dirty_len() == 1,
-        rewrite(cache),
-        (cache.pin(0), cache.pin(1), cache.read(2)) == (Ok(()), Ok(()), Err(PageError::Full)),
-        cache.is_pinned(0) && cache.unpin(0) && !cache.is_pinned(0)
+        cache.dirty_len() == 1
     )
 }
 
 fn cache_2(cache: &mut Cache<'_>) -> bool {
-    let held = rewrite(cache);
+    let held = all!(
+        rewrite(cache),
+        (cache.pin(0), cache.pin(1), cache.read(2)) == (Ok(()), Ok(()), Err(PageError::Full)),
+        cache.is_pinned(0) && cache.unpin(0) && !cache.is_pinned(0),
+        rewrite(cache)
+    );
     cache.set_keeps_dirty(true);
-    let held = held
-        & all!(
-            (cache.keeps_dirty(), cache.write(0, 10), cache.read(2))
-                == (true, Ok(()), Err(PageError::Full)),
-            rewrite(cache),
-            cache.read(4) == Err(PageError::NoBlock),
-            rewrite(cache),
-            cache.contains(1) && !cache.contains(2)
-        );
+    held & all!(
+        (cache.keeps_dirty(), cache.write(0, 10), cache.read(2))
+            == (true, Ok(()), Err(PageError::Full)),
+        rewrite(cache),
+        cache.read(4) == Err(PageError::NoBlock),
+        rewrite(cache),
+        cache.contains(1) && !cache.contains(2)
+    )
+}
+
+fn cache_3(cache: &mut Cache<'_>) -> bool {
+    let held = rewrite(cache);
     let (hits, misses) = (cache.hits(), cache.misses());
     held & all!(
         cache.read(1) == Ok(20)
             && cache.hits() == hits.saturating_add(1)
             && cache.misses() == misses,
         rewrite(cache),
-        cache.device().blocks == [10, 11, 12, 13]
-    )
-}
-
-fn cache_3(cache: &mut Cache<'_>) -> bool {
-    all!(
+        cache.device().blocks == [10, 11, 12, 13],
         rewrite(cache),
         cache.flush() == Ok(()),
         cache.device().blocks == [10, 20, 12, 13]
