@@ -1,4 +1,4 @@
--- Limits by length and by the bytes of a table, as laws of a limiter. The limiter may do other things, too.
+-- Laws of a limiter that limits the length, or the bytes of the table. The limiter may do other things, too.
 --     IsFixed rules offers number          no callback changes this number of the limiter
 --     LimitsLength rules offers most       a map that is not over the limit has at most `most` entries
 --     LimitsMemory rules offers most       a table that the limiter permits has at most `most` bytes
@@ -37,7 +37,7 @@ module _ {K V S I : Type 0} (rules : Rules K V S) (offers : Offers K V S I) wher
     pub within : (s : S) (bytes : ℕ) → (rules.on_grow s bytes).allowed ≡ true → bytes ≤ most s
 
 module _ {K V : Type 0} where
-  -- the number of a limiter that never changes
+  -- a limiter that never changes keeps each number
   pub plain-fixed : {S : Type 0} {over grants : S → ℕ → Bool} {admits : S → K → V → Bool} (number : S → ℕ)
       → IsFixed (plain over grants) (offers_of (never_changes admits)) number
   plain-fixed number = record {

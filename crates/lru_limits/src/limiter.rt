@@ -27,11 +27,11 @@ pub trait Limiter<K, V> {
 
     /// Returns whether a map of `length` entries is over the limit. If so, the map evicts its oldest entry.
     ///
-    /// Called at two times:
+    /// Called in two cases:
     ///
     /// - Before an insert stores a new entry in a map that is not empty, with the length after the insert. `try_insert`
     ///   calls it on a copy of the limiter, even if the map is empty.
-    /// - By `trim` and `set_limiter`, and by an insert or an update that stored an entry or replaced a value, with the
+    /// - In `trim` and `set_limiter`, and after an insert or an update stored an entry or replaced a value, with the
     ///   length of the map. Called again after each eviction, but not for an empty map.
     fn is_over_the_limit(&self, length: usize) -> bool
         ensures { result ≡ rules.is_over_the_limit self.now length };

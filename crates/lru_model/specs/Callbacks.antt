@@ -15,7 +15,7 @@ use Rattle.lru_model.specs.Inserts.{Insert}
 
 module _ {K V S : Type 0} where
   -- The limiter with a list as part of its state. `on_removed` appends the removed pair, as the limiter leaves it, to
-  -- the list. The list has no other effect.
+  -- the list. The list affects nothing else.
   abbrev pub noting : Rules K V S → Rules K V (S × List (K × V))
   noting rules = record {
     is_over_the_limit = λ s n. rules.is_over_the_limit s.0 n;

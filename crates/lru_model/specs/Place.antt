@@ -114,7 +114,7 @@ module _ {K V S H : Type 0} (rules : Rules K V S) where
     denied : (count bytes : ℕ) → table_for 1 old ≡ new_table count bytes → Denies bytes old →
         mid ≡ asked bytes old → CannotGrow old mid
 
-  -- The oldest pairs of `mid` are evicted until a bucket takes the new pair. Once fewer pairs are left than half of the
+  -- The oldest pairs of `mid` are evicted until a bucket takes the new pair. Once the pairs fill less than half of the
   -- capacity, the table is rehashed, and no more pairs are evicted. If there is no pair to evict, the new pair is not
   -- stored. `old` and `mid` are the maps of `CannotGrow`.
   pub data Evicts (hash : ℕ) (pair : K × V) (old mid : State K V S H) (outcome : Outcome)

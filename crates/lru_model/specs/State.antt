@@ -48,7 +48,7 @@ pub record State (K V S H : Type 0) : Type 0 where
   -- the number of the link `MAX`; each bucket has a smaller number
   pub max : ℕ
 
--- The table is sound: what holds of the bucket states and the counts of every map of n pairs.
+-- A sound table: what holds for the bucket states and the counts of every map of n pairs.
 pub record IsSound (n entry_bytes max : ℕ) (states : List BucketState) (counts : Counts) : Type 0 where
   pub table : IsTable states
   pub taken : entry_count states ≡ n
@@ -128,7 +128,7 @@ module _ {K V S H : Type 0} where
   abbrev pub place_in : (K → Bool) → State K V S H → Option ℕ
   place_in names st = place_of names st.pairs st.table.places
 
-  -- The table is sound: what holds of the table and the counts of every map. This says nothing about the keys.
+  -- A sound table: what holds for the table and the counts of every map. This says nothing about the keys.
   abbrev pub IsSized : State K V S H → Type 0
   IsSized st = IsSound (length st.pairs) st.entry_bytes st.max st.table.states st.counts
 
@@ -136,7 +136,7 @@ module _ {K V S H : Type 0} where
   abbrev pub potential : State K V S H → ℕ
   potential st = full_capacity (buckets st) - 2 * growth_left st
 
-  -- what holds of every map
+  -- what holds for every map
   pub record IsMap (eq : K → K → Bool) (st : State K V S H) : Type 0 where
     pub distinct : IsDistinct eq (keys_of st.pairs)
     pub sized : IsSized st

@@ -33,19 +33,18 @@ module _ {K V S : Type 0} (terms : Terms K V S) (rules : Rules K V S) where
 
     module _ (eq : K → K → Bool) (hash_of : H → K → ℕ) where
       pub data TryInsert (result : Result (Unit {0}) (K × V)) (new : State K V S H) : Type 0 where
-        -- If the key is there, or if the limiter cannot store the pair, nothing changes.
+        -- If the key is there, or if `can_store` is false, nothing changes.
         there : (pair : K × V) → lookup_entry (eq key) old.pairs ≡ Some pair →
             result ≡ Err (key, value) → new ≡ old →
             TryInsert result new
         cannot_store : lookup_entry (eq key) old.pairs ≡ None → can_store key value (contents old) ≡ false →
             result ≡ Err (key, value) → new ≡ old →
             TryInsert result new
-        -- The limiter can store the pair, but no growth is left. Either the reservation fails, or the limiter cannot
-        -- store the pair after the reservation.
+        -- `can_store` is true, but no growth is left. Either the reservation fails, or `can_store` is false after it.
         unready : lookup_entry (eq key) old.pairs ≡ None → can_store key value (contents old) ≡ true →
             IsUnready new → result ≡ Err (key, value) →
             TryInsert result new
-        -- The limiter can store the pair, and the pair is inserted.
+        -- `can_store` is true, and the pair is inserted.
         inserted : lookup_entry (eq key) old.pairs ≡ None → can_store key value (contents old) ≡ true →
             (ready : State K V S H) → IsReady rules old ready → can_store key value (contents ready) ≡ true →
             result ≡ Ok tt → Insert rules (offers_of terms) eq hash_of key value ready (Ok true) new →

@@ -44,7 +44,7 @@ impl<T> Table<T> {
         self.len
     }
 
-    /// Returns the growth left: how many more entries are sure to find an empty bucket.
+    /// Returns the growth left: how many empty buckets may still be filled.
     #[inline]
     pub fn growth_left(&self) -> usize
         ensures value { result ≡ growth_left (bucket_states self.now.slots) }

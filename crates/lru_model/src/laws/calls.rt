@@ -1,6 +1,5 @@
 //! What is proved of every call. A step is the change that one call makes to a map (`specs/Runs`). `Step` describes a
-//! call that writes nothing through a reference. `AnyStep` also describes a write to a value, and a change of the
-//! limiter.
+//! call that does not set the limiter. `AnyStep` also describes a change of the limiter, and a write to a value.
 
 ghost use Rattle.std.specs.Prelude.{◌≡◌, ℕ, ◌+◌, ◌≤◌, Bool, length};
 ghost use Rattle.std.specs.List.{IsDistinct};
@@ -28,8 +27,8 @@ pub fn calls_keep_maps<K: Eq + Hash, V, I: LookupKey<K>, L: Insertion<K, V, I>, 
         IsMap K.eq old → IsSized new → IsMap K.eq new }
 {}
 
-/// Suppose that the running total of the limiter is the sum of the costs of the entries. After each call that writes
-/// nothing through a reference, it is still this sum. Each `Summing` has such a running total (`IsAccount`).
+/// Suppose that the running total of the limiter is the sum of the costs of the entries. After each `Step` it is still
+/// this sum. Each `Summing` has such a running total (`IsAccount`).
 pub fn calls_keep_sums<K: Eq + Hash, V, I: LookupKey<K>, L: Insertion<K, V, I>, S: KeyHasher<K>>()
     ensures { (cost : K → V → ℕ) (account : L → ℕ) → IsAccount L.rules L.offers cost account →
         (old new : State K V L S) →
@@ -37,8 +36,8 @@ pub fn calls_keep_sums<K: Eq + Hash, V, I: LookupKey<K>, L: Insertion<K, V, I>, 
         IsSummed cost account old → IsSummed cost account new }
 {}
 
-/// Suppose that the limiter limits the length to `most` entries (`LimitsLength`), as `ByLength` does. No call changes
-/// this limit (`limit`). If there are at most `most` entries before a call, there are at most `most` after it
+/// Suppose that the limiter limits the length to `most` entries (`LimitsLength`), as `ByLength` does. No `Step` changes
+/// this limit (`limit`). If there are at most `most` entries before a `Step`, there are at most `most` after it
 /// (`length`).
 pub fn calls_keep_the_length<K: Eq + Hash, V, L: Insertion<K, V, K>, S: KeyHasher<K>>()
     ensures limit { (most : L → ℕ) → LimitsLength L.rules L.offers most → (old new : State K V L S) →
@@ -49,8 +48,8 @@ pub fn calls_keep_the_length<K: Eq + Hash, V, L: Insertion<K, V, K>, S: KeyHashe
 {}
 
 /// Suppose that the limiter permits only tables of at most `most` bytes (`LimitsMemory`). `ByMemoryUsage` does so,
-/// alone or in `Storing` or `Both`. No call changes this limit (`limit`). If the table takes at most `most` bytes
-/// before a call, it takes at most `most` bytes after it (`usage`).
+/// alone or in `Storing` or `Both`. No `Step` changes this limit (`limit`). If the table takes at most `most` bytes
+/// before a `Step`, it takes at most `most` bytes after it (`usage`).
 pub fn calls_keep_the_memory_usage<K: Eq + Hash, V, L: Insertion<K, V, K>, S: KeyHasher<K>>()
     ensures limit { (most : L → ℕ) → LimitsMemory L.rules L.offers most → (old new : State K V L S) →
         Step L.rules L.offers K.eq S.hash_of old new → most new.limiter ≡ most old.limiter }
@@ -59,9 +58,9 @@ pub fn calls_keep_the_memory_usage<K: Eq + Hash, V, L: Insertion<K, V, K>, S: Ke
         UsesAtMost (most old.limiter) old → UsesAtMost (most old.limiter) new }
 {}
 
-/// Suppose that the limiter has a budget, as `ByCost` and `ByWeight` have. No call changes the budget (`budget`).
+/// Suppose that the limiter has a budget, as `ByCost` and `ByWeight` have. No `Step` changes the budget (`budget`).
 /// Suppose that the running total is the sum of the costs of the entries, and at most the budget. Then it is at most
-/// the budget after each call (`total`).
+/// the budget after each `Step` (`total`).
 pub fn calls_keep_the_budget<K: Eq + Hash, V, L: Budgeted<K, V>, S: KeyHasher<K>>()
     ensures budget { (old new : State K V L S) →
         Step L.rules (offers_of L.terms) K.eq S.hash_of old new → L.budget_of new.limiter ≡ L.budget_of old.limiter }

@@ -1,4 +1,4 @@
-//! `Chain`: a table whose entries have links to their neighbours. Each change of the order changes a few entries.
+//! `Chain`: a table whose entries have links to their neighbours. Reordering writes at most four entries.
 ghost use Rattle.std.specs.Prelude.{◌≡◌, ◌≢◌, ◌⊎◌, ◌<◌, ◌≤◌, ℕ, [], ◌∷◌, ◌++◌, List, Some, Contains, map, length};
 ghost use Rattle.std.specs.Prelude.{IsTrue, MatchBool};
 ghost use Rattle.group_table.specs.Bucket.{Slot, IsFull};

@@ -54,7 +54,7 @@ module _ (K V L S N H : RattleType) (key : HashMembers K.Denot)
         × (n ≡ written (key.eq pair.0) last (turned (key.eq pair.0) m.now))))
         (λ n. IfNone r (n ≡ m.now))
 
-    -- The newest pair of the map ends with the last value written through r. If r is `None`, the map does not change.
+    -- After the loan the newest pair has the last value written through r. If r is `None`, the map does not change.
     abbrev pub lends_newest : Option (MutBor V.Denot) → Fml
     lends_newest r = LendsIf map_row V m r (λ last. record m.now { pairs = set_newest m.now.pairs last }) m.now
 
@@ -62,11 +62,11 @@ module _ (K V L S N H : RattleType) (key : HashMembers K.Denot)
     abbrev pub lends_newest_value : MutBor V.Denot → Fml
     lends_newest_value r = Lends map_row V m r (λ last. record m.now { pairs = set_newest m.now.pairs last })
 
-    -- the pair in bucket b ends with the last value written through r
+    -- after the loan bucket b has the last value written through r
     abbrev pub lends_value_in : ℕ → MutBor V.Denot → Fml
     lends_value_in b r = Lends map_row V m r (λ last. written_in b last m.now)
 
-    -- the pair at position i ends with the last value written through r
+    -- after the loan position i has the last value written through r
     abbrev pub lends_value_at : ℕ → Bor K.Denot × MutBor V.Denot → Fml
     lends_value_at i r = follows map_row V m.ghost_name r.1.ghost_name
         (λ last. record m.now { pairs = set_value_at m.now.pairs i last })
