@@ -85,6 +85,7 @@ impl<K: Eq + Hash + Drop, V: Drop, L: Admission<K, V> + Copy, S: KeyHasher<K>> L
         ensures unchanged { 0 < growth_left self.old → OnErr result (self.new ≡ self.old) }
         ensures map { IsMap K.eq self.new }
     {
+        let _ = &self.entries;
         let inserted = self.try_insert_if_absent(hash, key, value);
         let _ = &self.entries;
         inserted
