@@ -1,5 +1,5 @@
 -- What follows from what a call returned.
-use Rattle.std.proofs.Common.{◌≡◌, true, false, Option, Some, None, is_some, Result, Ok, Err, OnOk, IfOk, refl}
+use Rattle.std.proofs.Common.{◌≡◌, true, false, Option, Some, None, is_some, Result, Ok, Err, OnOk, IfOk, OnSome, refl}
 use Rattle.std.proofs.lemmas.Bool.{true≢false, false≢true}
 
 module _ {X : Type 0} where
@@ -10,6 +10,10 @@ module _ {X : Type 0} where
   pub some_there : (o : Option X) → is_some o ≡ true → (x : X) × (o ≡ Some x)
   some_there None e = absurd (false≢true e)
   some_there (Some x) e = (x, refl)
+
+pub on_some : {X P : Type 0} (o : Option X) (x : X) → o ≡ Some x → OnSome o P → P
+on_some None x is h = absurd (cc)
+on_some (Some y) x is h = h
 
 module _ {T E : Type 0} where
   pub on_ok : {P Q : Type 0} (r : Result T E) → (P → Q) → OnOk r P → OnOk r Q

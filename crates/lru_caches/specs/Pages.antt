@@ -235,7 +235,7 @@ module _ {B D E S : Type 0} (d : device.Ghosts D B E S) where
     pub block : B
     pub shows : d.IsHonest new.device → shown new n ≡ Some (d.seen block)
     pub pages : new.pages ≡ pages_read n block old
-    pub uses : UsesPage n old (Ok tt) new
+    pub uses : UsesPage {A = Unit {0}} n old (Ok tt) new
 
   -- `count` pages were read, one after another, from page `start` on
   abbrev pub ReadsPages : ℕ → ℕ → Cached B D → Cached B D → Type 0

@@ -3,6 +3,7 @@ ghost use Rattle.std.specs.Prelude.{◌≡◌, ◌≢◌, ◌⊎◌, ◌≤◌, 
 ghost use Rattle.std.specs.Prelude.{is_some, true, false, if◌then◌else◌, IsTrue, IfErr, IfOk, OnOk, OnErr};
 ghost use Rattle.std.specs.Fn.{FnOnceReturnsAt, FnOnceReturnsAtMut};
 ghost use Rattle.std.specs.Map.{lookup};
+ghost use Rattle.lru_model.specs.Calls.{promoted};
 ghost use Rattle.lru_model.specs.Lists.{without};
 ghost use Rattle.lru_caches.specs.Pages.{block_at, evicted, goes_dirty, hit, is_pinned, may_go, missed, unpinned_at};
 ghost use Rattle.lru_caches.specs.Pages.{AreClean, AreThere, CrashAdds, CrashKeeps, IsFault, Serves};
@@ -139,10 +140,24 @@ pub(super) fn promote<B: Copy, S: KeyHasher<u64>>(
     ensures hasher { map.new.hasher ≡ map.old.hasher }
     ensures counts { counts.new ≡ (if result then hit counts.old else counts.old) }
 {
-    let _len = map.len();
-    let there = map.get_by_hash(hash, |other, _| *other == n).is_some();
+    let there = promote_hashed(map, hash, n);
     counts.count_hit_if(there);
     there
+}
+
+fn promote_hashed<B: Copy, S: KeyHasher<u64>>(map: &mut Pages<B, S>, hash: u64, n: u64) -> bool
+    requires { hash ≡ S.hash_of map.old.hasher n }
+    ensures there { result ≡ is_some (lookup (nat_eq n) map.old.pairs) }
+    ensures promoted { map.new ≡ promoted (nat_eq n) map.old }
+{
+    let _len = map.len();
+    match map.get_by_hash(hash, |other, _| *other == n) {
+        Some(page) => {
+            let _dirty = page.is_dirty;
+            true
+        }
+        None => false,
+    }
 }
 
 /// Replaces the block of a page, makes the page dirty and the newest, and returns whether it is cached.

@@ -32,5 +32,6 @@ returns g c =
       kept = tt;
       absent = λ m none. ap (lookup (nat_eq m)) left ∙ absent-gone pages distinct n m none;
       evicted = left ∙ sym (ap (λ o. evicted o pages) c.in-Some.is);
+      hasher = ap (λ st. st.hasher) c.remove.ensures.step.state.is;
       no_more = subst (λ l. length l ≤ length pages) (sym left) (length-without (nat_eq n) pages);
     }

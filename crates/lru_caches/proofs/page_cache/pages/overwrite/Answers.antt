@@ -1,24 +1,46 @@
-use Rattle.std.proofs.Common.{◌∷◌, nat_eq, Some, true, sym, ap, ◌∙◌}
+use Rattle.std.proofs.Common.{◌≡◌, ◌∷◌, nat_eq, length, cond, Some, sym, ap, ◌∙◌}
+use Rattle.std.proofs.lemmas.Cmp.{nat_eq_equiv}
+use Rattle.std.specs.Map.{lookup}
 use Rattle.lru_model.specs.Lists.{without}
-use Rattle.lru_model.proofs.CallerLemmas.{written-found}
 use Rattle.lru_caches.specs.Pages.{is_pinned}
+use Rattle.lru_caches.proofs.Outcomes.{some_there}
 use Rattle.lru_caches.proofs.PageOrder.{written-first}
 use Rattle.lru_caches.proofs.PageLists.{others_written, length-written}
 use Rattle.lru_caches.proofs.page_cache.pages.overwrite.Goals as goal
 
-pub returns-in-Some-clause-written : goal.returns-in-Some-clause-written
-returns-in-Some-clause-written g c = λ _.
-    written-found (nat_eq c.args.n) c.args.map.now c.in-Some.page.now _ (sym c.in-Some.ensures.value)
-    ∙ ap (λ o. Some (record { block = c.args.block; is_dirty = true; is_pinned = is_pinned o })) c.in-Some.ensures.value
+pub returns-clause-used : goal.returns-clause-used
+returns-clause-used g c =
+    let n = c.args.n in
+    let was = c.args.map.now.pairs in
+    let (page, found) = some_there (lookup (nat_eq n) was) (sym c.promote.ensures.there ∙ c.if-not-promote.false) in λ _.
+    c.fill_newest.ensures n page (without (nat_eq n) was) (c.promote.ensures.used page found)
+    ∙ ap (λ o. (n, record { block = c.args.block; is_dirty = true; is_pinned = is_pinned o })
+    ∷ without (nat_eq n) was) (sym found)
 
-pub returns-in-Some-clause-others : goal.returns-in-Some-clause-others
-returns-in-Some-clause-others g c = λ m apart. others_written m c.args.n apart c.args.map.now.pairs _
+pub returns-clause-written : goal.returns-clause-written
+returns-clause-written g c =
+    let n = c.args.n in
+    let was = c.args.map.now.pairs in
+    let page = record {
+      block = c.args.block;
+      is_dirty = true;
+      is_pinned = is_pinned (lookup (nat_eq n) was);
+    } in λ yes.
+    ap (lookup (nat_eq n)) (returns-clause-used g c yes)
+    ∙ ap (λ b. cond b (Some page) (lookup (nat_eq n) (without (nat_eq n) was))) (nat_eq_equiv.refl n)
 
-pub returns-in-Some-clause-len : goal.returns-in-Some-clause-len
-returns-in-Some-clause-len g c = length-written (nat_eq c.args.n) c.args.map.now.pairs _
+pub returns-clause-others : goal.returns-clause-others
+returns-clause-others g c =
+    let n = c.args.n in
+    let was = c.args.map.now.pairs in
+    let (page, found) = some_there (lookup (nat_eq n) was) (sym c.promote.ensures.there ∙ c.if-not-promote.false) in λ m apart.
+    ap (lookup (nat_eq m)) (c.fill_newest.ensures n page (without (nat_eq n) was) (c.promote.ensures.used page found)
+    ∙ sym (written-first n was page _ found)) ∙ others_written m n apart was _
 
-pub returns-in-Some-clause-used : goal.returns-in-Some-clause-used
-returns-in-Some-clause-used g c = λ _.
-    written-first c.args.n c.args.map.now.pairs c.in-Some.page.now _ (sym c.in-Some.ensures.value)
-    ∙ ap (λ o. (c.args.n, record { block = c.args.block; is_dirty = true; is_pinned = is_pinned o })
-    ∷ without (nat_eq c.args.n) c.args.map.now.pairs) c.in-Some.ensures.value
+pub returns-clause-len : goal.returns-clause-len
+returns-clause-len g c =
+    let n = c.args.n in
+    let was = c.args.map.now.pairs in
+    let (page, found) = some_there (lookup (nat_eq n) was) (sym c.promote.ensures.there ∙ c.if-not-promote.false) in
+    ap length (c.fill_newest.ensures n page (without (nat_eq n) was) (c.promote.ensures.used page found)
+    ∙ sym (written-first n was page _ found)) ∙ length-written (nat_eq n) was _

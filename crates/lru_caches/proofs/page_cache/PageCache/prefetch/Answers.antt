@@ -1,0 +1,52 @@
+use Rattle.std.proofs.Common.{◌≡◌, ◌+◌, ◌-◌, suc, sym, ◌∙◌, subst, arith}
+use Rattle.std.proofs.lemmas.Result.{err_from_is_err_and}
+use Rattle.lru_caches.specs.Pages.{ReadsPage, ReadsPages, UsesPage}
+use Rattle.lru_caches.proofs.Blocks.{good-before}
+use Rattle.lru_caches.proofs.page_cache.PageCache.prefetch.Goals as goal
+
+pub loop-n-preserved : goal.loop-n-preserved
+loop-n-preserved g c =
+    let d = g.D.BlockDevice in
+    let start = c.args.blocks.start in
+    let n = c.loop-n.n in
+    let h = c.loop-n.invariant in
+    let old = c.loop-n.self in
+    let new = c.bring.new.self in
+    let did = c.in_ok-bring.ensures in
+    let (block, shows, pages) = did.page in
+    let one : n + 1 - start ≡ suc (n - start) = omega (arith, h.from) in
+    let at : start + (n - start) ≡ n = omega (arith, h.from) in
+    record {
+      from = omega (arith, h.from);
+      reads = subst (λ k. ReadsPages d start k c.args.self.now new) (sym one) (
+        old,
+        h.reads,
+        subst (λ m. ReadsPage d m old new) (sym at)
+            (record { block = block; shows = shows; pages = pages; uses = did.uses }),
+      );
+      keeps = λ good m b is. did.keeps good m b (h.keeps (good-before d old.device new.device did.uses.serves good) m b is);
+      capacity = did.uses.capacity ∙ h.capacity;
+      mode = did.uses.mode ∙ h.mode;
+    }
+
+pub returns-in_err-bring-clause-failed : goal.returns-in_err-bring-clause-failed
+returns-in_err-bring-clause-failed g c =
+    let d = g.D.BlockDevice in
+    let start = c.args.blocks.start in
+    let n = c.loop-n.n in
+    let h = c.loop-n.invariant in
+    let at : start + (n - start) ≡ n = omega (arith, h.from) in
+    let failed = err_from_is_err_and c.from_residual.result c.from_residual.ensures.1 in
+    rw (failed.1, failed.2) (
+      n - start,
+      omega (arith, h.from, c.loop-n-test.true),
+      c.loop-n.self,
+      h.reads,
+      subst (λ m. UsesPage d m c.loop-n.self _ c.bring.new.self) (sym at) c.in_err-bring.ensures.uses,
+    )
+
+pub returns-clause-reads : goal.returns-clause-reads
+returns-clause-reads g c =
+    let start = c.args.blocks.start in
+    let all : c.loop-n.n - start ≡ c.args.blocks.end - start = omega (arith, c.loop-n.invariant.from) in
+    subst (λ k. ReadsPages g.D.BlockDevice start k c.args.self.now c.loop-n.self) all c.loop-n.invariant.reads
