@@ -21,8 +21,8 @@ module _ {K V S H I : Type 0} (rules : Rules K V S) (offers : Offers K V S I) (n
   -- a new key, is in the map or was passed to the callback. `passed` lists what the callback got, in order.
   pub data LosesNothing (i : I) (v : V) (old : State K V S H) (result : Result Bool AllocError)
       (passed : List (K × V)) (new : State K V S H) : Type 0 where
-    -- A pair is stored as the newest, before the old pairs of other keys. The callback got the oldest of these pairs.
-    -- (If no pair is left, the stored pair was evicted, too.)
+    -- A pair is stored as the newest, before the old pairs of other keys. Then the oldest pairs were evicted. If no
+    -- pair is left, the stored pair was evicted, too.
     stored : (pair : K × V) → Stores rules offers names i v old pair →
         result ≡ Ok (not (is_empty new.pairs)) →
         new.pairs ++ reverse passed ≡ pair ∷ without (names i) old.pairs →
@@ -47,7 +47,7 @@ module _ {K V S H I : Type 0} (rules : Rules K V S) (offers : Offers K V S I) (n
         (evicted : List (K × V)) → passed ≡ evicted ++ pair ∷ [] → new.pairs ++ reverse evicted ≡ old.pairs →
         LosesNothing i v old result passed new
 
-  -- The pair is added, and all others stay. The number of buckets stays, and the growth left falls by at most one.
+  -- The pair is added, and all other pairs stay. The number of buckets stays. The growth left falls by at most one.
   pub record IsAdded (i : I) (v : V) (pair : K × V) (old : State K V S H) (result : Result Bool AllocError)
       (new : State K V S H) : Type 0 where
     pub answer : result ≡ Ok true

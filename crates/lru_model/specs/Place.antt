@@ -39,14 +39,14 @@ pub record NoBucketTakes (hash n : ℕ) (states : List BucketState) : Type 0 whe
   pub first_empty : 0 < n → FirstFreeIs empty hash states
 
 -- No bucket takes a pair of this hash. A rehash is not enough: with one pair more, the table would be more than half
--- full. Either there is no table yet, or the table contains pairs.
+-- full. Either there are no buckets, or the table contains pairs.
 pub record IsTooSmallFor (hash n : ℕ) (states : List BucketState) : Type 0 where
   pub no_bucket : NoBucketTakes hash n states
   pub above_half : full_capacity (length states) / 2 < n + 1
   pub begun : (length states ≡ 0) ⊎ (0 < n)
 
 module _ {K V S H : Type 0} where
-  -- The pair is the newest now. The table has `count` buckets, and `spare` growth left. The insert moved `moves`
+  -- The pair is the newest now. The table has `count` buckets, and its growth left is `spare`. The insert moved `moves`
   -- entries.
   pub record IsPlaced (pair : K × V) (count spare moves : ℕ) (old new : State K V S H) : Type 0 where
     pub table : buckets new ≡ count
@@ -108,7 +108,7 @@ module _ {K V S H : Type 0} (rules : Rules K V S) where
       IsPlacedIfMemory pair count (full_capacity count - length old.pairs - 1) (length old.pairs) old
 
   -- The table cannot grow. Either there is no larger table (`table_for`), and `mid` is `old`. Or the limiter refuses
-  -- the larger table, and `mid` is the map after this query.
+  -- the larger table, and `mid` is the map after the limiter was queried.
   pub data CannotGrow (old mid : State K V S H) : Type 0 where
     no_target : table_for 1 old ≡ no_table → mid ≡ old → CannotGrow old mid
     denied : (count bytes : ℕ) → table_for 1 old ≡ new_table count bytes → Denies bytes old →
