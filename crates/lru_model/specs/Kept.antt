@@ -1,5 +1,4 @@
--- What an insert keeps. An insert loses no pair. If growth is left, and the limiter accepts the new pair and is then
--- not over its limit, the insert evicts nothing. With `ByLength`, an insert leaves the newest pairs.
+-- What an insert keeps (definitions for `src/laws/kept.rt`).
 use Rattle.std.specs.Prelude.{◌≡◌, ◌⊎◌, ℕ, ◌+◌, ◌-◌, ◌^◌, ◌≤◌, ◌<◌, Bool, true, false, not, List, []}
 use Rattle.std.specs.Prelude.{◌∷◌, ◌++◌, length, reverse, take, fold, nat_lt, Option, Some, None, unwrap_or}
 use Rattle.std.specs.Prelude.{option_map, Result, Ok, IsOk, IsErr, OnOk, OnErr}
