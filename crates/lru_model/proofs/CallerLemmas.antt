@@ -26,8 +26,8 @@
 --     shrink_contents      a shrink keeps the pairs and the limiter
 --     usage_bytes          the usage of a table with buckets is `bytes_of`
 --     value_removed        a removal may return only the value of the removed entry
---     step_keeps_number    a call changes a number only if a callback of the limiter does
---     step_stays_short     a call keeps the map within its limit of length
+--     step_keeps_number    a `Step` changes a number only if a callback of the limiter does
+--     step_stays_short     a `Step` keeps the map within its limit of length
 --     any_is_map           each call leaves `IsMap`, if the table is sound
 --     any_step_same        no call changes `hasher`, `max` or `entry_bytes`
 --     lookup-entry, no_pair      `lookup` returns the value of the pair that `lookup_entry` returns

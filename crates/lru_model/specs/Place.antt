@@ -61,7 +61,6 @@ module _ {K V S H : Type 0} where
   abbrev pub IsPlacedInTable : K × V → State K V S H → State K V S H → Type 0
   IsPlacedInTable pair old new = IsPlaced pair (buckets old) (growth_left new) 0 old new
 
-  -- no bucket takes a pair of this hash
   abbrev pub HasNoBucket : ℕ → State K V S H → Type 0
   HasNoBucket hash st = NoBucketTakes hash (length st.pairs) st.table.states
 

@@ -84,8 +84,8 @@ pub record GivesBack (was n : ℕ) (old new : List BucketState) : Type 0 where
 abbrev pub FirstFreeIs : BucketState → ℕ → List BucketState → Type 0
 FirstFreeIs state hash states = (b : ℕ) × IsFirstFree states hash b × (bucket_at states b ≡ state)
 
--- The pair at `place` was removed, and its bucket is free now. If each run of 16 neighbouring buckets around the bucket
--- contained an empty bucket, the bucket is empty now. Otherwise it is deleted. The other buckets keep their states.
+-- The pair at `place` was removed, and its bucket is free now. If each run of 16 neighbouring buckets that includes
+-- this bucket contained an empty bucket, it is empty now. Otherwise it is deleted. The other buckets keep their states.
 pub record Frees (place : Option ℕ) (old new : TableState) : Type 0 where
   pub bucket : ℕ
   pub there : place ≡ Some bucket
@@ -128,7 +128,7 @@ module _ {K V S H : Type 0} where
   abbrev pub place_in : (K → Bool) → State K V S H → Option ℕ
   place_in names st = place_of names st.pairs st.table.places
 
-  -- A sound table: what holds for the table and the counts of every map, whatever its keys are.
+  -- the table is sound, whatever the keys are
   abbrev pub IsSized : State K V S H → Type 0
   IsSized st = IsSound (length st.pairs) st.entry_bytes st.max st.table.states st.counts
 
@@ -142,7 +142,6 @@ module _ {K V S H : Type 0} where
     pub sized : IsSized st
     pub paid : IsPaid (potential st) st.counts
 
-  -- how the growth left and the bucket states change when pairs are removed
   abbrev pub FreesGrowth : State K V S H → State K V S H → Type 0
   FreesGrowth old new = GivesBack (length old.pairs) (length new.pairs) old.table.states new.table.states
 

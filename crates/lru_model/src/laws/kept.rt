@@ -1,5 +1,4 @@
-//! What an insert keeps. An insert loses no entry. If growth is left, and the limiter accepts the new entry and is then
-//! not over its limit, the insert evicts nothing. With `ByLength`, an insert leaves the newest entries.
+//! What an insert keeps: it loses no entry, and with `ByLength` it leaves the newest entries.
 
 ghost use Rattle.std.specs.Prelude.{◌≡◌, ◌⊎◌, ℕ, ◌-◌, ◌^◌, ◌<◌, ◌≤◌, [], ◌∷◌, ◌++◌, length, reverse, Bool};
 ghost use Rattle.std.specs.Prelude.{true, false, Result, Ok, List, None};

@@ -117,8 +117,7 @@ impl<K: Eq + Hash, V, L: Limiter<K, V>, S: KeyHasher<K>> LruMap<K, V, L, S> {
         Ok(self.evict_over_limit(sink))
     }
 
-    // Stores the pair in a deleted bucket if one can take it. The function is out of line, because only inserts without
-    // growth left call it.
+    // Tries a deleted bucket first. The function is out of line, because only inserts without growth left call it.
     #[cold]
     #[inline(never)]
     fn insert_without_growth<F: FnMut(K, V)>(
