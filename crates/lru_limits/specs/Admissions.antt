@@ -1,4 +1,4 @@
--- What a limiter accepts, if it stores each accepted entry unchanged.
+-- What a limiter accepts, if it changes no accepted entry.
 --     Terms K V S                  which entries the limiter accepts, and the limiter after an offer
 --     offers_of terms              the offers: an entry is stored unchanged if the terms accept it
 --     never_changes admits         the terms of a limiter that never changes

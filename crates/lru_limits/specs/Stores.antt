@@ -1,4 +1,4 @@
--- Definitions for limiters that store an entry unchanged.
+-- Definitions for limiters that accept an entry unchanged.
 --     plain over grants                    the rules of a limiter that never changes
 --     rules_at of to rules                 the rules of a wrapper: `of` unwraps the inner limiter, `to` wraps it
 --     ReturnsPairIf accepts s k v t given  t is s, and given is the entry, or `None` if it is rejected

@@ -5,7 +5,7 @@
 --     written-absent       if the key is not there, a write changes nothing
 --     written-found        a look-up finds the value that was written through a get
 --     read-all             if P holds of each pair, it does after a get whose value is not written
---     offers_of-keeps      a limiter that stores pairs unchanged keeps their values
+--     offers_of-keeps      a limiter that accepts pairs unchanged keeps their values
 --     offers_of-determined the state and the arguments determine what this limiter does
 --     offers_of-accepts    when this limiter accepts a pair of a new key
 --     plain-grants, by_weight-grants, by_cost-grants                    these limiters permit every growth

@@ -126,8 +126,8 @@ pub fn inserts_are_exact_unless_refused<
 {}
 
 /// An insert changes the entries as it would change a plain list without a table (`InsertsInList`), under two premises.
-/// `on_grow` permits every growth and changes nothing, as in `ByLength` and the unlimited limiters. A table exists for
-/// the entries, and a table for one entry more (`HasTables`). The insert may still run out of memory.
+/// `on_grow` permits every growth and changes nothing, as in `ByLength` and `Unlimited`. There is a table for the
+/// entries, and a table for one entry more (`HasTables`). The insert may still run out of memory.
 pub fn granted_inserts_are_exact<
     K: Eq + Hash,
     V,
