@@ -89,7 +89,7 @@ module _ {K V S H : Type 0} (rules : Rules K V S) where
   abbrev pub unstored : K × V → State K V S H → State K V S H
   unstored pair st = record st { limiter = (rules.on_removed st.limiter pair.0 pair.1).limiter }
 
-  -- The n oldest pairs were evicted, one after another. Before each eviction no bucket took a pair of this hash.
+  -- The n oldest pairs were evicted, one after another. Before each eviction no bucket could take a pair of this hash.
   abbrev pub OldestEvicted : ℕ → ℕ → State K V S H → State K V S H → Type 0
   OldestEvicted hash zero old new = new ≡ old
   OldestEvicted hash (suc n) old new = (before : State K V S H) × OldestEvicted hash n old before
