@@ -20,9 +20,9 @@ outcome_of (Ok true) = placed
 outcome_of (Ok false) = refused
 outcome_of (Err e) = no_memory
 
--- The newest pair fills the first free bucket that a search for the hash finds. No other bucket changes. If the bucket
--- was empty, the growth left falls by one. If the bucket was deleted, the growth left stays, and the table has more
--- than 16 buckets.
+-- The newest pair fills the first free bucket in a search for the hash. No other bucket changes. If the bucket was
+-- empty, the growth left falls by one. If the bucket was deleted, the growth left stays, and the table has more than 16
+-- buckets.
 pub record FillsBucket (hash : ℕ) (old new : TableState) : Type 0 where
   pub bucket : ℕ
   pub first : IsFirstFree old.states hash bucket
@@ -31,9 +31,8 @@ pub record FillsBucket (hash : ℕ) (old new : TableState) : Type 0 where
   pub spends : ((bucket_at old.states bucket ≡ empty) × (growth_left_of new.states + 1 ≡ growth_left_of old.states))
       ⊎ ((bucket_at old.states bucket ≡ deleted) × (16 < length old.states) × (growth_left_of new.states ≡ growth_left_of old.states))
 
--- No bucket of a table of n pairs takes a pair of this hash. No growth is left, and the first free bucket that a search
--- for the hash finds is empty. A table without pairs is not searched: if it has no growth left, no bucket takes the
--- pair.
+-- No bucket of a table of n pairs takes a pair of this hash. No growth is left, and the first free bucket in a search
+-- for the hash is empty. A table without pairs is not searched: if it has no growth left, no bucket takes the pair.
 pub record NoBucketTakes (hash n : ℕ) (states : List BucketState) : Type 0 where
   pub no_growth_left : growth_left_of states ≡ 0
   pub first_empty : 0 < n → FirstFreeIs empty hash states

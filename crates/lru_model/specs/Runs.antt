@@ -114,6 +114,6 @@ module _ {K V S H : Type 0} (rules : Rules K V S) (hash_of : H → K → ℕ) wh
   abbrev pub StepWithoutInsert : (old new : State K V S H) → Type 0
   StepWithoutInsert = Step rules no_offers no_keys hash_of
 
-  -- these calls, writes of values, and changes of the limiter, one after another
+  -- steps of `StepWithoutInsert`, writes of values, and changes of the limiter, one after another
   abbrev pub RunWithoutInsert : (new old : State K V S H) → Type 0
   RunWithoutInsert = Run (AnyStep rules no_offers no_keys hash_of)

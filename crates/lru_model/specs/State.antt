@@ -80,7 +80,7 @@ pub record GivesBack (was n : ℕ) (old new : List BucketState) : Type 0 where
   -- if no pair was removed, each bucket keeps its state
   pub untouched : n ≡ was → new ≡ old
 
--- the first free bucket (empty or deleted) that a search for the hash finds has this state
+-- the first free bucket (empty or deleted) in a search for the hash has this state
 abbrev pub FirstFreeIs : BucketState → ℕ → List BucketState → Type 0
 FirstFreeIs state hash states = (b : ℕ) × IsFirstFree states hash b × (bucket_at states b ≡ state)
 
