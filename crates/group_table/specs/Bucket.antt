@@ -13,7 +13,7 @@ pub record Tagged (T : Type 0) : Type 0 where
   pub tag : ℕ
   pub entry : T
 
--- a bucket; if it is full, it contains an entry with its tag
+-- a bucket; a full bucket contains an entry and its tag
 abbrev pub Slot : Type 0 → Type 0
 Slot T = Bucket (Tagged T)
 
@@ -57,7 +57,7 @@ module _ {A : Type 0} where
   abbrev pub bucket_states : List (Bucket A) → List BucketState
   bucket_states buckets = map bucket_state buckets
 
--- how many more entries are sure to find an empty bucket
+-- how many empty buckets may still be filled
 unfoldable pub growth_left : List BucketState → ℕ
 growth_left states = full_capacity (length states) - count_by is_used states
 

@@ -1,4 +1,4 @@
--- The values of control bytes. Among public clauses, only those of the module `group` cite this module.
+-- The values of control bytes. The only public clauses that cite this module are in the module `group`.
 use Rattle.std.specs.Prelude.{ℕ, ◌<◌, ◌≤◌}
 
 abbrev pub empty_byte : ℕ

@@ -16,7 +16,7 @@ module _ (R : RattleType) where
   place block o (Some entry) = part_at R full_share entry block o
   place block o None = froom (raw (lone R.mir)) block o
 
-  -- places one behind the other
+  -- adjacent places
   abbrev pub places : ℕ → ℕ → List (Option R.Denot) → Fml
   places block o [] = ftrue
   places block o (held ∷ more) = fsep (place block o held) (places block (o + type_size R) more)
@@ -26,7 +26,7 @@ module _ (R : RattleType) where
   place_lent block o (Some entry) = shared_of R entry block o
   place_lent block o None = nothing
 
-  -- what a `&` to places one behind the other reaches
+  -- what a `&` to adjacent places reaches
   abbrev pub places_lent : ℕ → ℕ → List (Option R.Denot) → Lft → Fml
   places_lent block o [] = nothing
   places_lent block o (held ∷ more) = beside (place_lent block o held) (places_lent block (o + type_size R) more)
@@ -45,6 +45,6 @@ module _ (R : RattleType) where
   lends_cells (block_ptr block o) held = beside (said (addressable held)) (places_lent block o held)
   lends_cells null_ptr held = said ffalse
 
-  -- the allocator's token for a block of n places
+  -- the allocator's token for a block of `count` places
   abbrev pub owns_block : (Ty → Ptr → Fml) → Ptr → ℕ → Fml
   owns_block token start count = token (raw (ty_array (lone R.mir) count)) start

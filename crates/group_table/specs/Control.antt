@@ -8,7 +8,7 @@ use Rattle.group_table.specs.Lanes.{IsRepeated}
 abbrev pub buckets_of : List ℕ → ℕ
 buckets_of control = length control - 16
 
--- the control bytes of a table with buckets: one for each bucket, and 16 more, which repeat the first ones
+-- the control bytes of a table with buckets: one for each bucket, and 16 more (`IsRepeated`)
 pub record IsCircle (control : List ℕ) : Type 0 where
   pub power : IsPowerFromFour (buckets_of control)
   pub long : length control ≡ buckets_of control + 16

@@ -8,7 +8,7 @@ module _ {T : Type 0} where
   places_of None = []
   places_of (Some row) = row.cells.places
 
-  -- the pointer, the places and the deed belong to one block of that allocator, with at least one place
+  -- the pointer, the places and the deed belong to one block of this allocator, with at least one place
   pub record IsOneBlock (row : Row T) (alloc : Global) : Type 0 where
     pub places_start : row.cells.start ≡ row.block.start
     pub deed_start : row.deed.start ≡ row.block.start

@@ -38,7 +38,7 @@ module _ {T N : Type 0} (number : N → ℕ) (none : N) where
   Renumbers old new links = ((entry_count old ≡ 0) × (links ≡ [])) ⊎ IsRenumbering old new links
 
 module _ {T H : Type 0} (closure : Shared H (Bor T × Unit {0}) ℕ) (f : H) where
-  -- the closure returns the hash of the entry in a bucket
+  -- if the closure returns a hash for the entry of old bucket b, this is `hash_of b`
   abbrev pub GivesHashes : (ℕ → Option T) → (ℕ → ℕ) → Type 0
   GivesHashes old hash_of = (b hash : ℕ) (entry : T)
       → old b ≡ Some entry → FnReturnsAt closure f entry hash → hash ≡ hash_of b

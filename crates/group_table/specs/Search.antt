@@ -17,8 +17,7 @@ module _ {T : Type 0} (slots : List (Slot T)) (hash : ℕ) where
   abbrev pub candidates : ℕ → List ℕ
   candidates steps = tagged slots (hash_tag hash) (probed (length slots) hash) steps
 
-  -- `asked` lists the candidates of the first `steps` steps; a search reaches each step, and `asked` has no bucket
-  -- twice
+  -- `asked` lists the candidates of the first `steps` steps, each bucket once; a search reaches each of these steps
   pub record IsSearch (asked : List ℕ) : Type 0 where
     pub steps : ℕ
     pub within : steps ≤ length slots

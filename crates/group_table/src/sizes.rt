@@ -2,8 +2,8 @@
 ghost use Rattle.std.specs.Prelude.{◌≡◌, ◌<◌, ◌≤◌, IfSome};
 ghost use Rattle.group_table.specs.Sizes.{IsBucketCount, full_capacity, buckets_for};
 
-/// Returns how many entries a table of `buckets` buckets may hold: `buckets` - 1 if `buckets` is at most 8, and
-/// otherwise seven eighths of `buckets`.
+/// Returns how many entries a table of `buckets` buckets may hold: 0 if `buckets` is 0, `buckets` - 1 if it is at most
+/// 8, and otherwise seven eighths of `buckets`.
 #[inline]
 #[tactic(auto, unfolding(crate::specs::Sizes::full_capacity))]
 pub fn full_capacity(buckets: usize) -> usize
@@ -17,7 +17,7 @@ pub fn full_capacity(buckets: usize) -> usize
 }
 
 /// Returns how many buckets `capacity` entries need: 0 if `capacity` is 0, and otherwise a power of two below `max`.
-/// Returns `None` if no such power is enough.
+/// Returns `None` if no such power is enough, or if 8 * `capacity` overflows.
 #[tactic(auto, unfolding(crate::specs::Sizes::buckets_for))]
 pub fn buckets_for_capacity(capacity: usize, max: usize) -> Option<usize>
     ensures value { result ≡ buckets_for max capacity }

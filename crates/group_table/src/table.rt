@@ -134,7 +134,7 @@ impl<T> Table<T> {
     /// Returns the bucket of the first entry that `f` accepts.
     ///
     /// `f` is called with entries whose tag is the hash's top 7 bits, in the order of the search. Only tests show that
-    /// `f` is called at most once with each entry. Returns `None` if `f` rejected each entry of that hash.
+    /// `f` is called at most once with each entry. Returns `None` if `f` rejected each entry with this hash.
     #[inline]
     pub fn find<F: FnMut(&T) -> bool>(&self, hash: u64, f: F) -> Option<usize>
         requires { F.IsAlwaysCallable f }
@@ -175,9 +175,9 @@ impl<T> Table<T> {
 
     /// Takes the entry out of a full bucket.
     ///
-    /// If each run of 16 neighbouring buckets that includes this bucket contains an empty one, the bucket becomes
-    /// empty, and the growth left rises by one. This is always so in a table of up to 16 buckets. Otherwise the bucket
-    /// becomes deleted, so that searches still go past it.
+    /// If each run of 16 neighbouring buckets that includes this bucket contains an empty bucket, this bucket becomes
+    /// empty, and the growth left rises by one. In a table of up to 16 buckets, each run contains an empty bucket.
+    /// Otherwise this bucket becomes deleted, so that searches still go past it.
     #[inline(always)]
     pub fn take(&mut self, b: usize) -> T
         requires { IsFull self.old.slots b }

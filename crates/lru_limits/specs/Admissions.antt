@@ -1,4 +1,4 @@
--- What a limiter accepts, if it stores each accepted entry unchanged.
+-- What a limiter accepts, if it changes no accepted entry.
 --     Terms K V S                  which entries the limiter accepts, and the limiter after an offer
 --     offers_of terms              the offers: an entry is stored unchanged if the terms accept it
 --     never_changes admits         the terms of a limiter that never changes
@@ -9,7 +9,7 @@ use Rattle.lru_limits.specs.Rules.{Offers}
 use Rattle.lru_limits.specs.Laws.{IsInsertion}
 use Rattle.lru_limits.specs.Stores.{ReturnsPairIf, given-names}
 
--- Each function has the name of its callback. Its number argument is the number of entries of the map.
+-- Each function is named after a callback. Its argument of type ℕ is the number of entries of the map.
 pub record Terms (K V S : Type 0) : Type 0 where
   -- whether an entry with a new key is accepted
   pub accepts : S → ℕ → K → V → Bool

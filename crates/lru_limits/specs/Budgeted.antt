@@ -20,10 +20,10 @@ pub record IsBudgeted {K V S : Type 0} (rules : Rules K V S) (offers : Offers K 
   pub removed : (s : S) (k : K) (v : V) → budget (rules.on_removed s k v).limiter ≡ budget s
   pub cleared : (s : S) → budget (rules.on_cleared s) ≡ budget s
   pub grown : (s : S) (n : ℕ) → budget (rules.on_grow s n).limiter ≡ budget s
-  -- if the entry of a new key is accepted, it is stored unchanged
+  -- an accepted entry of a new key is stored unchanged, and a rejected entry is not stored
   pub gives : (s : S) (n : ℕ) (k : K) (v : V) (t : S) (given : Option (K × V)) → offers.on_insert s n k v t given
       → given ≡ (if accepts s k v then Some (k, v) else None)
-  -- if the entry is not accepted, the offer can store nothing and leave the limiter unchanged
+  -- if an entry is rejected, the offer may return `None` and leave the limiter unchanged
   pub refuses : (s : S) (n : ℕ) (k : K) (v : V) → accepts s k v ≡ false → offers.on_insert s n k v s None
   -- an offer never runs out of memory
   pub finds : (s : S) (n : ℕ) (k : K) (v : V) → offers.may_run_out s n k v → ⊥

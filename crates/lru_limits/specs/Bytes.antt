@@ -50,8 +50,8 @@ module _ {K V : Type 0} (bytes_of : K → V → ℕ) where
         answers (if fits then record b { table = bytes } else b) fits;
   }
 
-  -- An entry is accepted if its bytes plus the table are at most the limit, and `owned` plus its bytes fits 64 bits. A
-  -- new value is accepted if its entry would be accepted after the removal of the old entry.
+  -- An entry is accepted if its bytes are at most `left_for_entries`, and `owned` plus its bytes fits 64 bits. A new
+  -- value is accepted if its entry would be accepted after the removal of the old entry.
   abbrev pub bytes_terms : Terms K V Bytes
   bytes_terms = record {
     accepts = λ b n k v. can_add (left_for_entries b) b.owned (bytes_of k v);

@@ -27,7 +27,7 @@ kept_value r = if r.taken then r.new_value else r.old_value
 
 pub record IsAccount {K V S I : Type 0} (rules : Rules K V S) (offers : Offers K V S I) (cost : K → V → ℕ)
     (account : S → ℕ) : Type 0 where
-  -- if an offer returns an entry to store, the running total grows by its cost
+  -- if an offer returns an entry to store, the running total rises by the cost of this entry
   pub adds : (s : S) (n : ℕ) (i : I) (v : V) (t : S) (k : K) (w : V) → offers.on_insert s n i v t (Some (k, w))
       → account t ≡ account s + cost k w
   pub refuses : (s : S) (n : ℕ) (i : I) (v : V) (t : S) → offers.on_insert s n i v t None → account t ≡ account s

@@ -2,7 +2,7 @@
 --     length_rules, length_terms, length_offers      the limit by length; the state is the limit
 --     memory_rules                     the rules of the limit by memory usage; the state is the limit
 --     no_rules                         the rules of a limiter that limits nothing
---     all_terms, all_offers            the terms and offers of a limiter that stores each entry
+--     all_terms, all_offers            the terms and offers of a limiter that accepts each entry
 use Rattle.std.specs.Prelude.{ℕ, true, false, nat_lt, nat_le}
 use Rattle.lru_limits.specs.Rules.{Rules, Offers}
 use Rattle.lru_limits.specs.Admissions.{Terms, offers_of, never_changes}

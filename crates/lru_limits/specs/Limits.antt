@@ -3,8 +3,8 @@
 --     LimitsLength rules offers most       a map that is not over the limit has at most `most` entries
 --     LimitsMemory rules offers most       a table that the limiter permits has at most `most` bytes
 --     length-limits, memory-limits         `ByLength` and `ByMemoryUsage` satisfy these laws
---     storing-length, storing-memory       if a limiter satisfies them, so does `Storing` of it
---     both-first_length, ..                if the first or second limiter satisfies them, so does `Both`
+--     storing-length, storing-memory       if a limiter satisfies a law, `Storing` of it does, too
+--     both-first_length, ..                if the first or second limiter satisfies a law, `Both` does, too
 use Rattle.std.specs.Prelude.{◌≡◌, ◌≤◌, ◌&&◌, ◌||◌, ℕ, Bool, true, false, Option, Some, None, if◌then◌else◌, refl}
 use Rattle.std.proofs.Common.{ap, ◌∙◌, arith}
 use Rattle.std.proofs.lemmas.Bool.{true≢false}

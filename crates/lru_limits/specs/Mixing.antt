@@ -3,7 +3,7 @@
 --     folded a b              the xor of the two halves of the 128 bits of a * b
 --     joined key state word   the state after a word
 --     rest_word bytes         fewer than eight bytes as a word, whose top byte is their count
---     written h bytes         the hasher after a write: a word for each eight bytes, and one for the rest
+--     written h bytes         the hasher after a write: a word for each eight bytes, and one for a rest
 --     closed h                the hash
 --     seeded words            the hasher with these four seeds, before the first write
 use Rattle.std.specs.Prelude.{ℕ, ◌+◌, ◌*◌, ◌/◌, ◌%◌, ◌^◌, ◌==◌, List, length, drop, fold, bit_xor, slice_index}

@@ -1,8 +1,8 @@
--- Definitions for limiters that store an entry unchanged.
+-- Definitions for limiters that accept an entry unchanged.
 --     plain over grants                    the rules of a limiter that never changes
 --     rules_at of to rules                 the rules of a wrapper: `of` unwraps the inner limiter, `to` wraps it
 --     ReturnsPairIf accepts s k v t given  t is s, and given is the entry, or `None` if it is rejected
---     unmoved s k v                        the limiter s after a removal, with the entry unchanged
+--     unmoved s k v                        after a removal, the limiter is s, and the entry is unchanged
 --     answers s b                          the result b of `on_grow`, and the limiter s
 --     replaces s k v w                     the new value w is accepted, and the limiter is s
 --     given-is, given-names                the returned entry is the offered one

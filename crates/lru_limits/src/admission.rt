@@ -1,4 +1,4 @@
-//! Limiters that store each entry unchanged, or reject it.
+//! Limiters that accept each entry unchanged, or reject it.
 ghost use Rattle.std.specs.Prelude.{◌≡◌};
 ghost use Rattle.lru_limits.specs.Admissions.{Terms, offers_of, offers_of-lawful};
 
@@ -7,7 +7,7 @@ use crate::limiter::{Insertion, Limiter};
 use std::alloc::{AllocError, Global};
 use std::hash::Hash;
 
-/// Accepts or rejects entries, and stores an accepted entry unchanged.
+/// Accepts or rejects entries, and changes no accepted entry.
 ///
 /// Every `Admission` is an [`Insertion`], can be in [`crate::Both`], and permits `try_insert`. `never_changes` of
 /// `specs/Admissions.antt` makes the terms of a limiter that never changes.

@@ -8,8 +8,8 @@ use group_table::LinkType;
 use std::alloc::{AllocError, Global};
 use std::hash::Hash;
 
-/// Decides when a map is over its limit, and whether its table may grow. It is notified of each entry that is evicted
-/// or removed.
+/// Decides when a map is over its limit, and whether its table may grow. The limiter is notified of each entry that is
+/// evicted or removed.
 ///
 /// A callback may be called with any state, length, key and value. In `rules`, the impl defines the result and the
 /// effect of each callback as functions of its arguments.
@@ -53,10 +53,10 @@ pub trait Limiter<K, V> {
 
     /// Returns whether the map may have a larger table, of `new_memory_usage` bytes.
     ///
-    /// Called by an insert that finds no bucket for a new entry, and by `try_reserve` if too little growth is left. Not
-    /// called if no larger table exists, or if the table is rehashed without growing. After `false` the insert evicts
-    /// the oldest entries to store the new entry, and `try_reserve` returns `Refused`. After `true` the allocation of
-    /// the table may still fail. The limiter is not notified of this failure.
+    /// Called by an insert that finds no bucket for a new entry, and by `try_reserve` and `try_insert` if too little
+    /// growth is left. Not called if no larger table exists, or if the table is rehashed without growing. After `false`
+    /// the insert evicts the oldest entries to store the new entry, and `try_reserve` and `try_insert` fail. After
+    /// `true` the allocation of the table may still fail. The limiter is not notified of this failure.
     fn on_grow(&mut self, new_memory_usage: usize) -> bool
         ensures limiter { self.new ≡ (rules.on_grow self.old new_memory_usage).limiter }
         ensures allowed { result ≡ (rules.on_grow self.old new_memory_usage).allowed };
@@ -77,7 +77,7 @@ pub trait Insertion<K: Eq + Hash, V, I: LookupKey<K>>: Limiter<K, V> {
     ghost offers: { Offers K V Self I };
 
     /// Called by an insert with a new key and its value, before the insert evicts anything. The map has `length`
-    /// entries. Returns the entry to store, or `None` to reject it. After `None` the map's entries do not change.
+    /// entries. Returns the entry to store, or `None` if it is rejected. After `None` the map's entries do not change.
     ///
     /// # Errors
     ///

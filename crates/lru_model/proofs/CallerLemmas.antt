@@ -5,7 +5,7 @@
 --     written-absent       if the key is not there, a write changes nothing
 --     written-found        a look-up finds the value that was written through a get
 --     read-all             if P holds of each pair, it does after a get whose value is not written
---     offers_of-keeps      a limiter that stores pairs unchanged keeps their values
+--     offers_of-keeps      a limiter that accepts pairs unchanged keeps their values
 --     offers_of-determined the state and the arguments determine what this limiter does
 --     offers_of-accepts    when this limiter accepts a pair of a new key
 --     plain-grants, by_weight-grants, by_cost-grants                    these limiters permit every growth
@@ -26,8 +26,8 @@
 --     shrink_contents      a shrink keeps the pairs and the limiter
 --     usage_bytes          the usage of a table with buckets is `bytes_of`
 --     value_removed        a removal may return only the value of the removed entry
---     step_keeps_number    a call changes a number only if a callback of the limiter does
---     step_stays_short     a call keeps the map within its limit of length
+--     step_keeps_number    a `Step` changes a number only if a callback of the limiter does
+--     step_stays_short     a `Step` keeps the map within its limit of length
 --     any_is_map           each call leaves `IsMap`, if the table is sound
 --     any_step_same        no call changes `hasher`, `max` or `entry_bytes`
 --     lookup-entry, no_pair      `lookup` returns the value of the pair that `lookup_entry` returns

@@ -1,4 +1,4 @@
--- Each public call is a step, or steps one after another. The lemmas take what the contract of the call ensures.
+-- Each call that changes a map is a step, or steps one after another. The lemmas take what the call's contract ensures.
 --
 -- Some calls are steps by their contracts alone: `gets` is `promote` and `get_key_value`, `removes` is `remove`,
 -- and so on for `demotes`, `pops_oldest`, `pops_newest`, `clears`, `reserves`, `shrinks`, `trims`, `inserts` and

@@ -39,7 +39,6 @@ module _ {K V : Type 0} (eq : K → K → Bool) (hash_of : K → ℕ) (all : Lis
 
     -- f was called with candidates, each once, and returned false for all. Each pair whose key has this hash is a
     -- candidate.
-    -- hash
     pub record GivesNoneByHash (f : F) : Type 0 where
       pub asked : List (K × V)
       pub candidates : AreCandidates asked

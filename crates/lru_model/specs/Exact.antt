@@ -63,7 +63,7 @@ module _ {K V S : Type 0} (rules : Rules K V S) where
   queried None s = s
   queried (Some bytes) s = (rules.on_grow s bytes).limiter
 
-  -- the contents just before a new pair is stored
+  -- the contents after the query and the evictions of the report
   abbrev pub met : Report → Contents K V S → Contents K V S
   met report c = pops rules report.evicted (record { pairs = c.pairs; limiter = queried report.asked c.limiter })
 

@@ -34,7 +34,6 @@ module _ {K V S H E : Type 0} where
 
 module _ {K V S H I : Type 0} (rules : Rules K V S) (offers : Offers K V S I) (names : I → K → Bool)
     (hash_of : H → K → ℕ) where
-  -- what the call does (`step`), what its result says (`says`), and why it runs out of memory (`out_of_memory`)
   pub record GetsOrInserts (makes : V → Type 0) (i : I) (old : State K V S H) (result : Result Bool AllocError)
       (new : State K V S H) : Type 0 where
     pub step : MakesNewest rules offers names hash_of makes i old result new

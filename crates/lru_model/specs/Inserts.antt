@@ -16,7 +16,7 @@ use Rattle.lru_model.specs.Place.{Place, Outcome, placed, refused, no_memory}
 abbrev pub unkept_of : {K V S : Type 0} → Replaced K V S → V
 unkept_of r = if r.taken then r.old_value else r.new_value
 
--- whether the key is in the map, from the result of an insert
+-- the result of an insert, with only the flag `kept`
 abbrev pub kept_of : {V E : Type 0} → Result (Inserted V) E → Result Bool E
 kept_of (Ok inserted) = Ok inserted.kept
 kept_of (Err e) = Err e
@@ -102,8 +102,8 @@ module _ {K V S I : Type 0} (rules : Rules K V S) (offers : Offers K V S I) (nam
           (s : S) → MayGive i v (contents old) s None →
           result ≡ Ok false → new ≡ record old { limiter = s } →
           Insert i v old result new
-      -- The key is new, and the limiter returns a pair. This pair is inserted into the table, with evictions before and
-      -- after.
+      -- The key is new, and the limiter returns a pair. The pair is inserted into the table. The map may evict pairs
+      -- before and after.
       admitted : lookup_entry (names i) old.pairs ≡ None →
           (s : S) (pair : K × V) → MayGive i v (contents old) s (Some pair) →
           PlacesNew rules hash_of pair (record old { limiter = s }) result new →

@@ -1,5 +1,4 @@
--- What an insert keeps. An insert loses no pair. If growth is left, and the limiter accepts the new pair and is then
--- not over its limit, the insert evicts nothing. With `ByLength`, an insert leaves the newest pairs.
+-- What an insert keeps (definitions for `src/laws/kept.rt`).
 use Rattle.std.specs.Prelude.{◌≡◌, ◌⊎◌, ℕ, ◌+◌, ◌-◌, ◌^◌, ◌≤◌, ◌<◌, Bool, true, false, not, List, []}
 use Rattle.std.specs.Prelude.{◌∷◌, ◌++◌, length, reverse, take, fold, nat_lt, Option, Some, None, unwrap_or}
 use Rattle.std.specs.Prelude.{option_map, Result, Ok, IsOk, IsErr, OnOk, OnErr}
@@ -21,8 +20,8 @@ module _ {K V S H I : Type 0} (rules : Rules K V S) (offers : Offers K V S I) (n
   -- a new key, is in the map or was passed to the callback. `passed` lists what the callback got, in order.
   pub data LosesNothing (i : I) (v : V) (old : State K V S H) (result : Result Bool AllocError)
       (passed : List (K × V)) (new : State K V S H) : Type 0 where
-    -- A pair is stored as the newest, before the old pairs of other keys. The callback got the oldest of these pairs.
-    -- (If no pair is left, the stored pair was evicted, too.)
+    -- A pair is stored as the newest, before the old pairs of other keys. Then the oldest pairs were evicted. If no
+    -- pair is left, the stored pair was evicted, too.
     stored : (pair : K × V) → Stores rules offers names i v old pair →
         result ≡ Ok (not (is_empty new.pairs)) →
         new.pairs ++ reverse passed ≡ pair ∷ without (names i) old.pairs →
@@ -47,7 +46,7 @@ module _ {K V S H I : Type 0} (rules : Rules K V S) (offers : Offers K V S I) (n
         (evicted : List (K × V)) → passed ≡ evicted ++ pair ∷ [] → new.pairs ++ reverse evicted ≡ old.pairs →
         LosesNothing i v old result passed new
 
-  -- The pair is added, and all others stay. The number of buckets stays, and the growth left falls by at most one.
+  -- The pair is added, and all other pairs stay. The number of buckets stays. The growth left falls by at most one.
   pub record IsAdded (i : I) (v : V) (pair : K × V) (old : State K V S H) (result : Result Bool AllocError)
       (new : State K V S H) : Type 0 where
     pub answer : result ≡ Ok true

@@ -26,7 +26,7 @@ module _ {X : Type 0} where
   without_last (x ∷ []) = []
   without_last (x ∷ y ∷ ys) = x ∷ without_last (y ∷ ys)
 
-  -- the n-th element, counted from 1, if the list has n elements
+  -- the n-th element, counted from 1, if the list has at least n elements
   abbrev pub last_of : ℕ → List X → Option X
   last_of zero xs = None
   last_of (suc n) xs = slice_get xs n

@@ -1,4 +1,4 @@
--- What all insertions into the table cost. Insertions by a reservation count, too, if no growth was left before it.
+-- What all insertions into the table cost. A reservation is included if no growth was left before it.
 use Rattle.std.specs.Prelude.{◌≡◌, ℕ, ◌+◌, ◌-◌, ◌*◌, ◌^◌, ◌≤◌, ◌<◌, Bool, Result}
 use Rattle.lru_limits.specs.Rules.{Rules}
 use Rattle.lru_limits.specs.Admissions.{Terms, offers_of}

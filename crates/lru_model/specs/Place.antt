@@ -20,9 +20,9 @@ outcome_of (Ok true) = placed
 outcome_of (Ok false) = refused
 outcome_of (Err e) = no_memory
 
--- The newest pair fills the first free bucket that a search for the hash finds. No other bucket changes. If the bucket
--- was empty, the growth left falls by one. If the bucket was deleted, the growth left stays, and the table has more
--- than 16 buckets.
+-- The newest pair fills the first free bucket in a search for the hash. No other bucket changes. If the bucket was
+-- empty, the growth left falls by one. If the bucket was deleted, the growth left stays, and the table has more than 16
+-- buckets.
 pub record FillsBucket (hash : ℕ) (old new : TableState) : Type 0 where
   pub bucket : ℕ
   pub first : IsFirstFree old.states hash bucket
@@ -31,22 +31,21 @@ pub record FillsBucket (hash : ℕ) (old new : TableState) : Type 0 where
   pub spends : ((bucket_at old.states bucket ≡ empty) × (growth_left_of new.states + 1 ≡ growth_left_of old.states))
       ⊎ ((bucket_at old.states bucket ≡ deleted) × (16 < length old.states) × (growth_left_of new.states ≡ growth_left_of old.states))
 
--- No bucket of a table of n pairs takes a pair of this hash. No growth is left, and the first free bucket that a search
--- for the hash finds is empty. A table without pairs is not searched: if it has no growth left, no bucket takes the
--- pair.
+-- No bucket of a table of n pairs takes a pair of this hash. No growth is left, and the first free bucket in a search
+-- for the hash is empty. A table without pairs is not searched: if it has no growth left, no bucket takes the pair.
 pub record NoBucketTakes (hash n : ℕ) (states : List BucketState) : Type 0 where
   pub no_growth_left : growth_left_of states ≡ 0
   pub first_empty : 0 < n → FirstFreeIs empty hash states
 
 -- No bucket takes a pair of this hash. A rehash is not enough: with one pair more, the table would be more than half
--- full. Either there is no table yet, or the table contains pairs.
+-- full. Either there are no buckets, or the table contains pairs.
 pub record IsTooSmallFor (hash n : ℕ) (states : List BucketState) : Type 0 where
   pub no_bucket : NoBucketTakes hash n states
   pub above_half : full_capacity (length states) / 2 < n + 1
   pub begun : (length states ≡ 0) ⊎ (0 < n)
 
 module _ {K V S H : Type 0} where
-  -- The pair is the newest now. The table has `count` buckets, and `spare` growth left. The insert moved `moves`
+  -- The pair is the newest now. The table has `count` buckets, and its growth left is `spare`. The insert moved `moves`
   -- entries.
   pub record IsPlaced (pair : K × V) (count spare moves : ℕ) (old new : State K V S H) : Type 0 where
     pub table : buckets new ≡ count
@@ -61,7 +60,6 @@ module _ {K V S H : Type 0} where
   abbrev pub IsPlacedInTable : K × V → State K V S H → State K V S H → Type 0
   IsPlacedInTable pair old new = IsPlaced pair (buckets old) (growth_left new) 0 old new
 
-  -- no bucket takes a pair of this hash
   abbrev pub HasNoBucket : ℕ → State K V S H → Type 0
   HasNoBucket hash st = NoBucketTakes hash (length st.pairs) st.table.states
 
@@ -90,7 +88,7 @@ module _ {K V S H : Type 0} (rules : Rules K V S) where
   abbrev pub unstored : K × V → State K V S H → State K V S H
   unstored pair st = record st { limiter = (rules.on_removed st.limiter pair.0 pair.1).limiter }
 
-  -- The n oldest pairs were evicted, one after another. Before each eviction no bucket took a pair of this hash.
+  -- The n oldest pairs were evicted, one after another. Before each eviction no bucket could take a pair of this hash.
   abbrev pub OldestEvicted : ℕ → ℕ → State K V S H → State K V S H → Type 0
   OldestEvicted hash zero old new = new ≡ old
   OldestEvicted hash (suc n) old new = (before : State K V S H) × OldestEvicted hash n old before
@@ -108,7 +106,7 @@ module _ {K V S H : Type 0} (rules : Rules K V S) where
       IsPlacedIfMemory pair count (full_capacity count - length old.pairs - 1) (length old.pairs) old
 
   -- The table cannot grow. Either there is no larger table (`table_for`), and `mid` is `old`. Or the limiter refuses
-  -- the larger table, and `mid` is the map after this query.
+  -- the larger table, and `mid` is the map after the limiter was queried.
   pub data CannotGrow (old mid : State K V S H) : Type 0 where
     no_target : table_for 1 old ≡ no_table → mid ≡ old → CannotGrow old mid
     denied : (count bytes : ℕ) → table_for 1 old ≡ new_table count bytes → Denies bytes old →

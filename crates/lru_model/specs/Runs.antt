@@ -24,9 +24,9 @@ AreAmong {K} named test = (key : K) → named key ≡ true → test key ≡ true
 
 module _ {K V S H I : Type 0} (rules : Rules K V S) (offers : Offers K V S I) (names : I → K → Bool)
     (hash_of : H → K → ℕ) where
-  -- How one call changes a map if nothing is written through a reference. A call that only reads changes nothing, and
-  -- is no step. `gets` is a look-up by any type of key, or by a hash, that promotes the pair it finds. All keys that
-  -- calls insert or update have one type, I.
+  -- How one call changes a map. A change of the limiter and a write through a reference are not included (`AnyStep`). A
+  -- call that only reads is no step. `gets` is a look-up by any type of key, or by a hash, that promotes the pair it
+  -- finds. All keys that calls insert or update have one type, I.
   pub data Step (old new : State K V S H) : Type 0 where
     inserts : (key : I) (value : V) (result : Result Bool AllocError)
         → Insert rules offers names hash_of key value old result new → Step old new
@@ -47,17 +47,17 @@ module _ {K V S H I : Type 0} (rules : Rules K V S) (offers : Offers K V S I) (n
     retains : (asked : List ((K × V) × Bool)) → map (λ one. one.0) asked ≡ old.pairs
         → Leaves old (retained rules asked old.limiter) new → Step old new
 
-  -- a call, a write of a value through a reference, or a change of the limiter
+  -- a `Step`, a write of a value through a reference, or a change of the limiter
   pub data AnyStep (old new : State K V S H) : Type 0 where
     calls : Step old new → AnyStep old new
     writes : (test : K → Bool) (value : V) → new ≡ written test value old → AnyStep old new
     sets_limiter : (limiter : S) → new ≡ record old { limiter = limiter } → AnyStep old new
 
-  -- a call, or a write of a value through a reference
+  -- a `Step`, or a write of a value through a reference
   abbrev pub StepOrWrite : State K V S H → State K V S H → Type 0
   StepOrWrite old new = Step old new ⊎ ((test : K → Bool) × (value : V) × (new ≡ written test value old))
 
-  -- a call, or a write of a value that costs what the old value costs
+  -- a `Step`, or a write of a value that costs as much as the old value
   abbrev pub StepOrKeptWrite : (cost : K → V → ℕ) → State K V S H → State K V S H → Type 0
   StepOrKeptWrite cost old new = Step old new ⊎ ((test : K → Bool) × (value : V)
       × IfSome (lookup_entry test old.pairs) (λ there. cost there.0 value ≡ cost there.0 there.1)
@@ -114,6 +114,6 @@ module _ {K V S H : Type 0} (rules : Rules K V S) (hash_of : H → K → ℕ) wh
   abbrev pub StepWithoutInsert : (old new : State K V S H) → Type 0
   StepWithoutInsert = Step rules no_offers no_keys hash_of
 
-  -- these calls, writes of values, and changes of the limiter, one after another
+  -- steps of `StepWithoutInsert`, writes of values, and changes of the limiter, one after another
   abbrev pub RunWithoutInsert : (new old : State K V S H) → Type 0
   RunWithoutInsert = Run (AnyStep rules no_offers no_keys hash_of)

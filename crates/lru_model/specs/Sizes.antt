@@ -1,4 +1,5 @@
--- How links number buckets, the bytes of a table, and into which table a map grows. Quotients are rounded down.
+-- Which buckets links can number, how many bytes a table takes, and into which table a map grows. Quotients are rounded
+-- down.
 use Rattle.std.specs.Prelude.{◌≡◌, ◌⊎◌, ℕ, ◌+◌, ◌-◌, ◌*◌, ◌/◌, ◌^◌, ◌<◌, ◌≤◌, ◌==◌, nat_lt, nat_le, if◌then◌else◌}
 use Rattle.std.specs.Prelude.{Option, Some, None}
 use Rattle.group_table.specs.Sizes.{IsPowerFromFour, full_capacity, buckets_for}
@@ -47,7 +48,7 @@ table_with entry_bytes (Some buckets) = table_of buckets (usage entry_bytes buck
 
 -- A table of `buckets` buckets grows for `pairs` pairs, which need `need` buckets. If the table has fewer buckets, it
 -- grows to `need` buckets. Otherwise, if `pairs` is at most half of its capacity, it keeps its size. Otherwise it grows
--- to twice its buckets.
+-- to twice its buckets. If the new table is too large, it does not grow (`no_table`).
 abbrev pub target_from : ℕ → ℕ → ℕ → ℕ → Option ℕ → Target
 target_from max entry_bytes buckets pairs None = no_table
 target_from max entry_bytes buckets pairs (Some need) =

@@ -60,12 +60,12 @@ pub record IsSound (n entry_bytes max : ℕ) (states : List BucketState) (counts
   pub placed : counts.placed < 2 ^ 64
   pub shrunk : counts.shrunk < 2 ^ 64
 
--- if the count of rehashed entries is below its maximum, n more moves are paid for
+-- if the count `shrunk` is below its maximum, n more moves are already paid for
 abbrev pub IsAhead : ℕ → Counts → Type 0
 IsAhead n counts = counts.shrunk < 2 ^ 64 - 1 → counts.moved + n ≤ 2 * counts.placed + counts.shrunk
 
 -- Inserts moved at most two entries for each entry that they stored, plus one for each entry that a shrink rehashed.
--- The next `potential` moves are already paid for, too.
+-- The next `potential` moves are already paid for, too, until the count `shrunk` stops at its maximum.
 pub record IsPaid (potential : ℕ) (counts : Counts) : Type 0 where
   pub moved : counts.moved ≤ 2 * counts.placed + counts.shrunk
   pub ahead : IsAhead potential counts
@@ -80,12 +80,12 @@ pub record GivesBack (was n : ℕ) (old new : List BucketState) : Type 0 where
   -- if no pair was removed, each bucket keeps its state
   pub untouched : n ≡ was → new ≡ old
 
--- the first free bucket (empty or deleted) that a search for the hash finds has this state
+-- the first free bucket (empty or deleted) in a search for the hash has this state
 abbrev pub FirstFreeIs : BucketState → ℕ → List BucketState → Type 0
 FirstFreeIs state hash states = (b : ℕ) × IsFirstFree states hash b × (bucket_at states b ≡ state)
 
--- The bucket of a removed pair, at `place`, is free now. If each run of 16 neighbouring buckets around the bucket
--- contained an empty bucket, the bucket is empty now. Otherwise it is deleted. The other buckets keep their states.
+-- The pair at `place` was removed, and its bucket is free now. If each run of 16 neighbouring buckets that includes
+-- this bucket contained an empty bucket, it is empty now. Otherwise it is deleted. The other buckets keep their states.
 pub record Frees (place : Option ℕ) (old new : TableState) : Type 0 where
   pub bucket : ℕ
   pub there : place ≡ Some bucket
@@ -121,14 +121,14 @@ module _ {K V S H : Type 0} where
   abbrev pub buckets : State K V S H → ℕ
   buckets st = length st.table.states
 
-  -- the growth left: how many empty buckets may still be filled before the table has to grow
+  -- the growth left: how many empty buckets may still be filled
   abbrev pub growth_left : State K V S H → ℕ
   growth_left st = growth_left_of st.table.states
 
   abbrev pub place_in : (K → Bool) → State K V S H → Option ℕ
   place_in names st = place_of names st.pairs st.table.places
 
-  -- A sound table: what holds for the table and the counts of every map. This says nothing about the keys.
+  -- the table is sound, whatever the keys are
   abbrev pub IsSized : State K V S H → Type 0
   IsSized st = IsSound (length st.pairs) st.entry_bytes st.max st.table.states st.counts
 
@@ -142,7 +142,6 @@ module _ {K V S H : Type 0} where
     pub sized : IsSized st
     pub paid : IsPaid (potential st) st.counts
 
-  -- how the growth left and the bucket states change when pairs are removed
   abbrev pub FreesGrowth : State K V S H → State K V S H → Type 0
   FreesGrowth old new = GivesBack (length old.pairs) (length new.pairs) old.table.states new.table.states
 

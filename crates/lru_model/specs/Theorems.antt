@@ -105,7 +105,7 @@ module _ {K V S H I : Type 0} (rules : Rules K V S) (offers : Offers K V S I) (n
     pub out_of_memory : OnErr result (IsOutOfMemory rules offers names hash_of i v old new)
     pub keeps : OnErr result (IsFront new.pairs old.pairs)
 
--- the limiter stores each value as it was offered
+-- the limiter changes no offered value
 pub record KeepsValues {K V S I : Type 0} (offers : Offers K V S I) : Type 0 where
   pub given : (s : S) (n : ℕ) (i : I) (v : V) (t : S) (k : K) (w : V) → offers.on_insert s n i v t (Some (k, w)) → w ≡ v
   pub replaced : (s : S) (n : ℕ) (k : K) (i : I) (v w : V) → (offers.on_replace s n k i v w).new_value ≡ w

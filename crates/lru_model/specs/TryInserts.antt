@@ -9,7 +9,7 @@ use Rattle.lru_model.specs.Reservations.{Reserve}
 use Rattle.lru_model.specs.Inserts.{Insert}
 use Rattle.lru_model.specs.declared.results.ReserveError.{ReserveError}
 
--- `ready` is the map just before the insert. This is `old` if growth is left, and otherwise `old` after a reservation.
+-- `ready` is the map just before the insert: `old` if growth is left, and otherwise `old` after a reservation.
 pub data IsReady {K V S H : Type 0} (rules : Rules K V S) (old ready : State K V S H) : Type 0 where
   has_growth : 0 < growth_left old → ready ≡ old →
       IsReady rules old ready
@@ -17,7 +17,7 @@ pub data IsReady {K V S H : Type 0} (rules : Rules K V S) (old ready : State K V
       IsReady rules old ready
 
 module _ {K V S : Type 0} (terms : Terms K V S) (rules : Rules K V S) where
-  -- the limiter accepts the pair of a new key, and is not over its limit once the pair is stored
+  -- whether the limiter accepts the pair of a new key, and is not over its limit once the pair is stored
   abbrev pub can_store : K → V → Contents K V S → Bool
   can_store key value c = if terms.accepts c.limiter (length c.pairs) key value
       then not (rules.is_over_the_limit (terms.admit c.limiter (length c.pairs) key value) (length c.pairs + 1))

@@ -126,8 +126,8 @@ pub fn inserts_are_exact_unless_refused<
 {}
 
 /// An insert changes the entries as it would change a plain list without a table (`InsertsInList`), under two premises.
-/// The limiter permits every growth, as `ByLength` and the unlimited limiters do. A table exists for the entries, and a
-/// table for one entry more (`HasTables`). The insert may still run out of memory.
+/// `on_grow` permits every growth and changes nothing, as in `ByLength` and `Unlimited`. There is a table for the
+/// entries, and a table for one entry more (`HasTables`). The insert may still run out of memory.
 pub fn granted_inserts_are_exact<
     K: Eq + Hash,
     V,
@@ -156,8 +156,8 @@ pub fn inserts_grow_little<
         buckets old < buckets new → full_capacity (buckets new) < 4 * (length old.pairs + 1) }
 {}
 
-/// Suppose that the map has entries, but no growth left. If the first free bucket that a search for the new key finds
-/// is deleted, the new entry fills this bucket. The limiter is not queried for a growth, and nothing moves (`served`).
+/// Suppose that the map has entries, but no growth left. If the first free bucket in the search for the new key is
+/// deleted, the new entry fills this bucket. The limiter is not queried for a growth, and nothing moves (`served`).
 /// If the limiter also accepts the new entry, and is then not over its limit, an insert evicts nothing (`added`).
 /// Conversely, if an insertion keeps the number of buckets, and evicts and moves nothing, the first free bucket was
 /// deleted (`only`).

@@ -30,7 +30,7 @@ along number (suc n) slots from = unwrap_or (option_map (λ entry. number from �
     (entry_at slots (number from))) []
 
 module _ {K V N : Type 0} where
-  -- the link of the entry in a bucket to its newer neighbour, and the link to its older one
+  -- the links of the entry in a bucket, to its newer neighbour and to its older neighbour
   abbrev pub newer_at : List (Slot (Entry K V N)) → ℕ → Option N
   newer_at slots b = option_map (λ entry. entry.newer) (entry_at slots b)
 
@@ -46,7 +46,7 @@ module _ {K V N : Type 0} where
 
 module _ {K V N : Type 0} (number : N → ℕ) where
   -- If the link `at` leads to an entry, the link `kind` of this entry is now `to`. The link `other` of each entry, and
-  -- the links of all other entries, have stayed.
+  -- the links of all other entries, have not changed.
   pub record SetsLink (kind other : Entry K V N → N) (old new : List (Slot (Entry K V N))) (at to : N) : Type 0 where
     pub pairs : pair_slots new ≡ pair_slots old
     pub there : IsFull old (number at) → option_map kind (entry_at new (number at)) ≡ Some to
@@ -98,8 +98,8 @@ module _ {K V N : Type 0} (number : N → ℕ) (link : ℕ → N) (none : N) whe
     pub all : (b : ℕ) → IsFull slots b → Contains order b
     pub count : entry_count slots ≡ length order
 
-  -- Bucket b, with these two links, is about to be taken out of the chain `order`. The entry of b may have left the
-  -- slots already, but no other entry has.
+  -- Bucket b, with these two links, is about to be taken out of the chain `order`. The entry of b may be out of the
+  -- slots already. All other entries are still in their slots.
   pub record IsGap (slots : List (Slot (Entry K V N))) (newest oldest : N) (order : List ℕ) (b : ℕ) (newer older : N)
       : Type 0 where
     pub before : List (Slot (Entry K V N))

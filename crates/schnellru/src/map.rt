@@ -113,8 +113,8 @@ impl<K: Eq + Hash + Drop, V: Drop, L: Limiter<K, V> + Drop, S: KeyHasher<K> + Dr
 }
 
 impl<K: Eq + Hash, V, L: Limiter<K, V>, S: KeyHasher<K>> LruMap<K, V, L, S> {
-    /// Makes an empty map with this limiter and this hasher. The map counts `entry_bytes` bytes for each entry. Cost:
-    /// `O(1)`, and no memory.
+    /// Makes an empty map with this limiter and this hasher. `memory_usage` counts `entry_bytes` bytes for each bucket.
+    /// Cost: `O(1)`, and no memory.
     ///
     /// ```
     /// let map: LruMap<u64, u32> = LruMap::with_hasher(alloc, ByLength::new(3), RandomState::default(), 24);

@@ -19,7 +19,7 @@ use std::marker::Model;
 /// assert_eq!(rt; limiter.cost(), 19);
 /// ```
 ///
-/// Cost: each callback reads the cost of each of its keys and values once, and takes no memory.
+/// Cost: each callback reads the cost of its keys and values at most twice, and takes no memory.
 #[derive(Clone, Copy, Debug)]
 pub struct ByWeight<const OVERHEAD: u64> {
     limit: u64,

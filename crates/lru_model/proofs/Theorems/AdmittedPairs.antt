@@ -1,4 +1,4 @@
--- A pair that the limiter can store, as its `terms` say in advance (`can_store`).
+-- A pair for which `can_store` is true.
 --     accepts_new      the limiter accepts such a pair when an insert offers it
 --     adds             if growth is left, an insert adds the pair and evicts nothing
 --     says             what a caller learns about `try_insert`

@@ -1,5 +1,5 @@
--- An insert changes the pairs as it would change a list without a table if growth is left. It also does if the limiter
--- permits every growth and there are tables.
+-- If growth is left, an insert changes the pairs as it would change a list without a table. The same holds if the
+-- limiter permits every growth and there are tables.
 use Rattle.std.proofs.Common.{◌≡◌, ◌≢◌, ℕ, ◌+◌, ◌⊎◌, inl, inr, Bool, true, false, cond, length, Some, Result}
 use Rattle.std.proofs.Common.{refl, sym, ap, ◌∙◌, subst, arith, ◌<◌, ◌≤◌}
 use Rattle.std.specs.declared.alloc.AllocError.{AllocError}

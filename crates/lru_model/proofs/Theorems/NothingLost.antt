@@ -1,4 +1,4 @@
--- The new pair and each old pair are in the map after an insert, or were passed to its callback.
+-- After an insert, the stored pair and each old pair of another key are in the map, or were passed to the callback.
 use Rattle.std.proofs.Common.{◌≡◌, ℕ, Bool, true, false, List, [], ◌∷◌, ◌++◌, reverse, Some, None, Result, Ok}
 use Rattle.std.proofs.Common.{refl, sym, ap, ◌∙◌, subst, append-nil, ◌⊎◌, inl, inr, cond, arith}
 use Rattle.std.proofs.lemmas.List.{reverse-append, reverse-reverse}

@@ -1,4 +1,4 @@
--- Insertions into the table are paid for, including those of a reservation if no growth was left before it.
+-- Insertions into the table are paid for. A reservation is included if no growth was left before it.
 use Rattle.std.proofs.Common.{◌≡◌, ℕ, ◌+◌, ◌≤◌, Bool, Result, Ok, length, ap, subst, arith, true}
 use Rattle.std.proofs.lemmas.Map.{length-set_value}
 use Rattle.std.specs.declared.alloc.AllocError.{AllocError}

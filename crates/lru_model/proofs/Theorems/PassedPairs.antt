@@ -1,4 +1,4 @@
--- The number of pairs that an insert leaves or passes to its callback is at most one more than there were pairs before.
+-- If an insert finds n pairs, it leaves or passes to its callback at most n + 1 pairs.
 use Rattle.std.proofs.Common.{◌≡◌, ℕ, zero, suc, ◌+◌, ◌≤◌, Bool, true, false, List, [], ◌∷◌, ◌++◌, length}
 use Rattle.std.proofs.Common.{Result, refl, ap, ◌∙◌, arith, length-append}
 use Rattle.std.specs.Prelude.{if◌then◌else◌}

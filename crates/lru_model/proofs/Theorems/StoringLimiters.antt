@@ -1,4 +1,4 @@
--- Limiters that store pairs unchanged satisfy the premises of the laws on what an insert keeps.
+-- Limiters that accept pairs unchanged satisfy the premises of the laws on what an insert keeps.
 use Rattle.std.proofs.Common.{◌≡◌, ℕ, ◌+◌, Bool, true, false, cond, List, length, Some, None, Option, refl, sym}
 use Rattle.std.proofs.Common.{ap}
 use Rattle.std.proofs.Common.{◌∙◌}

@@ -10,10 +10,10 @@ use lru_limits::{Admission, ByBytes, Insertion, KeyHasher, Limiter, OwnedBytes, 
 use std::hash::Hash;
 
 /// `ByBytes` limits the bytes of the table plus the bytes that the entries own. If a map keeps to its limit
-/// (`KeepsBytes`), these bytes are at most the limit (`memory`), and the map keeps to its limit after each call
-/// (`kept`) and each `try_insert` (`tried`). No call changes the limit (`limit`). The limiter permits a growth only if
-/// the new table and what the entries own are within the limit (`grown`). The old table is not counted. So while both
-/// tables exist, the map takes at most the limit, plus the bytes of the old table.
+/// (`KeepsBytes`), these bytes are at most the limit (`memory`). The map then keeps to its limit after each `Step`
+/// (`kept`) and each `try_insert` (`tried`). No `Step` changes the limit (`limit`). The limiter permits a growth only
+/// if the new table plus what the entries own is within the limit (`grown`). The old table is not counted. So while
+/// both tables exist, the map takes at most the limit, plus the bytes of the old table.
 ///
 /// A new map is within its limit (`begins`). `set_limiter` may set a limiter with another limit. Suppose that this
 /// limiter counts the bytes of the map (`CountsBytes`), and that its bytes for the table are within its limit. Then the
@@ -47,8 +47,8 @@ pub fn calls_keep_the_bytes<
         KeepsBytes (both_own K.owned V.owned) new }
 {}
 
-/// Any calls, one after another, keep a map within its limit (`kept`), and keep the limit (`limit`). Values may be
-/// written between the calls, if each entry still owns as many bytes as before.
+/// Any `Step`s, one after another, keep a map within its limit (`kept`), and keep the limit (`limit`). Values may be
+/// written between the steps, if each entry still owns as many bytes as before.
 pub fn runs_keep_the_bytes<
     K: OwnedBytes + Eq + Hash + Drop,
     V: OwnedBytes + Drop,

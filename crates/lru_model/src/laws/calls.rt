@@ -70,7 +70,7 @@ pub fn calls_keep_the_budget<K: Eq + Hash, V, L: Budgeted<K, V>, S: KeyHasher<K>
         L.account new.limiter ≤ L.budget_of new.limiter }
 {}
 
-/// Each call adds at most one entry.
+/// Each `AnyStep` adds at most one entry.
 pub fn calls_add_one_pair<
     K: Eq + Hash,
     V,

@@ -10,7 +10,7 @@ use lru_limits::{Admission, KeyHasher};
 use std::hash::Hash;
 
 /// A `try_insert` pays for its insertions into the table, even if it reserves growth. The number of insertions, plus
-/// the potential, rises by at most 3 (`rise`), and rises only if the entry is stored (`stored`).
+/// the potential, rises by at most 3 (`rise`), and `PaysForInsertions` holds (`stored`).
 ///
 /// Any calls, one after another, pay for their insertions, too (`runs`). The number of insertions, plus the potential,
 /// rises by at most 3 for each entry that is stored, plus 2 for each entry that a shrink rehashed. This holds until the

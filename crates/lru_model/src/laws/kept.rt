@@ -1,5 +1,4 @@
-//! What an insert keeps. An insert loses no entry. If growth is left, and the limiter accepts the new entry and is then
-//! not over its limit, the insert evicts nothing. With `ByLength`, an insert leaves the newest entries.
+//! What an insert keeps: it loses no entry, and with `ByLength` it leaves the newest entries.
 
 ghost use Rattle.std.specs.Prelude.{◌≡◌, ◌⊎◌, ℕ, ◌-◌, ◌^◌, ◌<◌, ◌≤◌, [], ◌∷◌, ◌++◌, length, reverse, Bool};
 ghost use Rattle.std.specs.Prelude.{true, false, Result, Ok, List, None};
@@ -23,8 +22,8 @@ use std::hash::Hash;
 
 /// An insert loses no entry, if the limiter changes no evicted or removed entry (`ChangesNoPair`). `LosesNothing` says,
 /// for each result, where the new entry and the old entries are afterwards (`all`). Suppose that the result is true.
-/// Then the map has the stored entry and the newest entries of other keys, and the callback got the others, oldest
-/// first (`stored`). In each case, every old entry of another key is in the map or was passed to the callback
+/// Then the map has the stored entry and the newest entries of other keys, and the callback got the oldest entries,
+/// oldest first (`stored`). In each case, every old entry of another key is in the map or was passed to the callback
 /// (`others`).
 pub fn nothing_is_lost<K: Eq + Hash, V, I: LookupKey<K>, L: Insertion<K, V, I>, S: KeyHasher<K>>()
     ensures all { (key : I) (value : V) (old : State K V L S) (result : Result Bool AllocError)
@@ -99,8 +98,8 @@ pub fn inserts_leave_the_newest<K: Eq + Hash + Drop, V: Drop, S: KeyHasher<K>>()
 {}
 
 /// A new map with `ByLength` keeps to its length (`KeepsToLength`), if its `max_length` is at most 939,524,096 and an
-/// entry has fewer than 4,294,967,295 bytes (`begins`). A map that keeps to its length still does after any `Step`
-/// (`goes_on`), and after any write to a value (`written`). A `Step` never sets the limiter.
+/// entry has fewer than 4,294,967,295 bytes (`begins`). A map that keeps to its length still does after any `Step` that
+/// leaves a sound table (`goes_on`), and after any write to a value (`written`). A `Step` never sets the limiter.
 pub fn maps_keep_to_their_length<K: Eq + Hash + Drop, V: Drop, S: KeyHasher<K>>()
     ensures begins { (most entry_bytes : ℕ) (hasher : S) →
         most ≤ most_exact_length → entry_bytes < 2 ^ 32 - 1 →

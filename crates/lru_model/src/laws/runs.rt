@@ -21,8 +21,8 @@ pub fn runs_keep_maps<K: Eq + Hash, V, I: LookupKey<K>, L: Insertion<K, V, I>, S
         IsMap K.eq old → IsMap K.eq new }
 {}
 
-/// If the running total of the limiter is the sum of the costs of the entries, it is this sum after any calls, too.
-/// Values may be written between the calls, if each new value costs as much as the old value.
+/// If the running total of the limiter is the sum of the costs of the entries, it is this sum after any `Step`s, too.
+/// Values may be written between the steps, if each new value costs as much as the old value.
 pub fn runs_keep_sums<K: Eq + Hash, V, I: LookupKey<K>, L: Insertion<K, V, I>, S: KeyHasher<K>>()
     ensures sum { (cost : K → V → ℕ) (account : L → ℕ) → IsAccount L.rules L.offers cost account →
         (old new : State K V L S) →
@@ -72,7 +72,7 @@ pub fn each_insert_of_a_run_evicts_the_oldest<
         EachStep (InsertEvictsOldest L.rules L.offers I.names S.hash_of) run }
 {}
 
-/// `calls_keep_the_length` also holds of any calls and writes of values, one after another.
+/// `calls_keep_the_length` also holds of any `Step`s and writes of values, one after another.
 pub fn runs_keep_the_length<K: Eq + Hash, V, L: Insertion<K, V, K>, S: KeyHasher<K>>()
     ensures limit { (most : L → ℕ) → LimitsLength L.rules L.offers most → (old new : State K V L S) →
         Run (StepOrWrite L.rules L.offers K.eq S.hash_of) new old → most new.limiter ≡ most old.limiter }
@@ -81,7 +81,7 @@ pub fn runs_keep_the_length<K: Eq + Hash, V, L: Insertion<K, V, K>, S: KeyHasher
         length old.pairs ≤ most old.limiter → length new.pairs ≤ most old.limiter }
 {}
 
-/// `calls_keep_the_memory_usage` also holds of any calls and writes of values, one after another.
+/// `calls_keep_the_memory_usage` also holds of any `Step`s and writes of values, one after another.
 pub fn runs_keep_the_memory_usage<K: Eq + Hash, V, L: Insertion<K, V, K>, S: KeyHasher<K>>()
     ensures limit { (most : L → ℕ) → LimitsMemory L.rules L.offers most → (old new : State K V L S) →
         Run (StepOrWrite L.rules L.offers K.eq S.hash_of) new old → most new.limiter ≡ most old.limiter }
@@ -90,7 +90,7 @@ pub fn runs_keep_the_memory_usage<K: Eq + Hash, V, L: Insertion<K, V, K>, S: Key
         UsesAtMost (most old.limiter) old → UsesAtMost (most old.limiter) new }
 {}
 
-/// `calls_keep_the_budget` also holds of any calls, one after another, and any writes of values that cost as much as
+/// `calls_keep_the_budget` also holds of any `Step`s, one after another, and any writes of values that cost as much as
 /// the old values. Writes of other values do not change the budget, either (`budget`).
 pub fn runs_keep_the_budget<K: Eq + Hash, V, L: Budgeted<K, V>, S: KeyHasher<K>>()
     ensures total { (old new : State K V L S) →

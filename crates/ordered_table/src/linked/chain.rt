@@ -53,8 +53,8 @@ impl<K, V, N: LinkType> Chain<K, V, N> {
         }
     }
 
-    // Returns whether the link leads to a bucket. Compares it with the number of buckets instead of `MAX`, which saves
-    // an instruction.
+    // Returns whether the link leads to a bucket. Compares the link with the number of buckets instead of `MAX`, which
+    // saves an instruction.
     #[inline]
     pub(crate) fn leads(&self, link: N) -> bool
         requires some { 0 < length self.now.table.slots }

@@ -41,7 +41,7 @@ impl<K, V, N: LinkType> OrderedTable<K, V, N> {
         self.linked.place(hash, pair);
     }
 
-    /// Does what `place` does, even if no growth is left.
+    /// Does what `place` does. If no growth is left, only a deleted bucket may take the pair.
     ///
     /// # Errors
     ///
@@ -146,7 +146,7 @@ impl<K: Eq + Hash, V, N: LinkType> OrderedTable<K, V, N> {
     /// Moves all pairs into a table of `buckets` buckets, in the same order. If the table already has `buckets`
     /// buckets, the pairs are rehashed in place.
     ///
-    /// Cost: `O(buckets)` of both tables, and a hash for each pair.
+    /// Cost: `O(old buckets + new buckets)`, and a hash for each pair.
     ///
     /// # Errors
     ///

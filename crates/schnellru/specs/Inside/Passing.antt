@@ -6,7 +6,7 @@ use Rattle.lru_model.specs.Callbacks.{CalledWith}
 
 module _ {K V F : Type 0} (closure : Mut F (K × (V × Unit {0})) (Unit {0})) where
   -- The callback is f before this part of the call, and g after it. `step` relates two lists: the pairs that were
-  -- passed before this part, and the pairs that were passed until its end.
+  -- passed before this part, and all pairs that were passed by its end.
   abbrev pub Passes : F → F → (List (K × V) → List (K × V) → Type 0) → Type 0
   Passes f g step = (first : F) (before : List (K × V)) → CalledWith closure first before f → (after : List (K × V))
       × CalledWith closure first after g × step before after

@@ -35,17 +35,18 @@ module _ (K V L S N H : RattleType) (key : HashMembers K.Denot)
       (record { hash_of = hashed.hash_of }) (record { build_hasher = hashed.build_hasher }) hash
 
   module _ (m : MutBor (State K.Denot V.Denot L.Denot S.Denot)) where
-    -- The map ends as `base`, with the last value written through r for the named key. If r is `None`, the map does not
-    -- change.
+    -- After the loan the map is `base`, with the last value written through r for the named key. If r is `None`, the
+    -- map does not change.
     abbrev pub lends_value : (K.Denot → Bool) → State K.Denot V.Denot L.Denot S.Denot → Option (MutBor V.Denot) → Fml
     lends_value names base r = LendsIf map_row V m r (λ last. written names last base) m.now
 
-    -- a part of the map was lent for reading, and the map ends as `last`
+    -- a part of the map was lent for reading, and the map is `last` after the loan
     abbrev pub ends_as : State K.Denot V.Denot L.Denot S.Denot → Fml
     ends_as last = follows_so map_row map_row m.ghost_name none (λ _ _. ⊤) (λ n. n ≡ last)
 
-    -- If r is `Some`, it lends the value of a pair that satisfies `gives`. The map ends as the result of `turned` for
-    -- this pair's key, where the key has the last value written through r. If r is `None`, the map does not change.
+    -- If r is `Some`, r lends the value of a pair that satisfies `gives`. After the loan the map is the result of
+    -- `turned` for this pair's key, with the last value written through r for this key. If r is `None`, the map does
+    -- not change.
     abbrev pub lends_given : (K.Denot × V.Denot → Type 0)
         → ((K.Denot → Bool) → State K.Denot V.Denot L.Denot S.Denot → State K.Denot V.Denot L.Denot S.Denot)
         → Option (MutBor V.Denot) → Fml
@@ -62,15 +63,15 @@ module _ (K V L S N H : RattleType) (key : HashMembers K.Denot)
     abbrev pub lends_newest_value : MutBor V.Denot → Fml
     lends_newest_value r = Lends map_row V m r (λ last. record m.now { pairs = set_newest m.now.pairs last })
 
-    -- after the loan bucket b has the last value written through r
+    -- after the loan the pair in bucket b has the last value written through r
     abbrev pub lends_value_in : ℕ → MutBor V.Denot → Fml
     lends_value_in b r = Lends map_row V m r (λ last. written_in b last m.now)
 
-    -- after the loan position i has the last value written through r
+    -- after the loan the pair at position i has the last value written through r
     abbrev pub lends_value_at : ℕ → Bor K.Denot × MutBor V.Denot → Fml
     lends_value_at i r = follows map_row V m.ghost_name r.1.ghost_name
         (λ last. record m.now { pairs = set_value_at m.now.pairs i last })
 
-    -- the map ends with the last limiter written through r
+    -- after the loan the map has the last limiter written through r
     abbrev pub lends_limiter : MutBor L.Denot → Fml
     lends_limiter r = Lends map_row L m r (λ last. record m.now { limiter = last })

@@ -182,7 +182,7 @@ impl<K: Eq + Hash + Drop, V: Drop, L: Limiter<K, V>, S: KeyHasher<K>> LruMap<K, 
     /// # Errors
     ///
     /// `Caller` contains the error of the closure. `Memory` means that the closure succeeded, and then the insert ran
-    /// out of memory. Some of the oldest entries may have been evicted.
+    /// out of memory. Then some of the oldest entries may have been evicted.
     pub fn ensure_newest_fallible<I: LookupKey<K> + Drop, E, F: FnOnce() -> Result<V, E>>(
         &mut self,
         key: I,

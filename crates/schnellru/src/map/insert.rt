@@ -17,8 +17,9 @@ impl<K: Eq + Hash + Drop, V: Drop, L: Limiter<K, V>, S: KeyHasher<K>> LruMap<K, 
     /// Inserts a key with a value, as the newest entry. Returns whether the key is in the map afterwards.
     ///
     /// If the key is there, the stored key stays and gets the new value. If the limiter rejects the new value, the
-    /// entry is removed, and the result is false. If the key is new, the limiter returns the entry to store, or `None`.
-    /// If the limiter would be over its limit with one more entry, the oldest entry is evicted first.
+    /// entry is removed, and the result is false. If the key is new, the limiter returns the entry to store. If it
+    /// returns `None`, nothing is stored, and the result is false. If the limiter would be over its limit with one more
+    /// entry, the oldest entry is evicted first.
     ///
     /// If no bucket can take the new entry, the table grows. A table with fewer than half of the entries that it may
     /// hold is rehashed instead. If no larger table exists, or if the limiter refuses it, the oldest entries are
@@ -103,7 +104,7 @@ impl<K: Eq + Hash, V: Drop, L: Limiter<K, V>, S: KeyHasher<K>> LruMap<K, V, L, S
         kept
     }
 
-    // Drops the value that the map does not keep before anything is evicted. So a limiter that learns of drops no
+    // Before anything is evicted, drops the value that the map does not keep. So a limiter that learns of drops no
     // longer counts this value.
     #[inline(always)]
     fn insert_or_drop<I: LookupKey<K>, F: FnMut(K, V)>(
@@ -222,7 +223,7 @@ impl<K: Eq + Hash, V, L: Limiter<K, V>, S: KeyHasher<K>> LruMap<K, V, L, S> {
         inserted
     }
 
-    // Also returns the value that the map does not keep.
+    // Does not drop the value that the map does not keep, but returns this value.
     #[inline(always)]
     fn insert_or_replace<I: LookupKey<K>, F: FnMut(K, V)>(
         &mut self,

@@ -107,8 +107,8 @@ impl<K: Eq + Hash, V, L: Limiter<K, V>, S: KeyHasher<K>> LruMap<K, V, L, S> {
     {
         self.settle();
         self.make_room(sink);
-        // `insert_without_growth` takes the key and the value as two arguments, because each insert would first clear
-        // memory for a pair.
+        // `insert_without_growth` takes the key and the value as two arguments. If it took a pair, each insert would
+        // first clear memory for a pair.
         let (key, value) = pair;
         if self.growth_left() == 0 {
             return self.insert_without_growth(hash, key, value, sink);
@@ -117,8 +117,7 @@ impl<K: Eq + Hash, V, L: Limiter<K, V>, S: KeyHasher<K>> LruMap<K, V, L, S> {
         Ok(self.evict_over_limit(sink))
     }
 
-    // Tests whether a deleted bucket can take the pair. The function is out of line, because only inserts without
-    // growth left need this test.
+    // Tries a deleted bucket first. The function is out of line, because only inserts without growth left call it.
     #[cold]
     #[inline(never)]
     fn insert_without_growth<F: FnMut(K, V)>(
@@ -144,7 +143,7 @@ impl<K: Eq + Hash, V, L: Limiter<K, V>, S: KeyHasher<K>> LruMap<K, V, L, S> {
         }
     }
 
-    // Under `ByMemoryUsage`, each insert of a new pair may call this. The function is out of line, so that the code of
+    // Under `ByMemoryUsage`, each insert of a new pair may call this function. It is out of line, so that the code of
     // other inserts stays short.
     #[inline(never)]
     fn insert_without_bucket<F: FnMut(K, V)>(

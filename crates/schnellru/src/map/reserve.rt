@@ -22,7 +22,7 @@ impl<K: Eq + Hash, V, L: Limiter<K, V>, S: KeyHasher<K>> LruMap<K, V, L, S> {
     /// assert_eq!(rt; (map.guaranteed_capacity(), map.len()), (7, 0));
     /// ```
     ///
-    /// Cost: `O(1)` if there is enough growth left, else `O(buckets)` of both tables.
+    /// Cost: `O(1)` if there is enough growth left, else `O(old buckets + new buckets)`.
     ///
     /// # Errors
     ///

@@ -56,9 +56,9 @@ impl<K: Eq + Hash + Drop, V: Drop, L: Admission<K, V> + Copy, S: KeyHasher<K>> L
         self.try_insert_hashed(hash, key, value)
     }
 
-    /// Does what `try_insert` does, by the known hash of the key.
+    /// Does what `try_insert` does, but gets the hash of the key from the caller.
     ///
-    /// The hash must be what `map.hasher().hash_named(&key)` returns, which the prover checks.
+    /// The hash must be the result of `map.hasher().hash_named(&key)`. The prover checks this.
     ///
     /// ```
     /// let hash = map.hasher().hash_named(&4);
@@ -71,7 +71,7 @@ impl<K: Eq + Hash + Drop, V: Drop, L: Admission<K, V> + Copy, S: KeyHasher<K>> L
     ///
     /// # Errors
     ///
-    /// As `try_insert`.
+    /// Fails as `try_insert` does.
     ///
     /// Follows `RawEntryMut::insert_hashed_nocheck` of the crate `hashlink`.
     pub fn try_insert_hashed(&mut self, hash: u64, key: K, value: V) -> Result<(), (K, V)>

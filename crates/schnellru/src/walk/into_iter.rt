@@ -9,7 +9,7 @@ use std::hash::Hash;
 use std::iter::FusedIterator;
 use std::marker::Model;
 
-/// An iterator that owns a map, and takes its entries out from both ends. `next` takes the newest.
+/// An iterator that owns a map, and takes its entries out from both ends. `next` takes the newest entry.
 ///
 /// Dropping the iterator drops the remaining entries without notifying the limiter.
 ///
