@@ -1,4 +1,4 @@
-use Rattle.std.proofs.Common.{◌≡◌, ◌+◌, ◌-◌, suc, sym, ◌∙◌, subst, arith}
+use Rattle.std.proofs.Common.{◌≡◌, ◌⊎◌, ◌≤◌, ◌+◌, ◌-◌, suc, sym, ◌∙◌, subst, inl, inr, Err, arith}
 use Rattle.std.proofs.lemmas.Result.{err_from_is_err_and}
 use Rattle.lru_caches.specs.Pages.{ReadsPage, ReadsPages, UsesPage}
 use Rattle.lru_caches.proofs.Blocks.{good-before}
@@ -18,6 +18,7 @@ loop-n-preserved g c =
     let at : start + (n - start) ≡ n = omega (arith, h.from) in
     record {
       from = omega (arith, h.from);
+      to = inl (omega (arith, c.loop-n-test.true));
       reads = subst (λ k. ReadsPages d start k c.args.self.now new) (sym one) (
         old,
         h.reads,
@@ -42,11 +43,16 @@ returns-in_err-bring-clause-failed g c =
       omega (arith, h.from, c.loop-n-test.true),
       c.loop-n.self,
       h.reads,
-      subst (λ m. UsesPage d m c.loop-n.self _ c.bring.new.self) (sym at) c.in_err-bring.ensures.uses,
+      subst (λ m. UsesPage {A = Unit {0}} d m c.loop-n.self (Err c.in_err-bring.field-0.0) c.bring.new.self) (sym at)
+      c.in_err-bring.ensures.uses,
     )
 
 pub returns-clause-reads : goal.returns-clause-reads
 returns-clause-reads g c =
     let start = c.args.blocks.start in
-    let all : c.loop-n.n - start ≡ c.args.blocks.end - start = omega (arith, c.loop-n.invariant.from) in
-    subst (λ k. ReadsPages g.D.BlockDevice start k c.args.self.now c.loop-n.self) all c.loop-n.invariant.reads
+    let h = c.loop-n.invariant in
+    let all : c.loop-n.n - start ≡ c.args.blocks.end - start = elim h.to [
+      | inl within ↦ omega (arith, h.from, within, c.loop-n-test.false)
+      | inr same ↦ omega (arith, same, c.loop-n-test.false)
+    ] in
+    subst (λ k. ReadsPages g.D.BlockDevice start k c.args.self.now c.loop-n.self) all h.reads

@@ -1,4 +1,4 @@
-use Rattle.std.proofs.Common.{◌≡◌, ◌∷◌, nat_eq, length, cond, Some, sym, ap, ◌∙◌}
+use Rattle.std.proofs.Common.{◌∷◌, true, nat_eq, length, cond, Some, sym, ap, ◌∙◌}
 use Rattle.std.proofs.lemmas.Cmp.{nat_eq_equiv}
 use Rattle.std.specs.Map.{lookup}
 use Rattle.lru_model.specs.Lists.{without}
