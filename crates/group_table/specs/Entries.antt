@@ -1,4 +1,4 @@
--- How the fields of `Entries` hold the places.
+-- The places of `Entries`, and their block of memory.
 use Rattle.std.specs.Prelude.{◌≡◌, ◌<◌, List, [], length, Option, Some, None, ⊤}
 use Rattle.std.specs.declared.alloc.Global.{Global}
 use Rattle.group_table.specs.declared.entries.Row.{Row}

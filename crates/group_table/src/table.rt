@@ -176,8 +176,8 @@ impl<T> Table<T> {
     /// Takes the entry out of a full bucket.
     ///
     /// If each run of 16 neighbouring buckets that includes this bucket contains an empty bucket, this bucket becomes
-    /// empty, and the growth left rises by one. In a table of up to 16 buckets, each run contains an empty bucket.
-    /// Otherwise this bucket becomes deleted, so that searches still go past it.
+    /// empty, and the growth left rises by one. Otherwise this bucket becomes deleted, so that searches still go past
+    /// it. In a table of up to 16 buckets, each run contains an empty bucket.
     #[inline(always)]
     pub fn take(&mut self, b: usize) -> T
         requires { IsFull self.old.slots b }

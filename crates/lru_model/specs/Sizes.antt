@@ -46,9 +46,9 @@ abbrev pub table_with : ℕ → Option ℕ → Target
 table_with entry_bytes None = no_table
 table_with entry_bytes (Some buckets) = table_of buckets (usage entry_bytes buckets)
 
--- A table of `buckets` buckets grows for `pairs` pairs, which need `need` buckets. If the table has fewer buckets, it
--- grows to `need` buckets. Otherwise, if `pairs` is at most half of its capacity, it keeps its size. Otherwise it grows
--- to twice its buckets. If the new table is too large, it does not grow (`no_table`).
+-- A table of `buckets` buckets grows for `pairs` pairs, which need `need` buckets. If the table has fewer, it grows to
+-- `need` buckets. Otherwise, if `pairs` is at most half of its capacity, it keeps its size. Otherwise it grows to twice
+-- its buckets. If the new table is too large, the table does not grow (`no_table`).
 abbrev pub target_from : ℕ → ℕ → ℕ → ℕ → Option ℕ → Target
 target_from max entry_bytes buckets pairs None = no_table
 target_from max entry_bytes buckets pairs (Some need) =

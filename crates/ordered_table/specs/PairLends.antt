@@ -8,7 +8,7 @@ use Rattle.ordered_table.specs.contracts.ordered.OrderedTable.{the_row as linked
 use Rattle.ordered_table.specs.contracts.linked.LinkedTable.{the_row as links_row}
 use Rattle.ordered_table.specs.contracts.ordered.Pair.{the_row as pair_row}
 
--- after the borrow r ends, the bucket contains the last pair written through r
+-- after the borrow r ends, bucket b contains the last pair written through r
 abbrev pub lends_pair : (K V N : RattleType) → link_type.Ghosts N.Denot
     → MutBor (OrderedTable K.Denot V.Denot) → ℕ → MutBor (Pair K.Denot V.Denot) → Fml
 lends_pair K V N links t b r = Lends (linked_row K V N links) (pair_row K V) t r

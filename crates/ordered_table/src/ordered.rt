@@ -30,8 +30,8 @@ pub struct Pair<K, V> {
 
 /// A table whose full buckets are in an order, newest first. `N` is the type of its links.
 ///
-/// A contract sees a table as its `slots`, the `order` of its full buckets, and its `insertions`. The caller computes
-/// the hashes. The keys fit the table (`KeysFit`) if each pair was inserted with the hash of its key.
+/// A contract sees a table as its `slots`, the `order` of its full buckets, and its `insertions`. Only `move_to`
+/// computes hashes. The keys fit the table (`KeysFit`) if each pair was inserted with the hash of its key.
 ///
 /// ```
 /// let hasher = RandomState::default();

@@ -62,8 +62,8 @@ impl<K: Eq + Hash, V, L: Limiter<K, V>, S: KeyHasher<K>> LruMap<K, V, L, S> {
         self.entries.len() + self.entries.growth_left()
     }
 
-    /// Returns the number of bytes of the table, or 0 if it has no buckets. The number is `entry_bytes` for each
-    /// bucket, full or not, rounded up to a multiple of 16, plus one byte for each bucket, plus 16 bytes.
+    /// Returns the number of bytes of the table, or 0 if it has no buckets. For n buckets, the number is
+    /// `n * entry_bytes` rounded up to a multiple of 16, plus n, plus 16.
     ///
     /// Cost: `O(1)`.
     ///
