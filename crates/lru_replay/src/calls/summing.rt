@@ -17,7 +17,7 @@ use std::hash::Hash;
 /// Carries out the calls on the map as `run_calls` does, except for calls that would make the limiter's total wrong.
 ///
 /// If a write would change the cost of its entry, or if a call would set a limiter with another total, the answer is
-/// `CostDiffers`, and nothing changes. So a total that is the sum of the costs stays their sum.
+/// `CostDiffers`, and nothing changes. So if the total was the sum of the costs, it still is.
 ///
 /// ```
 /// let mut costs: LruMap<u64, u64, ByCost> = LruMap::new(alloc, ByCost::new(10), [1, 2, 3, 4], 16);
@@ -27,7 +27,7 @@ use std::hash::Hash;
 /// assert!(rt; refuses && answers.get(2) == Some(&Answer::Value(Some(2))));
 /// ```
 ///
-/// Cost: as `run_calls`, and one more look-up for each `Write`.
+/// Cost: the cost of `run_calls`, and one more look-up for each `Write`.
 ///
 /// # Errors
 ///
