@@ -13,7 +13,6 @@ use crate::page::{
 use lru_caches::{FileError, HashedFileDevice, PageCache, PageError};
 use std::alloc::{AllocError, Global};
 
-/// Why a call failed.
 #[derive(Debug, Drop)]
 pub enum StoreError {
     Pages(PageError<FileError>),

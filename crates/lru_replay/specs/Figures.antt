@@ -1,4 +1,3 @@
--- The figures of a map.
 use Rattle.std.specs.Prelude.{◌≡◌, ◌+◌, length, Some}
 use Rattle.lru_model.specs.Sizes.{usage}
 use Rattle.lru_model.specs.State.{State, buckets, growth_left}

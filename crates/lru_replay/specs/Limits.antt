@@ -13,7 +13,6 @@ cost_rules = by_cost (λ value. value)
 abbrev pub cost_offers : Offers ℕ ℕ Budget ℕ
 cost_offers = charges (λ value. value)
 
--- the cost that the limiter keeps
 abbrev pub cost_reported : Budget → Option ℕ
 cost_reported b = Some b.cost
 

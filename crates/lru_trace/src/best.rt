@@ -80,7 +80,7 @@ impl Best {
     /// Returns how often MIN with bypass and `places` places misses, if it begins with no keys. This policy need not
     /// store the key that is referenced. No policy misses less often.
     ///
-    /// Cost: the cost of `min_misses`.
+    /// Cost: as `min_misses`.
     ///
     /// # Errors
     ///

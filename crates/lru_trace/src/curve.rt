@@ -189,7 +189,7 @@ impl Curve {
 
     /// References a key without counting the reference. Call this before the first `refer`.
     ///
-    /// Cost: the cost of `refer`.
+    /// Cost: as `refer`.
     ///
     /// # Errors
     ///

@@ -1,4 +1,3 @@
-//! A text to which parts are added.
 use std::alloc::Global;
 use std::fmt::{Debug, Write};
 

@@ -9,8 +9,8 @@ use std::hash::Hash;
 use std::iter::FusedIterator;
 use std::marker::Model;
 
-/// An iterator that owns an ordered map and takes its entries out, oldest first, from both ends. Dropping it drops the
-/// entries that are left.
+/// An iterator that owns an ordered map and takes its entries out, oldest first, from both ends. If it is dropped, it
+/// drops the remaining entries.
 ///
 /// ```
 /// let mut entries = map.into_iter();

@@ -13,7 +13,7 @@ use schnellru::KeyHasher;
 use std::ops::Range;
 
 impl<B: Copy, D: BlockDevice<B>, S: KeyHasher<u64>> PageCache<B, D, S> {
-    /// Makes a page the newest. If it is not cached, it is read first.
+    /// Makes a page the newest. If the page is not cached, reads it first.
     pub(super) fn bring(&mut self, n: u64) -> Result<(), PageError<D::Error>>
         ensures page { OnOk result ((block : B)
             × (D.IsHonest self.new.device → shown D.BlockDevice self.new n ≡ Some (D.seen block))
@@ -42,22 +42,22 @@ impl<B: Copy, D: BlockDevice<B>, S: KeyHasher<u64>> PageCache<B, D, S> {
 
     /// Returns a block, and makes its page the newest.
     ///
-    /// If the page is not cached and the cache is full, the oldest page that may go is evicted. If the evicted page is
-    /// dirty, it is written to the device first. A pinned page may not go, and a dirty page may not go if the cache
-    /// [keeps dirty pages](Self::set_keeps_dirty).
+    /// If the page is not cached and the cache is full, the oldest page that may be evicted is evicted. If this page is
+    /// dirty, it is written to the device first. A pinned page may not be evicted. If the cache [keeps dirty
+    /// pages](Self::set_keeps_dirty), a dirty page may not be evicted either.
     ///
     /// ```
     /// assert_eq!(rt; (cache.read(1), cache.len()), (Ok(20), 1));
     /// ```
     ///
-    /// Cost: `O(1)` expected, amortised over the growth of the table, and at most one read and one write of the device;
-    /// if a page is evicted, also `O(k)` for k older pages that may not go.
+    /// Cost: `O(1)` expected, amortised over the growth of the table, and at most one read and one write of the device.
+    /// If a page is evicted, also `O(k)` for k older pages that may not be evicted.
     ///
     /// # Errors
     ///
     /// No error if the page is cached. `Broken`: a `sync` has failed. `NoBlock`: the device has no such number. `Full`:
-    /// no page may go. `Device`: the read failed, or a page could not be written back; all pages stay. `Memory`: out of
-    /// memory for one page more; a page may have been evicted.
+    /// no page may be evicted. `Device`: the read failed, or a page could not be written back; no page was evicted.
+    /// `Memory`: out of memory for one more page; a page may have been evicted.
     pub fn read(&mut self, n: u64) -> Result<B, PageError<D::Error>>
         ensures block { IfOk result (λ block. D.IsHonest self.new.device
             → shown D.BlockDevice self.new n ≡ Some (D.seen block)) }

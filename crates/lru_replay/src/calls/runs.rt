@@ -1,4 +1,3 @@
-//! Lists of calls on a map.
 ghost use Rattle.std.specs.Prelude.{◌≡◌, IfOk};
 ghost use Rattle.std.specs.Result.{OnErr};
 ghost use Rattle.lru_model.specs.State.{IsMap};

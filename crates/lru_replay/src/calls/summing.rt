@@ -1,4 +1,3 @@
-//! Lists of calls under a limiter with a running total.
 ghost use Rattle.std.specs.Prelude.{◌≡◌, IfOk, true, false};
 ghost use Rattle.std.specs.Result.{OnErr};
 ghost use Rattle.lru_limits.specs.Admissions.{offers_of};
@@ -27,7 +26,7 @@ use std::hash::Hash;
 /// assert!(rt; refuses && answers.get(2) == Some(&Answer::Value(Some(2))));
 /// ```
 ///
-/// Cost: the cost of `run_calls`, and one more look-up for each `Write`.
+/// Cost: as `run_calls`, and one more look-up for each `Write`.
 ///
 /// # Errors
 ///

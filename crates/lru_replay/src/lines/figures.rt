@@ -44,7 +44,6 @@ impl ReportsCost for ByCost {
     }
 }
 
-/// The figures of a map.
 #[derive(Clone, Copy)]
 pub struct Figures {
     pub len: usize,

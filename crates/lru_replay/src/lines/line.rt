@@ -126,7 +126,6 @@ fn take_piece<R: BufRead>(reader: &mut R, line: &mut Line) -> Result<Piece, Repl
     Ok(Piece::Last)
 }
 
-/// How a line ended.
 #[derive(Clone, Copy)]
 pub enum Ending {
     Feed,

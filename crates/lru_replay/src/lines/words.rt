@@ -15,7 +15,6 @@ pub enum Numbers {
     Two(u64, u64),
 }
 
-/// The limit of the map.
 #[derive(Clone, Copy)]
 pub enum Limit {
     /// `length N`: at most N pairs.

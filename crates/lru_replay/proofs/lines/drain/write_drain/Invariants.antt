@@ -1,4 +1,3 @@
--- How many pairs were taken out and written.
 use Rattle.std.proofs.Common.{◌≡◌, ℕ, not, List}
 use Rattle.lru_model.specs.Lists.{is_empty}
 use Rattle.lru_model.specs.State.{contents, Leaves}
