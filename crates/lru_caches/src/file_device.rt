@@ -34,8 +34,8 @@ pub enum FileError {
 /// A device of the blocks of a file, of `N` bytes each.
 ///
 /// Nothing is proved of the bytes that an operating system returns or keeps. So contracts see a record of the calls on
-/// the file (`specs/Files`), which takes no memory. The premise `IsHonest` says that each read returned the bytes that
-/// the record determines, if it determines any. Under this premise a read returns what was last written there.
+/// the file (`specs/Files`), which takes no memory. The premise `IsHonest` says that each read returned what was last
+/// written or read there. Under this premise a read returns the known block.
 ///
 /// [`HashedFileDevice`] also finds torn and foreign blocks.
 ///

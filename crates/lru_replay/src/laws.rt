@@ -28,7 +28,7 @@ pub fn lists_are_runs<K: Eq + Hash, V, L: Insertion<K, V, K>, S: KeyHasher<K>>()
         × (AllByRecursion SetsNoLimiter calls → Run (StepOrKeptWrite L.rules L.offers K.eq S.hash_of cost) new old) }
 {}
 
-/// A run does to a map what it does to a list of pairs with distinct keys if two premises hold. The limiter permits
+/// If two premises hold, a run does to a map what it does to a list of pairs with distinct keys. The limiter permits
 /// every growth, as `ByLength`, `ByCost` and the unlimited limiters do. There is a table for each number of pairs that
 /// the map may have. `ListCallStep` defines the steps on the list and the limiter (`exact`). If the map has n pairs and
 /// the run m calls, it is enough that there is a table for 8 * (n + m + 1) pairs (`reached`).

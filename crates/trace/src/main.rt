@@ -166,7 +166,7 @@ fn run(rt: &HostRuntime, options: Options) -> ExitCode {
     };
     let mut progress = Progress::new(rt.alloc(), waiting);
     let end = trace(rt.alloc(), options, &mut reader, &mut writer, &mut progress);
-    // After a failed write the buffer still contains bytes. Its drop would write them again.
+    // After a failed write the buffer still contains bytes. Dropping the buffer would write them again.
     let (_output, _unwritten) = writer.into_parts();
     ExitCode::from(status(&end))
 }

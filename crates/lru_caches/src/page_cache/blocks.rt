@@ -99,7 +99,7 @@ impl<B: Copy, D: BlockDevice<B>, S: KeyHasher<u64>> PageCache<B, D, S> {
         Ok(read_newest(&self.map, read))
     }
 
-    /// Reads the blocks of these numbers into the cache, in their order, each as `read` does.
+    /// Brings the blocks of these numbers into the cache, by a `read` of each, in order.
     ///
     /// If there are more blocks than the capacity, only the last of them stay cached.
     ///
@@ -111,7 +111,7 @@ impl<B: Copy, D: BlockDevice<B>, S: KeyHasher<u64>> PageCache<B, D, S> {
     ///
     /// # Errors
     ///
-    /// As the first `read` that fails. The blocks before it were read.
+    /// The error of the first `read` that fails. The blocks before it were read.
     pub fn prefetch(&mut self, blocks: Range<u64>) -> Result<(), PageError<D::Error>>
         ensures reads { OnOk result
             (ReadsPages D.BlockDevice blocks.start (blocks.end - blocks.start) self.old self.new) }
@@ -128,7 +128,7 @@ impl<B: Copy, D: BlockDevice<B>, S: KeyHasher<u64>> PageCache<B, D, S> {
 
     /// Replaces a block in the cache, and makes its page the newest. The device gets the block later.
     ///
-    /// If the page is not cached and the cache is full, a page is evicted for it, as by `read`. A pin stays.
+    /// If the page is not cached and the cache is full, evicts a page (see `read`). A pin stays.
     ///
     /// ```
     /// assert_eq!(rt; cache.write(1, 20), Ok(()));
@@ -173,10 +173,10 @@ impl<B: Copy, D: BlockDevice<B>, S: KeyHasher<u64>> PageCache<B, D, S> {
         )
     }
 
-    /// Lends a closure a block for writing in place, makes its page dirty and the newest, and returns what the closure
-    /// returns.
+    /// Lends a closure a block for writing in place, and returns what the closure returns. The page becomes dirty and
+    /// the newest.
     ///
-    /// The block is read first if its page is not cached. A pin stays.
+    /// If the page is not cached, reads the block first. A pin stays.
     ///
     /// ```
     /// assert_eq!(rt; (cache.write_with(1, |block| *block = 21), cache.read(1)), (Ok(()), Ok(21)));
@@ -186,7 +186,7 @@ impl<B: Copy, D: BlockDevice<B>, S: KeyHasher<u64>> PageCache<B, D, S> {
     ///
     /// # Errors
     ///
-    /// `Broken`: a `sync` has failed. Otherwise as `read`. The closure is not called then.
+    /// `Broken`: a `sync` has failed. The other errors are those of `read`. After an error the closure is not called.
     pub fn write_with<R, U: FnOnce(&mut B) -> R>(
         &mut self,
         n: u64,

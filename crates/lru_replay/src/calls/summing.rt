@@ -13,7 +13,7 @@ use schnellru::{KeyHasher, LruMap, Summing};
 use std::alloc::{AllocError, Global};
 use std::hash::Hash;
 
-/// Carries out the calls on the map as `run_calls` does, except for calls that would make the limiter's total wrong.
+/// Carries out the calls on the map like `run_calls`, but makes no call that would make the limiter's total wrong.
 ///
 /// If a write would change the cost of its entry, or if a call would set a limiter with another total, the answer is
 /// `CostDiffers`, and nothing changes. So if the total was the sum of the costs, it still is.
