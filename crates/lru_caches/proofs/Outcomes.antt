@@ -1,3 +1,4 @@
+-- What follows from what a call returned.
 use Rattle.std.proofs.Common.{◌≡◌, true, false, Option, Some, None, is_some, Result, Ok, Err, OnOk, IfOk, refl}
 use Rattle.std.proofs.lemmas.Bool.{true≢false, false≢true}
 
