@@ -1,4 +1,4 @@
--- A retain of a list does to the reversed list what a retain of the reversed list does.
+-- If a retain takes a list to another list, it takes the reversed list to the reversed other list.
 use Rattle.std.proofs.Common.{◌≡◌, Bool, true, false, List, [], ◌∷◌, ◌++◌, reverse, length, map, refl, sym, ap}
 use Rattle.std.proofs.Common.{◌+◌, ◌∙◌, subst, arith}
 use Rattle.std.proofs.lemmas.List.{append-nil, length-append}
