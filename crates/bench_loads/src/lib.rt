@@ -1,4 +1,4 @@
-//! Loads on the map. A Rust program times each load inside one call. If memory runs out, an entry is missing, and the
+//! Loads on the map. A Rust program times one call for each load. If memory runs out, an entry is missing, and the
 //! result differs from the result of the other maps.
 #![tactic(auto)]
 
@@ -41,8 +41,8 @@ pub extern "C" fn rattle_load(alloc: Global, length: u32, kinds: &[u8], keys: &[
     if kinds.len() != keys.len() {
         return sum;
     }
-    // One counter, because the compiled loop over the other crate also has one counter. A zip of the two slices would
-    // have two.
+    // The loop has one counter, because the compiled loop over the other crate also has one. A zip of the two slices
+    // would have two.
     for i in 0..kinds.len() {
         sum = step_of_load(&mut map, kinds[i], keys[i], sum);
     }

@@ -17,7 +17,7 @@ fn map_of_texts(alloc: Global, length: u32, texts: &str, width: usize) -> LruMap
     map
 }
 
-/// Inserts texts of `width` bytes, and gets each by a `&str`, in each of `rounds` rounds. Returns a sum over the
+/// Inserts texts of `width` bytes. Then gets each by a `&str` in each of `rounds` rounds. Returns a sum over the
 /// values.
 #[unsafe(no_mangle)]
 pub extern "C" fn rattle_texts(
@@ -45,8 +45,8 @@ pub extern "C" fn rattle_texts(
     sum
 }
 
-/// Inserts values of 100 bytes, which are copies of parts of `bytes`, into a map of at most `length` entries, and gets
-/// each value. Returns a sum over their last bytes.
+/// Inserts values of 100 bytes into a map of at most `length` entries, and gets each value. The values are copies of
+/// parts of `bytes`. Returns a sum over their last bytes.
 #[unsafe(no_mangle)]
 pub extern "C" fn rattle_large_values(
     alloc: Global,

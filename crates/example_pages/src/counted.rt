@@ -1,4 +1,3 @@
-//! A device that counts its writes.
 use lru_caches::BlockDevice;
 
 #[derive(Drop)]

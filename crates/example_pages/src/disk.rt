@@ -1,4 +1,4 @@
-//! A file, or a file in memory. A crash of a file in memory loses what was not made durable.
+//! A file, or a file in memory that can crash. A crash may lose what was not made durable.
 use lru_caches::Durable;
 use std::alloc::{AllocError, Global};
 use std::cell::Cell;
@@ -6,10 +6,10 @@ use std::fs::File;
 use std::io::{self, ErrorKind, Read, Seek, SeekFrom, Write};
 use test_helpers::Random;
 
-/// What a disk writes whole: a crash may tear a page between two sectors.
+/// A disk writes a sector whole. A crash may tear a page between two sectors.
 const SECTOR: usize = 2048;
 
-/// The calls that a machine makes before it loses power. From then on each call fails.
+/// The power of a machine. It fails after `calls_left` calls, and then each call fails.
 #[derive(Drop)]
 pub struct Power {
     calls_left: Cell<u64>,
@@ -51,7 +51,7 @@ impl<'a> CrashFile<'a> {
         })
     }
 
-    /// Leaves each sector as it was made durable, or as it was written since.
+    /// Leaves each sector as it was made durable, or as it was written afterwards.
     pub fn crash(&mut self, random: &mut Random) {
         let sectors = self
             .now
@@ -85,7 +85,7 @@ impl Read for CrashFile<'_> {
 }
 
 impl Write for CrashFile<'_> {
-    /// A write during which the power fails may still write all.
+    /// Writes the bytes even if the power fails, but then returns an error.
     fn write(&mut self, buf: &[u8]) -> io::Result<usize> {
         let has_power = self.power.take();
         let Some(rest) = self.now.as_mut_slice().get_mut(self.at..) else {
@@ -130,7 +130,7 @@ impl Durable for CrashFile<'_> {
     }
 }
 
-/// What a store is on.
+/// A file of a store.
 #[derive(Drop)]
 pub enum Disk<'a> {
     File(File),

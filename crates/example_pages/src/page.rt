@@ -1,6 +1,5 @@
 //! A page: four numbers, records of 64 bytes, and 8 bytes for the checksum of the device.
 
-/// The bytes of a page.
 pub const PAGE: usize = 4096;
 
 pub type Page = [u8; PAGE];
@@ -26,7 +25,6 @@ pub struct Header {
     pub count: u64,
 }
 
-/// The number of records of a page.
 pub const RECORDS: u64 = ((PAGE - HEADER - CHECKSUM) / RECORD) as u64;
 
 fn number_at(page: &[u8], at: usize) -> u64 {

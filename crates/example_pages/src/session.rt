@@ -1,4 +1,4 @@
-//! The answers to the lines.
+//! Commands, and the answers to them.
 use crate::page::Record;
 use crate::store::{Store, StoreError};
 use crate::trial::crashes;
@@ -14,7 +14,7 @@ enum Command<'a> {
     Crashes(u64),
 }
 
-/// The command of a line, if it is one.
+/// Returns the command that the line spells, if it spells one.
 fn command_of(line: &str) -> Option<Command<'_>> {
     let (word, rest) = line.split_once(" ").unwrap_or((line, ""));
     match word {
@@ -39,7 +39,7 @@ fn record_of(text: &str) -> Record {
     record
 }
 
-/// The text of a record, which ends before its first byte 0.
+/// Returns the text of a record. The text ends before the first byte 0.
 fn text_of(record: &[u8]) -> &str {
     let end = record.iter().position(|byte| *byte == 0);
     let text = record.get(..end.unwrap_or(record.len())).unwrap_or(record);
@@ -109,7 +109,7 @@ impl Session {
         }
     }
 
-    /// Writes what is committed. Returns whether that worked.
+    /// Makes a checkpoint. Returns whether it succeeded.
     pub fn close(self) -> bool {
         let Session {
             mut store,

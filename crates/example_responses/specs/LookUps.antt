@@ -13,12 +13,12 @@ abbrev pub fresh_at : ℕ → Option Response → Option Response
 fresh_at now None = None
 fresh_at now (Some response) = if nat_lt now response.expires then Some response else None
 
--- the list after a look-up: a fresh response becomes the newest, and a stale response is removed; the others stay
+-- The list after a look-up. A fresh response becomes the newest, and a stale response is removed. The others stay.
 abbrev pub looked_up : {K : Type 0} → (K → Bool) → ℕ → List (K × Response) → List (K × Response)
 looked_up names now pairs =
     if is_some (fresh_at now (lookup names pairs)) then front names pairs else without names pairs
 
--- the host afterwards: only its list, its table and the total of its limiter may have changed
+-- The host after a call that may change only its list, its table and the total of its limiter.
 abbrev pub with_list : {K S : Type 0} → List (K × Response) → State K Response Budget S → State K Response Budget S
     → State K Response Budget S
 with_list list left old =

@@ -1,4 +1,4 @@
--- What a `RawBox` and a handle are in memory: an address, and in a `RawBox` a mark without bytes.
+-- A `RawBox` and a handle are an address in memory. The mark of a `RawBox` has no bytes.
 use Rattle.std.proofs.Common.{ℕ, ◌≡◌, List, [], ◌∷◌, ◌++◌, T, refl, ◌∙◌, lit<}
 use Rattle.std.specs.declared.alloc.Allocator.{Ghosts}
 use seplogic.Ra.Ura.{Ura}

@@ -1,4 +1,4 @@
--- Pairs are copied into slots one by one.
+-- How pairs are copied into slots one by one.
 use Rattle.std.proofs.Common.{◌≡◌, ℕ, zero, suc, ◌+◌, ◌<◌, ◌≤◌, List, [], ◌∷◌, ◌++◌, length, refl, sym, ap, ◌∙◌}
 use Rattle.std.proofs.Common.{arith, subst}
 use Rattle.std.proofs.Common.{length-set, append-nil}
@@ -7,7 +7,7 @@ use Rattle.std.specs.Prelude.{take, drop, slice_set}
 use Rattle.lru_c.specs.Answers.{filled, fitting}
 use Rattle.lru_c.specs.declared.answers.Entry.{Entry}
 
--- n of the pairs were copied: filling the slots that are left with the other pairs gives what filling all slots gives
+-- The first n pairs were copied. If the other pairs fill the other slots, all slots are `filled`.
 pub record FillsSoFar (pairs : List (ℕ × ℕ)) (slots : List Entry) (n : ℕ) (rest : List (ℕ × ℕ))
     (now : List Entry) : Type 0 where
   pub within : n ≤ length now

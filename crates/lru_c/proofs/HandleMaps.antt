@@ -1,4 +1,4 @@
--- What the proofs of several exports share: a step on the map of a handle, and what holds of each such map (`FitsHandle`).
+-- Steps on the map of a handle. `FitsHandle` still holds after each.
 use Rattle.std.proofs.Common.{◌≡◌, ◌∙◌, ◌≤◌, ℕ, Bool, false, Result, Option, Some, None, length, nat_eq, inl, inr, sym, ap, subst, arith}
 use Rattle.std.proofs.lemmas.Bool.Decides.{nat_tests}
 use Rattle.lru_limits.specs.Limiters.{length_rules, length_offers}

@@ -1,4 +1,4 @@
--- An insert into the map of a handle evicts at most one pair.
+-- If an insert leaves the newest pairs of a map, it evicts at most one pair of another key.
 use Rattle.std.proofs.Common.{◌≡◌, ◌≤◌, ◌+◌, ◌-◌, min, ℕ, Bool, true, false, cond, not, List, [], ◌∷◌, length, nat_eq, Result, Ok, Err}
 use Rattle.std.proofs.Common.{refl, ap, subst, arith, take, reverse}
 use Rattle.std.proofs.lemmas.Cmp.{nat_eq_equiv}

@@ -30,7 +30,7 @@ inserted_of code (Some old_value) evicted =
 abbrev pub noted_pair : Bool → Entry → Option (ℕ × ℕ)
 noted_pair noted place = if noted then Some (place.key, place.value) else None
 
--- the slots after pairs were copied into them, up to the last slot
+-- the slots after the first pairs were copied into them
 abbrev pub filled : List (ℕ × ℕ) → List Entry → List Entry
 filled [] slots = slots
 filled (pair ∷ pairs) [] = []
@@ -42,7 +42,7 @@ fitting [] slots = 0
 fitting (pair ∷ pairs) [] = 0
 fitting (pair ∷ pairs) (slot ∷ slots) = suc (fitting pairs slots)
 
--- a pair of another key is noted, unless one was noted before
+-- A pair of another key is noted if none was noted before.
 abbrev pub noting_other : ℕ → Option (ℕ × ℕ) → ℕ × ℕ → Option (ℕ × ℕ)
 noting_other key None pair = if nat_eq key pair.0 then None else Some pair
 noting_other key (Some noted) pair = Some noted
@@ -56,15 +56,15 @@ put_code (Ok true) = 0
 put_code (Ok false) = 1
 put_code (Err error) = 2
 
--- An insert. The callback may get pairs of other keys, and the first of these is written to `place`. If it gets none,
--- `place` stays as it is. If the key was there, its old value is returned.
+-- An insert, which turns the entry `place` into `left`. If the callback gets pairs of other keys, `left` is the first
+-- of these pairs. Otherwise `left` is `place`. If the map contained the key, its old value is returned.
 pub record Inserts (key value : ℕ) (old : Map) (answer : Inserted) (place left : Entry) (new : Map) : Type 0 where
   pub result : Result Bool AllocError
   pub passed : List (ℕ × ℕ)
   pub step : InsertPasses length_rules length_offers nat_eq hash_of key value old result passed new
   pub evicted : noted_pair answer.evicted left ≡ first_other key passed
   pub untouched : answer.evicted ≡ false → left ≡ place
-  -- at most one pair of another key was evicted, unless the maximum length is above 939,524,096
+  -- If the maximum length is at most 939,524,096, at most one pair of another key was evicted.
   pub one_evicted : old.limiter ≤ most_exact_length → length (others (nat_eq key) passed) ≤ 1
   pub returned : answer ≡ inserted_of (put_code result) (lookup (nat_eq key) old.pairs) answer.evicted
 
@@ -75,8 +75,8 @@ GetsOrInserts key value old answer place left new = MatchOption (lookup (nat_eq 
     (Inserts key value old answer place left new)
     (λ there. (answer ≡ inserted_of 0 (Some there) false) × (left ≡ place) × (new ≡ promoted (nat_eq key) old))
 
--- A call on a handle. If the handle has a map, the map makes this step. Otherwise it has no map afterwards, either, and
--- the call returns nothing.
+-- A call on a handle. If the handle has a map, the map makes the step. Otherwise the handle still has no map
+-- afterwards, and the result is what `returns_nothing` says.
 abbrev pub OnMap : {M : Type 0} → Type 0 → (M → M → Type 0) → Option M → Option M → Type 0
 OnMap returns_nothing step None None = returns_nothing
 OnMap returns_nothing step None (Some after) = ⊥

@@ -82,7 +82,7 @@ abbrev pub answer_of : Option Bytes → Value
 answer_of None = record { len = 0; found = false }
 answer_of (Some value) = record { len = length value.items; found = true }
 
--- a look-up finds this value: the length of the value is returned, and the value is copied into the buffer if it fits
+-- If a look-up finds a value, the length is returned, and the value is copied into the buffer if it fits.
 abbrev pub Reads : Option Bytes → Value → List ℕ → List ℕ → Type 0
 Reads value answer buffer left = (answer ≡ answer_of value) × (left ≡ poured_from value buffer)
 
@@ -96,7 +96,7 @@ lengths_of pair removed =
 abbrev pub fits : Bytes × Bytes → List ℕ → List ℕ → Bool
 fits pair key value = nat_le (length pair.0.items) (length key) && nat_le (length pair.1.items) (length value)
 
--- A look-up finds this entry. The lengths of its key and its value are returned. If both fit into their buffers, both
+-- If a look-up finds an entry, the lengths of its key and its value are returned. If both fit into their buffers, both
 -- are copied.
 abbrev pub Shows : Option (Bytes × Bytes) → Popped → List ℕ → List ℕ → List ℕ → List ℕ → Type 0
 Shows None answer key key_left value value_left = (answer ≡ no_entry) × (key_left ≡ key) × (value_left ≡ value)
@@ -107,7 +107,7 @@ Shows (Some pair) answer key key_left value value_left = (answer ≡ lengths_of 
 abbrev pub texts : List (Bytes × Bytes) → List (List ℕ × List ℕ)
 texts pairs = map (λ pair. (pair.0.items, pair.1.items)) pairs
 
--- A copy of a map: the keys and values have the same bytes, in the same order, and everything else is the same.
+-- A copy of a map. Its keys and values have the same bytes in the same order, and everything else is equal.
 pub record Copies (old copy : BytesMap) : Type 0 where
   pub entries : texts copy.pairs ≡ texts old.pairs
   pub rest : copy ≡ record old { pairs = copy.pairs }
@@ -128,27 +128,26 @@ pub data Pops (old : BytesMap) (answer : Popped) (key key_left value value_left 
 abbrev pub has_bytes : List ℕ → BytesMap → Bool
 has_bytes key map = is_some (lookup (names_bytes key) map.pairs)
 
--- The map just before this key is inserted. If the key is there, it is the old map, and otherwise the map after a
--- reservation for one entry.
+-- If the map `old` contains the key, `ready` is `old`. Otherwise `ready` is the map after a reservation for one entry.
 pub data IsReady (key : List ℕ) (old ready : BytesMap) : Type 0 where
   there : has_bytes key old ≡ true → ready ≡ old → IsReady key old ready
   reserved : has_bytes key old ≡ false → Reserve bytes_rules 1 old (Ok tt) ready → IsReady key old ready
 
--- the table needs no memory for an insert of this key: the key is there, or growth is left
+-- An insert of this key needs no memory for the table, because the map contains the key or growth is left.
 abbrev pub FindsMemory : List ℕ → BytesMap → Type 0
 FindsMemory key ready = has_bytes key ready ≡ false → 1 ≤ growth_left ready
 
 pub data Puts (key value : List ℕ) (old : BytesMap) (code : ℕ) (new : BytesMap) : Type 0 where
-  -- The key alone is over the budget: nothing changes.
+  -- The key alone is over the budget, so nothing changes.
   too_long : old.limiter.limit < length key → code ≡ 1 → new ≡ old → Puts key value old code new
-  -- The entry alone is over the budget: it is not stored, and the key is removed.
+  -- The entry alone is over the budget. It is not stored, and the old entry of the key is removed.
   too_heavy : old.limiter.limit < weight (length key) (length value) → code ≡ 1 →
       (value_gone : Option Bytes) → Remove bytes_rules (names_bytes key) old value_gone new →
       Puts key value old code new
-  -- Memory runs out: nothing changes.
+  -- Memory runs out, so nothing changes.
   no_memory : weight (length key) (length value) ≤ old.limiter.limit → code ≡ 2 → new ≡ old →
       Puts key value old code new
-  -- Copies are inserted into the map, after its table was made large enough for a new key.
+  -- Copies of the key and the value are inserted into the map `ready`.
   inserted : weight (length key) (length value) ≤ old.limiter.limit →
       (ready : BytesMap) → IsReady key old ready →
       (k v : Bytes) → k.items ≡ key → v.items ≡ value →

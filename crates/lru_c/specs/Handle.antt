@@ -26,7 +26,7 @@ use Rattle.schnellru.specs.contracts.map.LruMap as lru_map
 abbrev pub Map : Type 0
 Map = State ℕ ℕ ℕ Mixer
 
--- what holds of the map of each handle: it has at most its maximum length of entries, of 24 bytes, and links of 32 bits
+-- The map of each handle is within its maximum length. Its entries have 24 bytes, and its links 32 bits.
 pub record FitsHandle (map : Map) : Type 0 where
   pub within : length map.pairs ≤ map.limiter
   pub entry : map.entry_bytes ≡ 24
@@ -43,7 +43,7 @@ map_row = lru_map.the_row u64 u64 by_length.the_row random_state.the_row u32 def
 abbrev pub maybe_row : RattleType
 maybe_row = option.the_row map_row
 
--- the allocator `Global`, which has only one value
+-- the only value of the allocator `Global`
 abbrev pub c_heap : Global
 c_heap = record { memory = record { seal = tt } }
 

@@ -4,8 +4,8 @@ ghost use Rattle.lru_c.specs.Answers.{found_of, pair_of, inserted_of, noted_pair
 
 use std::alloc::AllocError;
 
-/// What a put returns if the key is in the map afterwards, with the value that was put. A `get_or_insert` that finds
-/// the key returns the same.
+/// What a put returns if the map contains the key with the new value afterwards. A `get_or_insert` that finds the key
+/// returns `STORED`, too.
 pub const STORED: u32 = 0;
 /// What a put returns if the key is not in the map, although no allocation failed.
 pub const REJECTED: u32 = 1;
@@ -38,7 +38,7 @@ pub struct Entry {
     pub value: u64,
 }
 
-/// What an insert did. It fits into two registers.
+/// What an insert did. The struct fits into two registers.
 #[repr(C)]
 #[derive(Drop)]
 pub struct Inserted {

@@ -19,7 +19,7 @@ use crate::handle::Map;
 use schnellru::{ByLength, RandomState, laws};
 use std::alloc::{AllocError, Global};
 
-/// Inserts a value, and writes the evicted entry, if there is one, to a place. Returns which value was replaced.
+/// Inserts a value. If this evicts an entry of another key, writes the entry to `place`. Returns the replaced value.
 #[inline]
 pub fn insert(map: &mut Map, key: u64, value: u64, place: &mut Entry) -> Inserted
     requires fits { FitsHandle map.old }
@@ -32,8 +32,8 @@ pub fn insert(map: &mut Map, key: u64, value: u64, place: &mut Entry) -> Inserte
     }
 }
 
-/// Returns the value of a key as if it had been replaced, and makes the entry of the key the newest. If the key is not
-/// there, inserts this value as `insert` does.
+/// If the map contains the key, returns its value as the replaced value, and makes its entry the newest. Otherwise
+/// calls `insert`.
 #[inline]
 pub fn get_or_insert(map: &mut Map, key: u64, value: u64, place: &mut Entry) -> Inserted
     requires fits { FitsHandle map.old }
@@ -134,7 +134,7 @@ pub fn copied(alloc: Global, map: &Map) -> Option<Box<Map>>
     }
 }
 
-/// Copies the newest entries, newest first, until the slice is full or no entry is left. Returns how many it copied.
+/// Copies entries, newest first, until the slice is full or no entry is left. Returns how many it copied.
 pub fn copy_entries(map: &Map, entries: &mut [Entry]) -> usize
     ensures filled { entries.new ≡ filled map.now.pairs entries.old }
     ensures count { result ≡ fitting map.now.pairs entries.old }

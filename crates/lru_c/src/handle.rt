@@ -9,7 +9,8 @@ use std::marker::{Model, PhantomData};
 use std::mem::replace;
 use std::ptr::null_mut;
 
-// Takes the map out of a handle, makes a call on it, and puts it back; returns the last argument if there is no map.
+// Takes the map out of a handle, makes a call on the map, and puts it back. If there is no map, returns the last
+// argument.
 macro_rules! with_map {
     ($lru:ident, $alloc:ident, |$map:ident| $call:expr, $nothing:expr) => {
         match $lru.take($alloc) {
@@ -96,8 +97,7 @@ impl Slot {
 /// A handle: a map on the heap, or none. The number of entries of the map is at most its maximum length (`FitsHandle`).
 /// A contract sees the map; C sees an address, which is null if there is no map.
 ///
-/// Nothing drops a handle, because its map cannot be freed without an allocator. Each call takes the map out and puts
-/// it back.
+/// Nothing drops a handle, because its map cannot be freed without an allocator.
 #[repr(C)]
 pub struct Lru {
     pub(crate) slot: Slot,

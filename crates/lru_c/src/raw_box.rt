@@ -1,4 +1,4 @@
-//! A box that is only the address of its value, without its allocator.
+//! A box without its allocator: only the address of its value.
 ghost use Rattle.std.specs.Prelude.{◌≡◌};
 ghost use Rattle.std.specs.Box.{box_allocator};
 ghost use Rattle.std.specs.Box.Ownership.{box_owns};

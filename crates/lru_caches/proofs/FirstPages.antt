@@ -1,4 +1,4 @@
--- What a cache shows, and what holds of its pages, after its newest page was changed, or one has lost its pin.
+-- What a cache shows, and its invariant, after a change of its newest page or the end of a pin.
 use Rattle.std.proofs.Common.{◌≡◌, ◌≢◌, ◌<◌, ◌≤◌, ℕ, Bool, true, false, cond, nat_eq, List, ◌∷◌, length, Option, Some, None}
 use Rattle.std.proofs.Common.{IsTrue, refl, sym, ap, ◌∙◌, subst, unwrap_or, ne_eqb}
 use Rattle.std.proofs.lemmas.Cmp.{nat_eq_equiv}

@@ -1,4 +1,3 @@
--- Answers that are stored, found and inserted.
 use Rattle.std.proofs.Common.{◌≡◌, Bool, true, false, cond, List, [], ◌∷◌, Option, Some, None, refl, sym, ap, ◌∙◌}
 use Rattle.std.proofs.Common.{subst, unwrap_or, option_map, is_some}
 use Rattle.std.specs.Cmp.{IsEquivalence}

@@ -13,15 +13,15 @@ pub record Memoized (K V S H F : Type 0) : Type 0 where
   pub map : State K V S H
   pub function : F
 
--- The call returned the value that is stored at the key, and its entry is the newest then. Or no value was stored, and
--- the call returned this value and inserted it.
+-- The call returned `value`. Either `value` was stored at the key, and its entry becomes the newest. Or no value was
+-- stored, and `value` is inserted.
 abbrev pub Remembers : {K V S H : Type 0} → Rules K V S → Offers K V S K → (K → K → Bool) → (H → K → ℕ) → K → V
     → State K V S H → State K V S H → Type 0
 Remembers rules offers eq hash_of key value old new = (kept : Result Bool AllocError)
     × MakesNewest rules offers eq hash_of (λ made. made ≡ value) key old kept new
 
 module _ {K V : Type 0} (eq : K → K → Bool) (post : K → V → Type 0) where
-  -- the function may return the value at the key, or at a key that equals it
+  -- the function may return the value at the key or at an equal key
   abbrev pub IsAnswer : K → V → Type 0
   IsAnswer key value = (k : K) × (eq key k ≡ true) × post k value
 
@@ -31,7 +31,8 @@ module _ {K V : Type 0} (eq : K → K → Bool) (post : K → V → Type 0) wher
 abbrev pub loads : {K V E : Type 0} → (K → Result V E → Type 0) → K → V → Type 0
 loads post key value = post key (Ok value)
 
--- The function gave a value at a key, and this was read from it. Or the function failed with this error.
+-- Either the function returned a value, and the result was read from it. Or the function failed, and the result is its
+-- error.
 pub data ReadsLoaded {V E R : Type 0} (gives : Result V E → Type 0) (reads : V → R → Type 0) (result : Result R E)
     : Type 0 where
   loaded : (value : V) (given : R) → gives (Ok value) → reads value given → result ≡ Ok given →

@@ -2,11 +2,11 @@
 -- bytes.
 use Rattle.std.specs.Prelude.{◌≡◌, ℕ, zero, suc, nat_eq, Bool, if◌then◌else◌, List, [], ◌∷◌, Option, Some, None, slice_index}
 
--- A call with its result: which call, the number of the block, and the bytes that were read or written.
+-- A call with its result: the kind, the number of the block, and the bytes that were read or written.
 abbrev pub Event : Type 0
 Event = ℕ × ℕ × List ℕ
 
--- the kinds of events: a read, a write or a sync, which failed or returned Ok
+-- The kinds of events: a read, a write or a sync, which failed or succeeded.
 abbrev pub unread : ℕ → Event
 unread n = (0, n, [])
 
@@ -34,7 +34,7 @@ or_else None bytes = Some bytes
 or_else (Some known) bytes = Some known
 
 -- What is known of a block after an event, if `old` was known before. `same` says whether the event is of this block. A
--- write that failed may leave anything.
+-- failed write may leave anything.
 abbrev pub known_after : ℕ → Bool → List ℕ → Option (List ℕ) → Option (List ℕ)
 known_after zero same bytes old = old
 known_after (suc zero) same bytes old = if same then or_else old bytes else old
@@ -61,8 +61,8 @@ abbrev pub left : List Event → ℕ → Option (List ℕ)
 left [] n = None
 left (e ∷ earlier) n = left_after e.0 (nat_eq n e.1) (known earlier n) (left earlier n)
 
--- Whether a crash may leave a block that contracts see as `block`. If nothing determines it, it may be any block.
--- `seen` takes the bytes of a block to what contracts see of them.
+-- Whether a crash may leave a block that contracts see as `block`. If the events do not determine what a crash leaves,
+-- it may be any block. `seen` gives what contracts see of the bytes of a block.
 abbrev pub IsLeft : (List ℕ → List ℕ) → Option (List ℕ) → List ℕ → Type 0
 IsLeft seen None block = Unit {0}
 IsLeft seen (Some only) block = block ≡ seen only
@@ -79,12 +79,12 @@ abbrev pub failures : List Event → ℕ
 failures [] = 0
 failures (e ∷ earlier) = failures_after e.0 (failures earlier)
 
--- a read of a known block returned this block
+-- If the event is a read of a known block, it returned this block.
 abbrev pub Agrees : ℕ → List ℕ → Option (List ℕ) → Type 0
 Agrees (suc zero) bytes (Some block) = bytes ≡ block
 Agrees kind bytes block = Unit {0}
 
--- the file answered as the record says: each read returned what was last written or read there
+-- Each read of a known block returned this block.
 abbrev pub IsHonest : List Event → Type 0
 IsHonest [] = Unit {0}
 IsHonest (e ∷ earlier) = Agrees e.0 e.2 (known earlier e.1) × IsHonest earlier

@@ -1,8 +1,8 @@
--- What an insert leaves of a map that evicts nothing and keeps its entries in the order of insertion.
+-- What an insert does to an ordered map.
 use Rattle.std.specs.Prelude.{Bool, List, [], ◌∷◌, ◌++◌, is_some, if◌then◌else◌}
 use Rattle.std.specs.Map.{lookup, set_value}
 
--- The entries, oldest first, after an insert of this entry: if the key is there, its entry has the new value; otherwise
+-- The entries, oldest first, after an insert of an entry. If the key is there, its entry gets the new value. Otherwise
 -- the new entry comes last.
 abbrev pub put : {K V : Type 0} → (K → Bool) → K × V → List (K × V) → List (K × V)
 put names entry entries =

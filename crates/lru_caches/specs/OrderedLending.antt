@@ -1,4 +1,4 @@
--- What an ordered map is, once a reference to one of its values has ended.
+-- What an ordered map contains after a reference to one of its values has ended.
 use Rattle.std.specs.Prelude.{Bool, List, Option}
 use Rattle.std.specs.Borrow.{Fml, RattleType, MutBor, LendsIf}
 use Rattle.std.specs.HashMap.Lent.{HashMembers}
@@ -14,6 +14,7 @@ module _ (K V S H : RattleType) (key : HashMembers K.Denot)
   map_row = the_row K V S H (record { eq = key.eq }) (record { hash_input = key.hash_input })
       (record { hash_of = hashed.hash_of }) (record { build_hasher = hashed.build_hasher }) hash
 
-  -- Afterwards the named key has the value last written through r. If nothing was lent, the map is as before.
+  -- Afterwards the named key has the value that was last written through r. If nothing was lent, the map does not
+  -- change.
   abbrev pub lends_value : MutBor (List (K.Denot × V.Denot)) → (K.Denot → Bool) → Option (MutBor V.Denot) → Fml
   lends_value m names r = LendsIf map_row V m r (λ last. set_value names m.now last) m.now

@@ -74,7 +74,7 @@ module _ {B : Type 0} where
   abbrev pub dirty_numbers : List (ℕ × Page B) → List ℕ
   dirty_numbers pages = keys_of (filter (λ p. p.1.is_dirty) pages)
 
--- one hit more; a count stays at the largest 64-bit number
+-- One hit more. The count stops at `u64::MAX`.
 abbrev pub hit : Counts → Counts
 hit counts = record counts { hits = min (counts.hits + 1) (2 ^ 64 - 1) }
 
@@ -118,7 +118,7 @@ module _ {B D : Type 0} where
       × (victim cache.keeps_dirty cache.pages ≡ None)
 
 module _ {B D E S : Type 0} (d : device.Ghosts D B E S) where
-  -- the block of a page, if there is one, or else the device's block, if that is known
+  -- The block of the page, if there is a page. Otherwise the device's block, if it is known.
   abbrev pub block_or : Option (Page B) → Option S → Option S
   block_or None block = block
   block_or (Some page) block = Some (d.seen page.block)
@@ -134,7 +134,7 @@ module _ {B D E S : Type 0} (d : device.Ghosts D B E S) where
   abbrev pub IsGood : D → Type 0
   IsGood device = IsTrue (d.is_usable device) × d.IsHonest device
 
-  -- each block that was shown is still shown, if the device is good
+  -- If the device is good, each block that was shown is still shown.
   abbrev pub ShowsTheSame : Cached B D → Cached B D → Type 0
   ShowsTheSame old new = IsGood new.device → (n : ℕ) (block : S) → shown old n ≡ Some block → shown new n ≡ Some block
 
@@ -152,7 +152,7 @@ module _ {B D E S : Type 0} (d : device.Ghosts D B E S) where
   abbrev pub CrashKeeps : D → D → Type 0
   CrashKeeps old new = (n : ℕ) (block : S) → d.may_leave new n block → d.may_leave old n block
 
-  -- each clean page is as on the device, if the device is good
+  -- If the device is good, each clean page has the device's block.
   abbrev pub AreClean : List (ℕ × Page B) → D → Type 0
   AreClean pages device = IsGood device → (n : ℕ) (page : Page B) → lookup (nat_eq n) pages ≡ Some page
       → page.is_dirty ≡ false → d.blocks device n ≡ Some (d.seen page.block)
@@ -202,8 +202,7 @@ module _ {B D E S : Type 0} (d : device.Ghosts D B E S) where
   abbrev pub IsFlushCause : D → D → PageError E → Type 0
   IsFlushCause old new e = IsFault old new e ⊎ ((e ≡ Broken) × (d.is_usable old ≡ false))
 
-  -- The pages after a call that failed. All are there, but if memory ran out, the oldest page that may go may be
-  -- missing.
+  -- The pages after a call that failed. Either all are still there, or memory ran out after an eviction.
   abbrev pub Leaves : Cached B D → Cached B D → PageError E → Type 0
   Leaves old new e = (new.pages ≡ old.pages)
       ⊎ ((e ≡ Memory) × (new.pages ≡ with_room old.capacity old.keeps_dirty old.pages))
@@ -216,8 +215,8 @@ module _ {B D E S : Type 0} (d : device.Ghosts D B E S) where
   -- what each call that reads, writes or pins page n does
   pub record UsesPage {A : Type 0} (n : ℕ) (old : Cached B D) (result : Result A (PageError E)) (new : Cached B D)
       : Type 0 where
-    -- a crash may leave more only for pages that were dirty; nothing is written if the cache keeps dirty pages or has
-    -- page n
+    -- A crash may leave more only for pages that were dirty. If the cache keeps dirty pages or has page n, nothing is
+    -- written.
     pub crash : CrashAdds old.pages old.device new.device
     pub unwritten : IsTrue old.keeps_dirty → CrashKeeps old.device new.device
     pub untouched : IsCached n old → new.device ≡ old.device

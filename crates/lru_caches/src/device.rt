@@ -1,14 +1,14 @@
-//! What a device is: numbered blocks that are read and written one at a time, and synced.
+//! The trait of devices: numbered blocks that are read and written one at a time, and synced.
 ghost use Rattle.std.specs.Prelude.{◌≡◌, ◌≢◌, ◌⊎◌, ℕ, Bool, Option, Some, IsTrue, ◌↔◌, is_ok, IfOk, OnOk, IsOk};
 
 /// A device of numbered blocks, such as a disk or a file. Any call may fail.
 ///
-/// Between two syncs a crash may leave each block as it was at the last `sync`, or as it was written since, or torn:
-/// writes may be lost and reordered. A write changes only its own block, even if it fails or the machine stops in the
-/// middle. After a `sync` that failed, no clause says what the blocks are, and no call may be made.
+/// Between two syncs, a crash may lose and reorder writes. It may leave each block as it was at the last `sync`, as it
+/// was written later, or torn. A write changes only its own block, even if it fails or the machine stops in the middle.
+/// After a failed `sync`, no clause says what the blocks are, and no `read`, `write` or `sync` may be called.
 ///
-/// For most devices a contract sees the block itself: `ghost seen = { λ block. block };`. Contracts do not distinguish
-/// blocks that have the same `seen`.
+/// For most devices a contract sees the block itself: `ghost seen = { λ block. block };`. If two blocks have the same
+/// `seen`, contracts do not distinguish them.
 ///
 /// ```
 /// let calls_left = Cell::new(2);           // the third call fails
@@ -40,14 +40,15 @@ pub trait BlockDevice<B> {
     /// No `sync` has failed.
     ghost is_usable: { Self → Bool };
 
-    /// How many calls have failed, or another number that changes exactly when a call fails.
+    /// A number that changes exactly when a call fails, such as the number of failed calls.
     ghost faults: { Self → ℕ };
 
-    /// What a crash in the middle of a write may leave of its block, besides the old and the new block. By default it
-    /// is anything. A device that writes a block as a whole defines it as `⊥`.
+    /// What a crash in the middle of a write may leave of its block, in addition to the old and the new block. By
+    /// default this is any block. A device that writes blocks whole defines it as `⊥`.
     ghost IsTorn: { Self.Seen → Type 0 } = { λ _. Unit {0} };
 
-    /// Each read has returned the known block, if it was known. For a file no code can test this: it is a premise.
+    /// If a block was known, each read of it has returned this block. For a file this is a premise, because no code can
+    /// test it.
     ghost IsHonest: { Self → Type 0 } = { λ _. Unit {0} };
 
     /// A `write` of a block to this number may lead from the first state to the second. By default this holds of any
@@ -81,11 +82,12 @@ pub trait BlockDevice<B> {
         ensures usable { IsTrue (is_usable self.new) }
         ensures numbers { (m : ℕ) → has self.new m ≡ has self.old m };
 
-    /// Replaces a block. A crash may leave what it might leave before, or the new block, or a torn block.
+    /// Replaces a block. A crash may now leave the new block or a torn block, in addition to the blocks that it might
+    /// leave before.
     ///
     /// # Errors
     ///
-    /// The device failed. Afterwards that block may be anything, and no other block has changed.
+    /// The device failed. This block may be anything now, and no other block has changed.
     fn write(&mut self, n: u64, block: &B) -> Result<(), Self::Error>
         requires there { IsTrue (has self.old n) }
         requires usable { IsTrue (is_usable self.old) }
@@ -99,7 +101,7 @@ pub trait BlockDevice<B> {
         ensures usable { IsTrue (is_usable self.new) }
         ensures numbers { (m : ℕ) → has self.new m ≡ has self.old m };
 
-    /// Makes the blocks durable. Once this has returned `Ok`, a crash leaves exactly what a read returns.
+    /// Makes the blocks durable. After an `Ok`, a crash leaves each known block as it is.
     ///
     /// # Errors
     ///
@@ -116,6 +118,6 @@ pub trait BlockDevice<B> {
         ensures usable { is_usable self.new ≡ is_ok result }
         ensures numbers { (m : ℕ) → has self.new m ≡ has self.old m };
 
-    /// A crash may leave each known block as it is. So no impl can say that there are no crashes.
+    /// A crash may leave each known block as it is. So no impl can claim that a crash is impossible.
     ghost stays: { (device : Self) (n : ℕ) (b : Self.Seen) → blocks device n ≡ Some b → may_leave device n b };
 }

@@ -34,8 +34,8 @@ pub enum FileError {
 /// A device of the blocks of a file, of `N` bytes each.
 ///
 /// Nothing is proved of the bytes that an operating system returns or keeps. So contracts see a record of the calls on
-/// the file (`specs/Files`), which takes no memory. The premise `IsHonest` says that each read of the file returned
-/// what the record says. Under this premise a read returns what was written there last.
+/// the file (`specs/Files`), which takes no memory. The premise `IsHonest` says that each read returned what was last
+/// written or read there. Under this premise a read returns the known block.
 ///
 /// [`HashedFileDevice`] also finds torn and foreign blocks.
 ///
@@ -55,8 +55,8 @@ pub struct FileDevice<F, const N: usize> {
 }
 
 impl<F: Read + Write + Seek, const N: usize> FileDevice<F, N> {
-    /// Makes a device of the first `count` blocks of a file. The file may be shorter: a read of a block past its end
-    /// fails, and a write there makes the file longer.
+    /// Makes a device of the first `count` blocks of a file. The file may be shorter. Then a read of a block past its
+    /// end fails, and a write there makes the file longer.
     ///
     /// ```
     /// let mut device: FileDevice<_, 4> = FileDevice::new(file, 3);
@@ -88,7 +88,7 @@ impl<F: Read + Write + Seek, const N: usize> FileDevice<F, N> {
         self.count
     }
 
-    /// Lends the file, such as to read its metadata.
+    /// Lends the file.
     ///
     /// ```
     /// assert_eq!(rt; device.file().position(), 8);
@@ -101,7 +101,7 @@ impl<F: Read + Write + Seek, const N: usize> FileDevice<F, N> {
 
     /// Returns the file.
     ///
-    /// A page cache returns the device by `close`, which calls `sync`. After other writes, call `sync` first.
+    /// Call `sync` first. If the device was in a page cache, `close` has called it.
     ///
     /// ```
     /// let bytes = device.into_file().into_inner();

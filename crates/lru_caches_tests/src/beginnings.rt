@@ -1,4 +1,4 @@
-//! What the examples of the docs begin with, and the texts of errors.
+//! The values that the examples of the docs begin with, and tests of the texts of errors.
 use crate::disk::Disk;
 use lru_caches::{FileError, OrderedMap, PageCache, PageError};
 use std::test::Fail;

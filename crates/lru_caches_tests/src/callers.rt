@@ -5,7 +5,8 @@ ghost use Rattle.lru_caches.specs.Pages.{shown, ShowsTheSame};
 
 use lru_caches::{BlockDevice, OrderedMap, PageCache, PageError};
 
-/// Copies a block to another number, and changes no other. If it fails, each block is shown as before.
+/// Copies a block to another number, and changes no other block. If the call fails, the cache shows each block as
+/// before.
 pub fn copy_block<D: BlockDevice<u64>>(
     cache: &mut PageCache<u64, D>,
     from: u64,
@@ -34,7 +35,7 @@ pub fn write_durably<D: BlockDevice<u64>>(
     cache.flush()
 }
 
-/// Writes a value under a key that is there, and returns whether it is.
+/// Returns whether the key is in the map. If it is, writes the value under it.
 pub fn overwrite(map: &mut OrderedMap<u64, u64>, key: u64, value: u64) -> bool
     ensures there { result ≡ is_some (lookup (nat_eq key) map.old) }
     ensures written { result ≡ true → map.new ≡ set_value (nat_eq key) map.old value }

@@ -18,8 +18,8 @@ use Rattle.lru_replay.proofs.LineLists.{takes_line_more, takes_part_more, lines_
 use Rattle.lru_replay.proofs.LineRuns.{line_run-append, line_run-one}
 use Rattle.lru_replay.proofs.WrittenTexts.{begins_after}
 
--- Some lines were read whole, and a text was written: the text of a run over them, from the map `old` to the map `now`.
--- The reader's bytes were r₀ and are r₁, and the writer's bytes were w₀ and are w₁.
+-- Some whole lines were read, and the text of a run over these lines was written. The run leads from the map `old` to
+-- the map `now`. The reader's bytes were r₀ and are r₁, and the writer's bytes were w₀ and are w₁.
 pub record RunsSoFar {S : Type 0} (rules : Rules ℕ ℕ S) (offers : Offers ℕ ℕ S ℕ) (reported : S → Option ℕ)
     (old : Map S)
     (r₀ r₁ w₀ w₁ : Option (List ℕ)) (now : Map S) : Type 0 where

@@ -12,7 +12,7 @@ use Rattle.lru_model.specs.State.{Contents, notified_of, pop, trim, trim_from}
 use Rattle.lru_theory.specs.Budgets.{affordable}
 use Rattle.lru_theory.proofs.Affordable.{spent, affords_all}
 
--- if the items together cost more than n, dropping the last item does not change which items are affordable
+-- If the items together cost more than n, the same items are affordable without the last item.
 pub fewer : {X : Type 0} (cost : X → ℕ) (n : ℕ) (xs : List X) → n < spent cost xs
     → affordable cost n (without_last xs) ≡ affordable cost n xs
 fewer cost n [] over = refl
@@ -46,7 +46,7 @@ module _ {K V : Type 0} (weight : K → V → ℕ) where
     abbrev pub spending : ℕ → Budget
     spending sum = record { limit = n; cost = sum }
 
-    -- the contents with these pairs, and a limiter that counts what they cost
+    -- the contents with these pairs and a limiter that counts their cost
     abbrev pub holding : List (K × V) → Contents K V Budget
     holding pairs = record { pairs = pairs; limiter = spending (spent worth pairs) }
 

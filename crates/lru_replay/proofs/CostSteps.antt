@@ -62,7 +62,7 @@ module _ {K V : Type 0} (weight : K → V → ℕ) (n : ℕ) (fits : n < 2 ^ 63)
       ∙ ap (λ o. holding weight n (affordable costs n
       ((unwrap_or (option_map (λ q. q.0) o) key, v) ∷ without (eq key) pairs))) (sym found)
 
-  -- the contents after the limiter accepted a new pair, before `make_room`
+  -- the contents after the limiter accepted a new pair, and before `make_room`
   abbrev offering : Left
   offering = record { pairs = pairs; limiter = spending weight n (spent costs pairs + weight key v) }
 

@@ -1,4 +1,4 @@
--- If growth is permitted, calls do what they would do to a list of pairs without a table.
+-- If growth is permitted, calls do to a map what they do to a list of pairs without a table.
 use Rattle.std.proofs.Common.{◌≡◌, ℕ, Bool, true, false, cond, List, [], ◌∷◌, Option, Some, None, Result, ap}
 use Rattle.std.proofs.Common.{sym, ◌∙◌, ◌⊎◌, subst, inl, inr, arith, ◌+◌, ◌*◌, ◌≤◌, suc, length}
 use Rattle.std.specs.List.{IsDistinct}

@@ -1,4 +1,4 @@
--- A get that inserts, whose closure returns one value.
+-- A get that inserts, if its closure can return only one value.
 use Rattle.std.proofs.Common.{◌≡◌, ℕ, Bool, Result, Ok, subst}
 use Rattle.std.specs.declared.alloc.AllocError.{AllocError}
 use Rattle.lru_limits.specs.Rules.{Rules, Offers}

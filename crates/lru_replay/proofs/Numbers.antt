@@ -1,4 +1,3 @@
--- Numbers in decimal digits.
 use Rattle.std.proofs.Common.{◌≡◌, ℕ, zero, suc, ◌<◌, ◌^◌, List, [], ◌∷◌, ◌++◌, length, get_or, refl, sym, ap, ◌∙◌}
 use Rattle.std.proofs.Common.{subst, arith, Result, Ok, Err, IfSome, IfNone, decimal, IsUtf8}
 use Rattle.std.proofs.lemmas.Fmt.{decimal_nonempty, decimal_is_IsNumeral, first_decimal, decimal_digit}

@@ -1,4 +1,4 @@
--- For callers: a loop that makes references, one for each key of a trace, and a copy of a text.
+-- For callers: a loop that makes one reference for each key of a trace, and a loop that copies a text.
 use Rattle.std.proofs.Common.{◌≡◌, ℕ, ◌+◌, ◌≤◌, ◌<◌, Bool, true, false, cond, List, [], ◌∷◌, ◌++◌, length, take, get_or}
 use Rattle.std.proofs.Common.{Some, None, refl, sym, ap, ◌∙◌, subst, arith}
 use Rattle.std.proofs.lemmas.Cmp.{nat_list_eq_equiv}
@@ -21,7 +21,7 @@ module _ {K V : Type 0} (eq : K → K → Bool) (key : K) where
       let p = value_there (eq key) pairs value found in
       ap (λ b. cond b 0 1) (sym (there (eq key) pairs p.0 p.1))
 
-  -- the newest pairs after a reference have the keys of a cache after it
+  -- After a reference, the newest pairs of a map have the keys of a cache after the same reference.
   pub keys_referred : (n : ℕ) (value : V) (pairs : List (K × V))
       → keys_of (take n ((key, value) ∷ without (eq key) pairs)) ≡ refer eq n key (keys_of pairs)
   keys_referred n value pairs =

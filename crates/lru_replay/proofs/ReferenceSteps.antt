@@ -1,4 +1,4 @@
--- Which calls make a reference: one lemma for each.
+-- Which calls make a reference: one lemma for each call.
 use Rattle.std.proofs.Common.{◌≡◌, ℕ, ◌≤◌, Bool, true, cond, List, ◌∷◌, length, take}
 use Rattle.std.proofs.Common.{Option, Some, None, Result, Ok, Err, refl, sym, ap, ◌∙◌, subst, arith}
 use Rattle.std.proofs.lemmas.Bool.{lt-ltb}
@@ -53,7 +53,7 @@ module _ {K V S H : Type 0} (rules : Rules K V S) (grants : AlwaysGrants rules) 
     ap (λ st. st.counts.placed) e,
   )
 
--- What is proved of each call of a map that is this kind of cache. A pair that it `Admits` may be inserted.
+-- What is proved of each call of a map that is this kind of cache. `Admits` says which pairs may be inserted.
 pub record Known {K V S H : Type 0} (cache : Cache K V S H) (terms : Terms K V S) (rules : Rules K V S)
     (hash_of : H → K → ℕ) (Admits : S → K → V → Type 0) : Type 0 where
   pub laws : IsEquivalence cache.eq
@@ -78,7 +78,7 @@ module _ {K V S H : Type 0} {cache : Cache K V S H} {terms : Terms K V S} {rules
   makes_refers makes key old flag new keeps sized admits (got w found is same) =
       subst (Reference cache key old) (sym same) (known.get key w old keeps found)
 
-  -- a memo that remembers a value makes a reference, unless memory ran out
+  -- If memory does not run out, a memo that remembers a value makes a reference.
   pub remembers_refers : (key : K) (v : V) (old : State K V S H) (kept : Result Bool AllocError) (new : State K V S H)
       → cache.Keeps old → IsSized new → IsOk kept → Admits old.limiter key v
       → MakesNewest rules (offers_of terms) cache.eq hash_of (λ made. made ≡ v) key old kept new
@@ -87,7 +87,7 @@ module _ {K V S H : Type 0} {cache : Cache K V S H} {terms : Terms K V S} {rules
       sized (λ w is. subst (Admits old.limiter key) (sym is) admits) h
   remembers_refers key v old (Err e) new keeps sized ok admits h = absurd cc
 
-  -- `makes_refers` for a closure that may fail
+  -- `makes_refers`, if the closure may fail
   pub makes_if_made : {E : Type 0} (makes : Result V E → Type 0) (key : K) (old : State K V S H) (flag : Bool)
       (new : State K V S H) → cache.Keeps old → IsSized new → ((v : V) → makes (Ok v) → Admits old.limiter key v)
       → MakesNewestIfMade rules (offers_of terms) cache.eq hash_of makes key old (Ok flag) new

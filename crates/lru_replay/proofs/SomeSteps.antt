@@ -1,4 +1,4 @@
--- From every map with a sound table each call that has a line can end: some reply and some map after it are permitted.
+-- If a map has a sound table, and a line spells a call, some reply and some map after the call are permitted.
 use Rattle.std.proofs.Common.{ℕ, zero, suc, ◌+◌, ◌≤◌}
 use Rattle.std.proofs.Common.{[], ◌++◌, length, option_map, inl, inr, refl, sym, subst, arith}
 use Rattle.std.specs.Prelude.{nat_eq, is_some}

@@ -1,4 +1,4 @@
--- What a line means follows from its word and the numbers after it. So it is decided whether the line means something.
+-- The word and the numbers of a line determine its meaning. So one can decide whether a line has a meaning.
 use Rattle.std.proofs.Common.{◌≡◌, ℕ, ◌<◌, ◌^◌, Bool, true, false, List, [], ◌∷◌, ◌++◌, refl, sym, ap, ◌∙◌, subst, inl}
 use Rattle.std.proofs.Common.{inr, ◌⊎◌, decimal, ◌==◌, Option, Some, None, IfSome, IfNone}
 use Rattle.std.proofs.lemmas.Bool.{ne_eqb}

@@ -1,4 +1,4 @@
--- If each row of `Words` has a property, what a line means has it.
+-- If each row of `Words` has a property, each meaning of a line has this property.
 use Rattle.std.proofs.Common.{◌≡◌, ℕ, ◌<◌, ◌≤◌, ◌^◌, Bool, true, false, List, [], ◌∷◌, ◌++◌, length, refl, sym, subst}
 use Rattle.std.proofs.Common.{arith, rules, Option, Some, None, option_map, decimal}
 use Rattle.std.proofs.lemmas.Fmt.{length-decimal-le}
@@ -63,7 +63,7 @@ module _ {X : Type 0} (words : Words X) where
       let (make, found, same) = from_map (λ make. make k v) (lookup (bytes_eq word) words.two) x is in
       subst P same (found_row (λ w make. (k v : ℕ) → P (make k v)) word words.two rows.2 make found k v)
 
-  -- each word has at least one byte, and is short enough for its numbers
+  -- each word has at least one byte, and has at most `LONGEST` bytes with its numbers
   abbrev pub AreShort : Type 0
   AreShort = AllByRecursion (λ row. IsWithin LONGEST row.0) words.alone
       × AllByRecursion (λ row. IsWithin 27 row.0) words.one × AllByRecursion (λ row. IsWithin 6 row.0) words.two

@@ -1,4 +1,3 @@
--- Writing one text after another.
 use Rattle.std.proofs.Common.{◌≡◌, ℕ, ◌+◌, ◌-◌, ◌/◌, ◌%◌, ◌<◌, ◌≤◌, ◌^◌, List, [], ◌∷◌, ◌++◌, length, set, take}
 use Rattle.std.proofs.Common.{drop, refl, sym, ap, ◌∙◌, subst, arith, Option, Result, Ok, Err, decimal, append_assoc}
 use Rattle.std.proofs.lemmas.List.{drop-set, length-append, take-append-drop, take_rest}

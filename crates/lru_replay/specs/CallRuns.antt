@@ -1,4 +1,4 @@
--- Runs of calls: a step for each call, from the state that the call before it left.
+-- Runs of calls. Each call is a step from the state that the previous call left.
 use Rattle.std.specs.Prelude.{◌≡◌, ℕ, Bool, List, [], ◌∷◌, ◌⊎◌, MatchOption}
 use Rattle.std.specs.List.{AllByRecursion}
 use Rattle.lru_limits.specs.Rules.{Rules, Offers}
@@ -10,7 +10,7 @@ use Rattle.lru_replay.specs.declared.calls.Call.TheVariants as calls
 use Rattle.lru_replay.specs.Replies.{Reply, no_memory, cost_differs}
 use Rattle.lru_replay.specs.Steps.{ReplyStep}
 
--- Steps one after another, with one reply for each call. `Holds` is true of the state after each step.
+-- Steps one after another, with one call and one reply for each step. `Holds` is true of the state after each step.
 module _ {S C R : Type 0} (IsStep : S → C → R → S → Type 0) (Holds : S → Type 0) where
   abbrev pub IsRun : S → List C → List R → S → Type 0
   IsRun old [] [] new = new ≡ old
@@ -27,13 +27,14 @@ module _ {K V S : Type 0} where
   StoresPairs (calls.Drain front back) = Unit {0}
   StoresPairs call = ⊥
 
-  -- The step of the call. Or there is no memory for the returned pairs, and nothing changes.
+  -- Either the step of the call, or there is no memory for the returned pairs, and nothing changes.
   abbrev pub StepIfMemory : {A : Type 0} → (A → Call K V S → Reply K V → A → Type 0) → A → Call K V S → Reply K V → A
       → Type 0
   StepIfMemory IsStep old call reply new = IsStep old call reply new
       ⊎ (StoresPairs call × (reply ≡ no_memory) × (new ≡ old))
 
-  -- the call names only keys that pass the test, and does not pop the newest pair
+  -- If the call may move, write or remove the pair of a key, the key passes the test. The call does not pop the newest
+  -- pair.
   abbrev pub NamesAmong : (K → K → Bool) → (K → Bool) → Call K V S → Type 0
   NamesAmong eq test (calls.Insert key v) = AreAmong (eq key) test
   NamesAmong eq test (calls.InsertWith key v) = AreAmong (eq key) test
@@ -54,8 +55,8 @@ module _ {K V S : Type 0} where
   SetsNoLimiter call = Unit {0}
 
 module _ {K V S : Type 0} (eq : K → K → Bool) (cost : K → V → ℕ) (account : S → ℕ) where
-  -- the call, if it is a write, keeps the cost of its pair; if it sets a limiter, this limiter has the same running
-  -- total
+  -- If the call is a write, the cost of its pair stays the same. If the call sets a limiter, the new limiter has the
+  -- same running total.
   abbrev pub KeepsCost : Contents K V S → Call K V S → Type 0
   KeepsCost old (calls.Write key v) =
       MatchOption (lookup_entry (eq key) old.pairs) (Unit {0}) (λ there. cost there.0 v ≡ cost there.0 there.1)
@@ -64,21 +65,21 @@ module _ {K V S : Type 0} (eq : K → K → Bool) (cost : K → V → ℕ) (acco
 
 module _ {K V S H : Type 0} (rules : Rules K V S) (offers : Offers K V S K) (eq : K → K → Bool)
     (hash_of : H → K → ℕ) where
-  -- a step of a map, or there is no memory for the returned pairs
+  -- either a step of a map, or there is no memory for the returned pairs
   abbrev pub CallStep : State K V S H → Call K V S → Reply K V → State K V S H → Type 0
   CallStep = StepIfMemory (ReplyStep rules offers eq hash_of)
 
   module _ (cost : K → V → ℕ) (account : S → ℕ) where
-    -- A step that keeps the cost. Or the reply is `cost_differs`, and nothing changes.
+    -- Either a step that keeps the cost, or the reply is `cost_differs`, and nothing changes.
     abbrev pub SummingStep : State K V S H → Call K V S → Reply K V → State K V S H → Type 0
     SummingStep old call reply new = (KeepsCost eq cost account (contents old) call × CallStep old call reply new)
         ⊎ ((KeepsCost eq cost account (contents old) call → ⊥) × (reply ≡ cost_differs) × (new ≡ old))
 
-  -- The list `calls` is a run of steps of the map. Calls that change nothing are left out.
+  -- The calls are a run of steps of the map. The run leaves out calls that change nothing.
   pub record AreSteps (calls : List (Call K V S)) (old new : State K V S H) : Type 0 where
     pub any : Run (AnyStep rules offers eq hash_of) new old
-    -- the steps name only keys that pass a test, if the calls do
+    -- if the calls name only keys that pass a test, so do the steps
     pub among : (test : K → Bool) → AllByRecursion (NamesAmong eq test) calls
         → Run (StepAmong rules offers eq hash_of test) new old
-    -- no step sets a limiter, if no call does
+    -- if no call sets a limiter, no step does
     pub limited : AllByRecursion SetsNoLimiter calls → Run (StepOrWrite rules offers eq hash_of) new old

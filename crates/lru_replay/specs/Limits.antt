@@ -1,5 +1,5 @@
--- The rules and the offers of `ByCost` over numbers, and which running total a limiter of a replay reports. `Limiters`
--- has the rules and offers of the other limiters.
+-- The rules and the offers of `ByCost` for numbers, and the running total that a limiter of a replay reports.
+-- `Limiters` defines the rules and offers of the other limiters.
 use Rattle.std.specs.Prelude.{ℕ, Option, Some, None}
 use Rattle.lru_limits.specs.Rules.{Rules, Offers}
 use Rattle.lru_limits.specs.Budget.{Budget, by_cost, charges}
@@ -9,11 +9,10 @@ use Rattle.lru_limits.specs.Budget.{Budget, by_cost, charges}
 abbrev pub cost_rules : Rules ℕ ℕ Budget
 cost_rules = by_cost (λ value. value)
 
--- a pair is stored unchanged, if its cost alone is within the limit and the sum has 64 bits
+-- If its cost alone is within the limit, and the new total has at most 64 bits, a pair is stored unchanged.
 abbrev pub cost_offers : Offers ℕ ℕ Budget ℕ
 cost_offers = charges (λ value. value)
 
--- the cost that the limiter keeps
 abbrev pub cost_reported : Budget → Option ℕ
 cost_reported b = Some b.cost
 

@@ -1,4 +1,4 @@
--- A run over lines, under a limiter: each line is a step of the map and has a text.
+-- Runs over lines. Each line is a step of the map, and has a text.
 use Rattle.std.specs.Prelude.{◌≡◌, ℕ, nat_eq, List, ◌⊎◌, flat_map, Option, OnSome, IfSome, Result, Ok, Err}
 use Rattle.std.specs.Io.KnownBytes.{Appends, IsAtEnd}
 use Rattle.lru_limits.specs.Rules.{Rules, Offers}
@@ -15,13 +15,13 @@ use Rattle.lru_replay.specs.Output.{reply_text, bad_text, Writes, Begins}
 use Rattle.lru_replay.specs.Replies.{Reply, no_memory}
 use Rattle.lru_replay.specs.Steps.{ReplyStep}
 
--- The pairs that the call's insert passes on are stored in a list before the line writes them. This takes memory.
+-- The call returns a list of the pairs that its insert passes to a callback, and the list takes memory.
 abbrev pub StoresFirst : {S : Type 0} → Call ℕ ℕ S → Type 0
 StoresFirst (calls.InsertWith k v) = Unit {0}
 StoresFirst call = ⊥
 
 module _ {S : Type 0} (rules : Rules ℕ ℕ S) (offers : Offers ℕ ℕ S ℕ) where
-  -- the call is carried out; or there is no memory for the list of pairs, and nothing changes
+  -- Either the call is carried out, or there is no memory for the list of pairs, and nothing changes.
   abbrev pub AnswersCall : Map S → Call ℕ ℕ S → Reply ℕ ℕ → Map S → Type 0
   AnswersCall old call reply new = ReplyStep rules offers nat_eq hash_of old call reply new
       ⊎ (StoresFirst call × (reply ≡ no_memory) × (new ≡ old))
@@ -32,47 +32,46 @@ module _ {S : Type 0} (rules : Rules ℕ ℕ S) (offers : Offers ℕ ℕ S ℕ) 
   TextStep old call text new = (reply : Reply ℕ ℕ) × AnswersCall rules offers old call reply new
       × (text ≡ reply_text (reported old.limiter) reply)
 
-  -- If the line spells a call, the call is carried out. Otherwise the text says that the line is bad, and the map stays
-  -- as it is.
+  -- If the line spells a call, the call is carried out. Otherwise the text is `bad`, and the map does not change.
   abbrev pub LineStep : Map S → List ℕ → List ℕ → Map S → Type 0
   LineStep old line text new = ((call : Call ℕ ℕ S) × SpellsCall line call × TextStep old call text new)
       ⊎ (((call : Call ℕ ℕ S) → SpellsCall line call → ⊥) × (text ≡ bad_text) × (new ≡ old))
 
-  -- The line is answered: its text and a line feed were written, or a beginning of these if a write failed.
+  -- The line is answered: its text and a line feed were written. If a write failed, only a beginning was written.
   abbrev pub AnswersLine : Map S → List ℕ → Map S → Option (List ℕ) → Option (List ℕ) → Result (Unit {0}) ReplayError
       → Type 0
   AnswersLine before line after old new result =
       (text : List ℕ) × LineStep before line text after × Writes old new result (fed text)
 
-  -- A run over the lines, in which `IsMap` holds after each line. The text is what the lines write, each with a line
-  -- feed, one after another.
+  -- A run over the lines, in which `IsMap` holds after each line. The text consists of the texts of the lines, each
+  -- with a line feed.
   abbrev pub IsLineRun : Map S → List (List ℕ) → List ℕ → Map S → Type 0
   IsLineRun old lines text new =
       (texts : List (List ℕ)) × IsRun LineStep (IsMap nat_eq) old lines texts new × (text ≡ flat_map fed texts)
 
-  -- some run over the lines, from this map, has the text
+  -- some run over the lines from this map has this text
   abbrev pub IsTextOf : Map S → List (List ℕ) → List ℕ → Type 0
   IsTextOf old lines text = (new : Map S) × IsLineRun old lines text new
 
 -- Below, `IsText` says which texts lines have, and `Wrote` how much of a text was written. A reader had the bytes
 -- `from` left, if they are known, and has `to` left now. A writer's bytes were `old` and are `new`.
 module _ (IsText : List (List ℕ) → List ℕ → Type 0) (from : Option (List ℕ)) where
-  -- `Wrote` holds of a text of all the lines
+  -- `Wrote` holds of some text of all the lines
   abbrev pub OfAll : (List ℕ → Type 0) → Type 0
   OfAll Wrote = IfSome from (λ input. (text : List ℕ) × IsText (lines_of input) text × Wrote text)
 
-  -- some lines were read whole, and a part of the next line; `Wrote` holds of a text of the whole lines
+  -- Some whole lines were read, and a part of the next line. `Wrote` holds of a text of the whole lines.
   abbrev pub OfRead : Option (List ℕ) → (List ℕ → Type 0) → Type 0
   OfRead to Wrote = (lines : List (List ℕ)) × (text part : List ℕ)
       × IsText lines text × TakesLines from to lines part × Wrote text
 
 module _ (IsText IsTextSoFar : List (List ℕ) → List ℕ → Type 0) (from to old new : Option (List ℕ)) where
-  -- Either all lines were read, or some lines were read whole. A beginning of a text of these lines was written.
+  -- Either all lines were read, or some whole lines were read. A beginning of a text of these lines was written.
   abbrev pub BeginsText : Type 0
   BeginsText = (OfAll IsText from (Begins old new) × OnSome from (IsAtEnd to))
       ⊎ OfRead IsTextSoFar from to (Begins old new)
 
--- what was read and written, by how the answers to the lines ended
+-- what was read and written, depending on how the answers to the lines ended
 abbrev pub Answers : (List (List ℕ) → List ℕ → Type 0) → Option (List ℕ) → Option (List ℕ) → Option (List ℕ)
     → Option (List ℕ) → Result (Unit {0}) ReplayError → Type 0
 Answers IsText from to old new (Ok _) = OfAll IsText from (Appends old new) × OnSome from (IsAtEnd to)

@@ -1,4 +1,4 @@
--- The lines of an input: each ends with a line feed, except perhaps the last.
+-- The lines of an input. Each line ends with a line feed; the last line may end without one.
 use Rattle.std.specs.Prelude.{◌≡◌, ◌≢◌, ℕ, ◌<◌, List, [], ◌∷◌, ◌++◌, ◌==◌, if◌then◌else◌, length, flat_map, Option}
 use Rattle.std.specs.Prelude.{OnSome, ◌⊎◌}
 use Rattle.std.specs.List.{AllByRecursion}
@@ -25,7 +25,7 @@ lines_of (b ∷ bytes) = if b == 10 then [] ∷ lines_of bytes else onto_first b
 abbrev pub fed : List ℕ → List ℕ
 fed line = line ++ 10 ∷ []
 
--- `old` is what a reader had left, and `new` what it has left now.
+-- A reader had the bytes `old` left, if they are known, and has `new` left now.
 module _ (old new : Option (List ℕ)) where
   abbrev pub TakesPart : List ℕ → Type 0
   TakesPart bytes = Lacks 10 bytes × Consumes old new bytes
@@ -44,7 +44,7 @@ module _ (old new : Option (List ℕ)) where
   TakesPiece pieces.Last bytes = TakesFed bytes
   TakesPiece pieces.End bytes = TakesRest bytes
 
-  -- a line was read, and ended in this way
+  -- a line was read, and ended as `Ending` says
   abbrev pub TakesLine : Ending → List ℕ → Type 0
   TakesLine endings.Feed line = TakesFed line
   TakesLine endings.InputEnd line = TakesRest line × (0 < length line)

@@ -1,5 +1,4 @@
--- Calls on a list of pairs and its limiter, as if there were no table and a bucket were always free: what each call may
--- return, and which list (newest first) and limiter it may leave.
+-- Calls on a list of pairs (newest first) and a limiter, as if there were no table and a bucket were always free.
 --     rules, offers, eq   as in `Steps`
 --     hash_of k           the hash of the key k
 use Rattle.std.specs.Prelude.{◌≡◌, ℕ, ◌++◌, Bool, List, [], Option, Some, None, Result, MatchOption, is_some, length}
@@ -27,13 +26,13 @@ use Rattle.lru_replay.specs.Replies.{insert_reply, made_reply}
 use Rattle.lru_replay.specs.Steps.{FindsByHash}
 
 module _ {K V S : Type 0} (eq : K → K → Bool) where
-  -- the contents with the pair of the key, if it is there, as the newest
+  -- If the list has a pair of the key, the pair becomes the newest.
   abbrev pub fronted : K → Contents K V S → Contents K V S
   fronted key c = record c { pairs = front (eq key) c.pairs }
 
 module _ {K V S : Type 0} (rules : Rules K V S) (offers : Offers K V S K) (eq : K → K → Bool) (key : K) (v : V)
     (c : Contents K V S) where
-  -- what an update of this pair returns and leaves
+  -- what an update of the pair `there` returns and leaves
   abbrev pub updates_pair : K × V → Updated V × Contents K V S
   updates_pair there = let r = replacement rules offers eq there key v c in
       if r.taken then (Replaced r.old_value, trim rules (with_updated rules offers eq there key v c))
@@ -45,12 +44,12 @@ module _ {K V S : Type 0} (rules : Rules K V S) (offers : Offers K V S K) (eq : 
 abbrev pub emptied : {K V S : Type 0} → Rules K V S → Contents K V S → Contents K V S
 emptied rules c = record { pairs = []; limiter = rules.on_cleared c.limiter }
 
--- the contents with this list as a part of the limiter's state
+-- the contents, with the list added to the limiter's state
 abbrev pub beside : {K V S : Type 0} → List (K × V) → Contents K V S → Contents K V (S × List (K × V))
 beside list c = record { pairs = c.pairs; limiter = (c.limiter, list) }
 
 module _ {K V S : Type 0} (rules : Rules K V S) (offers : Offers K V S K) (eq : K → K → Bool) where
-  -- what the call returns and leaves, if the list and the limiter determine it
+  -- What the call returns and leaves. It is `None` if the list and the limiter do not determine this.
   abbrev pub determined : Contents K V S → Call K V S → Option (Reply K V × Contents K V S)
   determined c (calls.Update key v) =
       let ended = updated_in_list rules offers eq key v c in Some (updated ended.0, ended.1)
@@ -78,8 +77,8 @@ module _ {K V S : Type 0} (rules : Rules K V S) (offers : Offers K V S K) (eq : 
   determined c (calls.SetLimiter s) = Some (done, record c { limiter = s })
   determined c call = None
 
-  -- From the list c, the call may return this and leave d. Only a table determines the results of a reservation and of
-  -- a shrink, and the figures other than the number of pairs.
+  -- The call may turn the contents c into d and give this reply. The results of a reservation and of a shrink, and the
+  -- figures except for the number of pairs, depend on the table, so any are permitted.
   module _ (hash_of : K → ℕ) where
     abbrev pub ListStep : Contents K V S → Call K V S → Reply K V → Contents K V S → Type 0
     ListStep c (calls.Insert key v) reply d = (result : Result Bool AllocError)
@@ -103,6 +102,6 @@ module _ {K V S : Type 0} (rules : Rules K V S) (offers : Offers K V S K) (eq : 
         (figures : Figures) × (figures.len ≡ length c.pairs) × (reply ≡ stats figures) × (d ≡ c)
     ListStep c call reply d = determined c call ≡ Some (reply, d)
 
-    -- a `ListStep`; or there is no memory for the returned pairs, and nothing changes
+    -- Either a `ListStep`, or there is no memory for the returned pairs, and nothing changes.
     abbrev pub ListCallStep : Contents K V S → Call K V S → Reply K V → Contents K V S → Type 0
     ListCallStep = StepIfMemory ListStep

@@ -1,4 +1,4 @@
--- The maps of a replay: numbers under numbers.
+-- The maps of a replay. Keys and values are numbers.
 use Rattle.std.specs.Prelude.{ℕ, [], ◌∷◌}
 use Rattle.std.specs.Hash.{le_bytes}
 use Rattle.lru_limits.specs.Mixing.{Mixer, seeded, written, closed}
@@ -8,7 +8,7 @@ use Rattle.lru_model.specs.State.{State, empty_map}
 abbrev pub Map : Type 0 → Type 0
 Map S = State ℕ ℕ S Mixer
 
--- an empty map with this number of bytes per entry, and links below max
+-- an empty map with this number of bytes for each entry, and links below max
 abbrev pub empty : {S : Type 0} → S → ℕ → ℕ → Map S
 empty limiter entry_bytes max = empty_map limiter (seeded (1 ∷ 2 ∷ 3 ∷ 4 ∷ [])) entry_bytes max
 

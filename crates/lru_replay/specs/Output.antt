@@ -1,4 +1,4 @@
--- What is written: the text of a reply, or a beginning of it if a write fails.
+-- What is written: the text of a reply. If a write fails, only a beginning of the text is written.
 use Rattle.std.specs.Prelude.{◌≡◌, ℕ, Bool, true, false, List, [], ◌∷◌, ◌++◌, Option, Some, None, Result, Ok, Err}
 use Rattle.std.specs.Prelude.{decimal, codes, ◌==◌, if◌then◌else◌}
 use Rattle.std.specs.declared.alloc.AllocError.{AllocError}
@@ -22,7 +22,7 @@ Begins old new text = (part : List ℕ) × IsFront part text × Appends old new 
 abbrev pub Fails : ReplayError → Option (List ℕ) → Option (List ℕ) → List ℕ → Type 0
 Fails e old new text = (e ≡ errors.Write) × Begins old new text
 
--- the text was written, or, if a write failed, a beginning of the text
+-- Either the text was written, or a write failed after a beginning of the text.
 abbrev pub Writes : {A : Type 0} → Option (List ℕ) → Option (List ℕ) → Result A ReplayError → List ℕ → Type 0
 Writes old new (Ok _) text = Appends old new text
 Writes old new (Err e) text = Fails e old new text
@@ -36,7 +36,7 @@ abbrev pub rest_text : List (ℕ × ℕ) → List ℕ
 rest_text [] = []
 rest_text (p ∷ pairs) = 32 ∷ pair_text p ++ rest_text pairs
 
--- the next pair, if there is one, with a space before it if others precede it
+-- the text of the next pair, if there is one; a space comes first if a pair was written before
 abbrev pub taken_text : Bool → Option (ℕ × ℕ) → List ℕ
 taken_text any None = []
 taken_text false (Some p) = pair_text p
@@ -51,7 +51,7 @@ abbrev pub value_text : Option ℕ → List ℕ
 value_text None = codes "none"
 value_text (Some v) = decimal v
 
--- a pair, such as `3:30`, or `none`
+-- a pair, such as `3:30`, or `none` if there is no pair
 abbrev pub left_text : Option (ℕ × ℕ) → List ℕ
 left_text None = codes "none"
 left_text (Some p) = pair_text p
@@ -83,7 +83,7 @@ shrink_text (Err e) = codes "no memory"
 abbrev pub named_text : List ℕ → ℕ → List ℕ
 named_text name n = name ++ decimal n
 
--- the cost after the figures, such as ` cost 3`, or nothing if the limiter keeps no cost
+-- the running total after the figures, such as ` cost 3`, or nothing if the limiter keeps no total
 abbrev pub cost_text : Option ℕ → List ℕ
 cost_text None = []
 cost_text (Some cost) = named_text (codes " cost ") cost
@@ -99,7 +99,7 @@ figures_text figures = named_text (codes "len ") figures.len ++ (named_text (cod
     ++ (named_text (codes " memory ") figures.memory ++ (named_text (codes " moved ") figures.moved
     ++ placed_text figures.placed figures.shrunk)))
 
--- The text of a reply. The first argument is the cost that the limiter keeps, if it keeps one. No line gets the reply
+-- The text of a reply. `cost` is the running total of the limiter, if it keeps one. No line gets the reply
 -- `cost_differs`.
 abbrev pub reply_text : Option ℕ → Reply ℕ ℕ → List ℕ
 reply_text cost (flag there) = flag_text there

@@ -1,5 +1,5 @@
--- What a program does to the keys of a map, whichever calls it makes. The map is an LRU cache with a maximum length or
--- a limit of cost.
+-- What a program does to the keys of a map, whichever calls the program makes. The map is an LRU cache with a maximum
+-- length or a limit of cost.
 use Rattle.std.specs.Prelude.{◌≡◌, ℕ, ◌+◌, ◌*◌, ◌^◌, ◌<◌, ◌≤◌, Bool, true, List, [], ◌∷◌, ◌++◌, length, take, sum_by}
 use Rattle.std.specs.List.{AllByRecursion}
 use Rattle.group_table.specs.Change.{count_up}
@@ -21,7 +21,7 @@ pub record Cache (K V S H : Type 0) : Type 1 where
   pub limit : S → ℕ
   -- the keys after a reference to the key, with this limit
   pub refer : ℕ → K → List K → List K
-  -- with this limit each missed key is stored
+  -- if the limit is this number, each missed key is stored
   pub Stores : ℕ → Type 0
   -- what holds of the map before and after each reference
   pub Keeps : State K V S H → Type 0
@@ -31,8 +31,9 @@ pub record CostsAlike {K V : Type 0} (eq : K → K → Bool) (weight : K → V �
   pub keys : (key other : K) → eq key other ≡ true → cost key ≡ cost other
   pub pairs : (key other : K) (value : V) → eq key other ≡ true → weight key value ≡ weight other value
 
--- Each pair costs what its key costs. The total is the sum of the costs, and at most the limit. Any `most` + 1 keys
--- together cost more than the limit, even if some are equal, and there is a table for 8 * (most + 1) pairs.
+-- Each pair costs what its key costs. The total is the sum of the costs, and at most the limit. If keys together cost
+-- at most the limit, there are at most `most` of them, even if some are equal. There is a table for 8 * (most + 1)
+-- pairs.
 pub record KeepsToCost {K V H : Type 0} (weight : K → V → ℕ) (cost : K → ℕ) (st : State K V Budget H) : Type 0 where
   pub each : AllByRecursion (λ pair. weight pair.0 pair.1 ≡ cost pair.0) st.pairs
   pub summed : IsSummed weight (λ budget. budget.cost) st
@@ -59,20 +60,21 @@ module _ {K V H : Type 0} (eq : K → K → Bool) where
   }
 
 module _ {K V S H : Type 0} (cache : Cache K V S H) where
-  -- The map has these keys now, and the limit is the same as before.
+  -- The map has the keys `left` now, and its limit did not change.
   pub record LeavesKeys (left : List K) (old new : State K V S H) : Type 0 where
     pub keys : AreEqual cache.eq (keys_of new.pairs) left
     pub limit : cache.limit new.limiter ≡ cache.limit old.limiter
     pub keeps : cache.Keeps old → cache.Keeps new
 
-  -- A reference to a key. The key is the newest afterwards, and the other keys follow in their order, as far as the
-  -- limit permits (`does`). If the key was not there, an entry was stored, unless no entry can be stored (`stored`).
+  -- A reference to a key. Afterwards the key is the newest, and the other keys follow in their order, as far as the
+  -- limit permits (`does`). If the limit permits an entry, and the key was not in the map, an entry was stored
+  -- (`stored`).
   pub record Reference (key : K) (old new : State K V S H) : Type 0 where
     pub does : LeavesKeys (cache.refer (cache.limit old.limiter) key (keys_of old.pairs)) old new
     pub stored : cache.Stores (cache.limit old.limiter)
         → new.counts.placed ≡ count_up old.counts.placed (fault cache.eq key (keys_of old.pairs))
 
-  -- The program read the map, or wrote values. The keys keep their order, and no entry was stored.
+  -- The program read the map, or wrote values. The keys did not change, and no entry was stored.
   pub record Reads (old new : State K V S H) : Type 0 where
     pub does : LeavesKeys (keys_of old.pairs) old new
     pub stored : new.counts.placed ≡ old.counts.placed
@@ -95,7 +97,7 @@ module _ {K V S H : Type 0} (cache : Cache K V S H) where
     pub few : missed ≤ i
 
 module _ {K V H : Type 0} (eq : K → K → Bool) where
-  -- this call changes the keys of a map with a maximum length
+  -- what this call does to the keys of a map with a maximum length
   abbrev pub Does : KeyCall K → State K V ℕ H → State K V ℕ H → Type 0
   Does call old = LeavesKeys (of_length eq) (after_call eq old.limiter call (keys_of old.pairs)) old
 

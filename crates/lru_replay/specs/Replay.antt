@@ -1,5 +1,5 @@
--- A whole replay: what is written for an input if nothing fails (`IsOutput`), and what was read and written, by how the
--- replay ended (`Replays`).
+-- A whole replay. `IsOutput` says what is written for an input if nothing fails. `Replays` says what was read and
+-- written, depending on how the replay ended.
 use Rattle.std.specs.Prelude.{◌≡◌, ℕ, List, [], ◌∷◌, ◌⊎◌, Option, OnSome, IfSome, Result, Ok, Err}
 use Rattle.std.specs.Io.KnownBytes.{Appends, IsAtEnd}
 use Rattle.lru_limits.specs.Limiters.{length_rules, length_offers, memory_rules, no_rules, all_offers}
@@ -18,11 +18,11 @@ use Rattle.lru_replay.specs.Maps.{empty}
 use Rattle.lru_replay.specs.Output.{no_limiter_text, Begins}
 use Rattle.lru_replay.specs.LineRuns.{IsTextOf, OfAll, OfRead, BeginsText}
 
--- the bytes that the map counts for an entry, unless the first line says otherwise
+-- the bytes that the map counts for an entry, if the first line names no number of bytes
 abbrev pub plain_entry_bytes : ℕ
 plain_entry_bytes = 32
 
--- This text answers the lines, from the empty map under the limit.
+-- The text answers the lines, which are carried out on an empty map under the limit.
 abbrev pub IsTextUnder : Limit → List (List ℕ) → List ℕ → Type 0
 IsTextUnder (limits.Length most) =
     IsTextOf length_rules length_offers no_cost (empty most plain_entry_bytes max_of_32_bits)
@@ -34,7 +34,7 @@ IsTextUnder (limits.Cost most) =
 IsTextUnder limits.Compact =
     IsTextOf {S = UnlimitedCompact} no_rules all_offers no_cost (empty (record {}) plain_entry_bytes max_of_32_bits)
 
--- The first line names a limit, and this text answers the other lines, from the empty map under that limit.
+-- The first line names a limit, and the text answers the other lines under this limit.
 abbrev pub IsReplay : List (List ℕ) → List ℕ → Type 0
 IsReplay lines text = (limit : Limit) × (first : List ℕ) × (others : List (List ℕ))
     × (lines ≡ first ∷ others) × SpellsLimit first limit × IsTextUnder limit others text
@@ -48,13 +48,13 @@ NamesNoLimit lines = (limit : Limit) (first : List ℕ) (others : List (List ℕ
 abbrev pub IsOutput : List (List ℕ) → List ℕ → Type 0
 IsOutput lines text = IsReplay lines text ⊎ (NamesNoLimit lines × (text ≡ no_limiter_text))
 
--- what is written for some of the lines: nothing if there are none, and otherwise what `IsText` says
+-- What is written for some of the lines. If no line was read, it is nothing, and otherwise `IsText` says what it is.
 abbrev pub SoFar : (List (List ℕ) → List ℕ → Type 0) → List (List ℕ) → List ℕ → Type 0
 SoFar IsText [] text = text ≡ []
 SoFar IsText (first ∷ others) text = IsText (first ∷ others) text
 
--- What a replay read and wrote, by how it ended. As in `LineRuns`, a reader had the bytes `from` left, and has `to`
--- left now. A writer's bytes were `old` and are `new`.
+-- What a replay read and wrote, depending on how it ended. The reader had the bytes `from` left, and has `to` left now.
+-- The writer's bytes were `old` and are `new`.
 module _ (from to old new : Option (List ℕ)) where
   -- The first line names a limit, a replay of all the lines was written, and nothing is left to read.
   pub record Finished : Type 0 where
@@ -73,8 +73,8 @@ module _ (from to old new : Option (List ℕ)) where
   abbrev pub ReadFailed : Type 0
   ReadFailed = OfRead (SoFar IsReplay) from to (Appends old new)
 
-  -- A write failed. What was written is a beginning of the output for all lines, and a beginning of the output for the
-  -- lines that were read.
+  -- A write failed. A beginning of the output for all lines was written, and it is also a beginning of the output for
+  -- the lines that were read.
   pub record WriteFailed : Type 0 where
     pub cut : OfAll IsOutput from (Begins old new)
     pub reads : BeginsText IsOutput (SoFar IsOutput) from to old new

@@ -1,4 +1,4 @@
--- The replies to calls, as contracts see them.
+-- The replies to calls. A contract sees an `Answer` as a `Reply`.
 use Rattle.std.specs.Prelude.{Bool, true, false, List, [], ◌∷◌, Option, None, Result, Ok, Err}
 use Rattle.std.specs.declared.alloc.AllocError.{AllocError}
 use Rattle.lru_model.specs.Lists.{newest_value}
@@ -10,9 +10,9 @@ use Rattle.lru_replay.specs.declared.calls.Answer.TheVariants as answers
 use Rattle.lru_replay.specs.declared.lines.figures.Figures.{Figures}
 
 pub data Reply (K V : Type 0) : Type 0 where
-  -- whether the key of an insert, a write, a promotion, a demotion or a `Contains` is there
+  -- whether the key is in the map after an insert, a write, a promotion, a demotion or a `Contains`
   flag : Bool → Reply K V
-  -- how an insert ended, and the pairs that it passed to its callback, in order
+  -- what an insert returned, and the pairs that it passed to its callback, in order
   given : Result Bool AllocError → List (K × V) → Reply K V
   updated : Updated V → Reply K V
   -- the value of a key, if it is there
@@ -33,7 +33,7 @@ pub data Reply (K V : Type 0) : Type 0 where
 pub data MemoryReport : Type 0 where
   found_all : MemoryReport
   runs_out : MemoryReport
-  -- an insert ran out of memory, and the reply also lists the pairs that were passed to its callback
+  -- an insert ran out of memory; the reply also lists the pairs that it passed to its callback
   runs_out_with_pairs : MemoryReport
 
 module _ {K V : Type 0} where
@@ -73,7 +73,7 @@ module _ {K V : Type 0} where
   insert_reply (Ok there) = flag there
   insert_reply (Err e) = no_memory
 
-  -- the reply to a get that inserts, if these are the pairs after it
+  -- the reply to a get that inserts, from its result and the pairs after the call
   abbrev pub made_reply : Result Bool AllocError → List (K × V) → Reply K V
   made_reply (Ok true) pairs = value (newest_value pairs)
   made_reply (Ok false) pairs = value None

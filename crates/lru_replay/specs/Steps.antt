@@ -27,8 +27,8 @@ use Rattle.lru_replay.specs.Replies.{Reply, flag, given, updated, value, pair, l
 use Rattle.lru_replay.specs.Replies.{insert_reply, made_reply}
 
 module _ {K V : Type 0} (eq : K → K → Bool) (hash_of : K → ℕ) where
-  -- What a search by a hash finds for a key. It may find the pair of the key, if the key's hash and this hash have the
-  -- same tag. It may find nothing, if the key is not there or has another hash.
+  -- What a search by a hash finds for a key. If the stored key's hash has the same tag as this hash, the search may
+  -- find the pair. If the key is not there or has another hash, the search may find nothing.
   pub data FindsByHash (hash : ℕ) (key : K) (pairs : List (K × V)) (result : Option V) : Type 0 where
     found : (there : K × V) → lookup_entry (eq key) pairs ≡ Some there → hash_tag (hash_of there.0) ≡ hash_tag hash
         → result ≡ Some there.1 → FindsByHash hash key pairs result
@@ -37,7 +37,7 @@ module _ {K V : Type 0} (eq : K → K → Bool) (hash_of : K → ℕ) where
 
 module _ {K V S H : Type 0} (rules : Rules K V S) (offers : Offers K V S K) (eq : K → K → Bool)
     (hash_of : H → K → ℕ) where
-  -- from `old`, the call may reply this and leave `new`
+  -- the call may turn the map `old` into `new` and give this reply
   abbrev pub ReplyStep : State K V S H → Call K V S → Reply K V → State K V S H → Type 0
   ReplyStep old (calls.Insert key v) reply new = (result : Result Bool AllocError)
       × Insert rules offers eq hash_of key v old result new × (reply ≡ insert_reply result)

@@ -1,4 +1,4 @@
-//! The calls of a run, and their answers; lists of calls, carried out on a map.
+//! The calls of a run, and their answers.
 pub(crate) mod pairs;
 pub(crate) mod runs;
 pub(crate) mod steps;
@@ -7,8 +7,7 @@ pub(crate) mod summing;
 use lru_model::{MoveReport, ReserveError, Updated};
 use std::alloc::AllocError;
 
-/// A call of a run. It does what the map's call of the same name does, except for `SetLimiter`. `docs/RUNS.md` has the
-/// other special cases.
+/// A call of a run. Most calls do what the map's call of the same name does; `docs/RUNS.md` lists the others.
 ///
 /// ```
 /// let calls = vec![in alloc; Call::Insert(1, 10), Call::Get(1), Call::Peek(2)]?;
@@ -16,9 +15,9 @@ use std::alloc::AllocError;
 #[derive(Debug, Drop)]
 pub enum Call<K, V, L> {
     Insert(K, V),
-    /// Does what `insert_with` does, and returns the pairs that the closure gets.
+    /// `insert_and_keep`: inserts, and returns the pairs that `insert_with` passes to its callback.
     InsertWith(K, V),
-    /// `get_or_insert`: inserts the key with this value if it is not there, and returns the value of the key.
+    /// `get_or_insert`: inserts the key with this value if the key is not in the map, and returns the value of the key.
     GetOrInsert(K, V),
     Update(K, V),
     Get(K),
@@ -57,16 +56,16 @@ pub enum Call<K, V, L> {
 /// ```
 #[derive(Debug, Drop, PartialEq)]
 pub enum Answer<K, V> {
-    /// To `Insert`, `Write`, `Contains`, `Promote` and `Demote`: whether the key is in the map.
+    /// To `Insert`, `Write`, `Contains`, `Promote` and `Demote`: whether the key is in the map now.
     Flag(bool),
-    /// To `InsertWith`: what the insert returned, and what it passed to its callback.
+    /// To `InsertWith`: what `insert_and_keep` returned.
     Given {
-        /// Whether the key is in the map, or that memory ran out.
+        /// Whether the key is in the map now, or out of memory.
         done: Result<bool, AllocError>,
-        /// The pairs that the callback got, in that order.
+        /// The pairs that `insert_with` passes to its callback, in order.
         out: Vec<(K, V)>,
     },
-    /// To `Update`: what the update did.
+    /// To `Update`.
     Updated(Updated<V>),
     /// To `GetOrInsert`, `Get`, `Peek`, `Remove` and the searches by a hash: the value, if there is one.
     Value(Option<V>),
@@ -75,7 +74,7 @@ pub enum Answer<K, V> {
     /// To `List` and `Drain`: the pairs.
     Pairs(Vec<(K, V)>),
     Done,
-    /// To `Reserve`: that there is growth left, or why not.
+    /// To `Reserve`: enough growth is left, or the reason why it is not.
     Reserved(Result<(), ReserveError>),
     /// To `Shrink`: whether the table has fewer buckets now. After an `Err`, out of memory, nothing has changed.
     Shrunk(Result<bool, AllocError>),
@@ -86,10 +85,9 @@ pub enum Answer<K, V> {
         memory: usize,
         report: MoveReport,
     },
-    /// To `Insert` and `GetOrInsert`: out of memory. To `InsertWith`, `List` and `Drain`: out of memory for the pairs
-    /// to return, and nothing has changed. A reservation reports this in `Reserved`, and a shrink in `Shrunk`.
+    /// To `Insert` and `GetOrInsert`: out of memory. To `InsertWith`, `List` and `Drain`: out of memory for the
+    /// returned pairs, and nothing has changed.
     Memory,
-    /// To `Write` and `SetLimiter`, under a limiter with a running total: the total would be wrong, and nothing has
-    /// changed.
+    /// To `Write` and `SetLimiter` in `run_summing`: the call was not made, because the running total would be wrong.
     CostDiffers,
 }

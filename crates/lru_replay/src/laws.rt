@@ -1,4 +1,4 @@
-//! What is proved about runs of calls, in addition to the contracts of `run_calls` and `run_summing`.
+//! Laws on runs of calls, in addition to the contracts of `run_calls` and `run_summing`.
 ghost use Rattle.std.specs.Prelude.{ℕ, ◌+◌, ◌*◌, length, List};
 ghost use Rattle.std.specs.List.{AllByRecursion, IsDistinct};
 ghost use Rattle.lru_model.specs.Exact.{AlwaysGrants, HasTables, HasTableFor};
@@ -14,8 +14,9 @@ use lru_limits::{Insertion, KeyHasher};
 use lru_model::laws;
 use std::hash::Hash;
 
-/// A list of calls is a run of steps of the map, so the laws on runs hold of it (`calls`). A list that `run_summing`
-/// carries out is such a run, too, and its writes keep the cost (`summing`).
+/// A list of calls is a run of steps of the map, so the laws on runs hold of the list (`calls`). A list that
+/// `run_summing` carries out is a run of steps, too. If it sets no limiter, each of its writes keeps the cost of its
+/// entry (`summing`).
 pub fn lists_are_runs<K: Eq + Hash, V, L: Insertion<K, V, K>, S: KeyHasher<K>>()
     ensures calls { (old new : State K V L S) (calls : List (Call K V L)) (replies : List (Reply K V)) →
         IsRun (CallStep L.rules L.offers K.eq S.hash_of) (IsMap K.eq) old calls replies new →
@@ -27,10 +28,10 @@ pub fn lists_are_runs<K: Eq + Hash, V, L: Insertion<K, V, K>, S: KeyHasher<K>>()
         × (AllByRecursion SetsNoLimiter calls → Run (StepOrKeptWrite L.rules L.offers K.eq S.hash_of cost) new old) }
 {}
 
-/// A run does what it would do to a list of pairs with distinct keys, without a table, under two premises. The limiter
-/// permits every growth, as `ByLength`, `ByCost` and the unlimited limiters do. There is a table for each number of
-/// pairs that the map may have. `ListCallStep` says which answers and states the list and the limiter lead to
-/// (`exact`). With n pairs and m calls, a table for 8 * (n + m + 1) pairs is enough (`reached`).
+/// If two premises hold, a run does to a map what it does to a list of pairs with distinct keys. The limiter permits
+/// every growth, as `ByLength`, `ByCost` and the unlimited limiters do. There is a table for each number of pairs that
+/// the map may have. `ListCallStep` defines the steps on the list and the limiter (`exact`). If the map has n pairs and
+/// the run m calls, it is enough that there is a table for 8 * (n + m + 1) pairs (`reached`).
 pub fn granted_calls_are_exact<K: Eq + Hash, V, L: Insertion<K, V, K>, S: KeyHasher<K>>()
     ensures exact { (old new : State K V L S) (calls : List (Call K V L)) (replies : List (Reply K V)) →
         AlwaysGrants L.rules → HasTables old →

@@ -1,4 +1,4 @@
-//! Runs of calls, as lines from a reader to a writer: what lines mean, and the texts of answers.
+//! What the lines of a replay mean, and the texts of its answers.
 
 mod bytes;
 mod drain;

@@ -1,4 +1,4 @@
-//! Calls of the caches of `lru_caches` that are references: a memo, a loader and a page cache.
+//! References by calls of `lru_caches`: of a memo, a loader and a page cache.
 ghost use Rattle.std.specs.Prelude.{◌≡◌, ◌≤◌, ◌∷◌, ℕ, Bool, false, IfOk, IsOk, List, OnOk, Result, nat_eq, take};
 ghost use Rattle.std.specs.Fn.{FnReturnsAt};
 ghost use Rattle.std.specs.String.{string_eq};
@@ -15,7 +15,7 @@ use lru_caches::{BlockDevice, Loader, Memo, PageCache, PageError};
 use lru_replay::references::calls_make_references;
 use schnellru::{ByLength, RandomState};
 
-/// Returns an answer of a memo. Unless the memo ran out of memory, the call is a reference.
+/// Returns an answer of a memo. If the memo did not run out of memory, the call is a reference.
 fn answer<F: Fn(&String) -> u64>(memo: &mut Memo<String, u64, F, ByLength>, key: String) -> u64
     requires callable { F.IsAlwaysCallable memo.old.function }
     requires known { AreAnswers string_eq (FnReturnsAt F.Fn memo.old.function) memo.old.map.pairs }
@@ -26,7 +26,8 @@ fn answer<F: Fn(&String) -> u64>(memo: &mut Memo<String, u64, F, ByLength>, key:
     memo.answer(key)
 }
 
-/// Returns a value of a loader. If it was loaded, and the loader did not run out of memory, the call is a reference.
+/// Returns a value of a loader. If the call returns `Ok`, and the loader did not run out of memory, the call is a
+/// reference.
 fn load<F: Fn(&String) -> Result<u64, u64>>(
     loader: &mut Loader<String, u64, F, ByLength>,
     key: String,
@@ -42,9 +43,9 @@ fn load<F: Fn(&String) -> Result<u64, u64>>(
     Ok(value)
 }
 
-/// Reads a block through a page cache that has no pins and may evict dirty pages. The pages change as the keys of an
-/// LRU cache do at a reference to the number (`refers`). So if they were the pages of the numbers that were read last,
-/// they still are (`newest`).
+/// Reads a block through a page cache that has no pins and may evict dirty pages. The read is a reference to the
+/// number: the numbers of the pages change like the keys of an LRU cache (`refers`). So if they were the numbers that
+/// were read last, they still are (`newest`).
 fn read<D: BlockDevice<u8>>(cache: &mut PageCache<u8, D>, n: u64) -> Result<u8, PageError<D::Error>>
     requires plain { cache.old.keeps_dirty ≡ false }
     requires unpinned { (m : ℕ) → pinned cache.old m ≡ false }
@@ -60,7 +61,7 @@ fn read<D: BlockDevice<u8>>(cache: &mut PageCache<u8, D>, n: u64) -> Result<u8, 
     Ok(block)
 }
 
-/// Reads a block through two page caches without pins. The smaller cache stays included in the larger one.
+/// Reads a block through two page caches without pins. The smaller cache stays included in the larger cache.
 fn read_both<D: BlockDevice<u8>>(
     small: &mut PageCache<u8, D>,
     large: &mut PageCache<u8, D>,

@@ -1,4 +1,4 @@
-//! Programs with `String` keys under a limit of cost, that prove how often they load a value.
+//! Programs with `String` keys under a limit of cost. Their contracts say how often they load a value.
 ghost use Rattle.std.specs.Prelude.{◌≡◌, ◌≤◌, ◌<◌, ◌+◌, ◌*◌, ◌^◌, ℕ, [], true, length, take, IfOk, OnOk, string_len, vec_len};
 ghost use Rattle.std.specs.Prelude.{Ok, Vec};
 ghost use Rattle.std.specs.List.{All};
@@ -34,7 +34,7 @@ trait Source {
     ghost alike: { (text other : String Global) → string_eq text other ≡ true → size text ≡ size other };
 }
 
-/// Looks up a text, and loads and inserts its value if it is not there. Returns how many values it loaded.
+/// Looks up a text. If the text is not there, loads and inserts its value. Returns how many values it loaded.
 fn load_at_miss<L: Source>(
     map: &mut LruMap<String, Vec<u8>, ByCost>,
     text: &String,
@@ -55,8 +55,8 @@ fn load_at_miss<L: Source>(
     Ok(1)
 }
 
-/// Looks up each text by `load_at_miss`, and returns how often this loaded a value: exactly as often as a cache with
-/// this limit misses.
+/// Looks up each text by `load_at_miss`, and returns how many values this loaded: one for each miss of a cache with
+/// this limit.
 fn read_through<L: Source>(
     map: &mut LruMap<String, Vec<u8>, ByCost>,
     texts: &[String],
@@ -132,8 +132,8 @@ fn read_both<L: Source>(
     ))
 }
 
-/// Makes a text the newest, with a value that is made if it is not there. If a text determines how many bytes its value
-/// has, this is a reference.
+/// Makes a text the newest. If the text is not there, makes its value. If each text determines how many bytes its value
+/// has, the call is a reference.
 fn remember<F: FnOnce() -> Vec<u8>>(
     map: &mut LruMap<String, Vec<u8>, ByCost>,
     text: String,
@@ -169,7 +169,8 @@ fn try_to_remember<F: FnOnce() -> Result<Vec<u8>, u64>>(
     Ok(kept)
 }
 
-/// Inserts a text under a number, with a limit of weight. If an entry costs what its key costs, this is a reference.
+/// Inserts a text under a number, with a limit of weight. If the entry costs what its key costs, the call is a
+/// reference.
 fn insert_weighed(
     map: &mut LruMap<u64, String, ByWeight<16>>,
     key: u64,

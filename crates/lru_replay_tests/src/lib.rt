@@ -1,5 +1,4 @@
-//! Tests of `lru_replay` through its public calls, for what no contract says: runs that run out of memory, and the
-//! printed texts.
+//! Tests of what no contract of `lru_replay` says: runs that run out of memory, and the printed texts.
 #![tactic(auto)]
 
 #[cfg(test)]

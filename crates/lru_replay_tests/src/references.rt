@@ -1,4 +1,4 @@
-//! Programs with `String` keys that make references, and prove how often they miss.
+//! Programs with `String` keys that make references. Their contracts say how often they miss.
 ghost use Rattle.std.specs.Prelude.{◌≡◌, ◌≤◌, ◌<◌, ◌-◌, ◌+◌, ◌*◌, ℕ, [], List, IfOk, OnOk};
 ghost use Rattle.std.specs.String.{string_eq};
 ghost use Rattle.lru_model.specs.Kept.{KeepsToLength};
@@ -13,7 +13,7 @@ use lru_replay::references::{
 use schnellru::{ByLength, LruMap, RandomState, laws};
 use std::alloc::{AllocError, Global};
 
-/// Looks up a text, and computes and inserts its value if it is not there. Returns how many values it computed.
+/// Looks up a text. If the text is not there, computes and inserts its value. Returns how many values it computed.
 fn compute_at_miss<F: Fn(&String) -> u64>(
     map: &mut LruMap<String, u64>,
     text: &String,
@@ -33,8 +33,7 @@ fn compute_at_miss<F: Fn(&String) -> u64>(
     Ok(1)
 }
 
-/// Looks up each text by `compute_at_miss`, and returns how often this computed a value: once for each miss of the
-/// trace.
+/// Looks up each text by `compute_at_miss`, and returns how many values this computed: one for each miss of the trace.
 pub fn read_through<F: Fn(&String) -> u64>(
     map: &mut LruMap<String, u64>,
     texts: &[String],
@@ -55,9 +54,9 @@ pub fn read_through<F: Fn(&String) -> u64>(
     Ok(count)
 }
 
-/// Computes the values of the texts with two new maps. The larger map computes no more often. No policy with h places
-/// pays less than (length + 1 - h) / length times as often as the smaller map computes, even if the policy knows the
-/// texts in advance and loads them ahead.
+/// Computes the values of the texts with two new maps. The larger map computes at most as many. If the smaller map has
+/// `length` places and computes n values, each policy with h places pays at least (length + 1 - h) / length * n times,
+/// even if it knows the texts in advance and loads them ahead.
 fn compare<F: Fn(&String) -> u64>(
     alloc: Global,
     texts: &[String],

@@ -1,10 +1,10 @@
-//! A function that calls the cache, with a contract of its own: the code of docs/TENANTS.md.
+//! A caller of the cache, with its own contract, as in docs/TENANTS.md.
 ghost use Rattle.std.specs.Prelude.{◌≡◌, ℕ, nat_eq, false};
 ghost use Rattle.lru_tenants.specs.Cache.{tenant};
 
 use lru_tenants::{TenantCache, TenantError};
 
-/// Puts a value for one tenant. Every other tenant's map stays as it is.
+/// Puts a value for one tenant. The map of each other tenant does not change.
 fn put_beside(
     cache: &mut TenantCache<u64, u64, u64>,
     name: &u64,

@@ -1,4 +1,4 @@
-//! The cache of numbers in the examples of the docs. Tests of the texts of errors, and of names and keys that are texts.
+//! The cache of numbers in the examples of the docs. Tests of the texts of errors, and of texts as names and keys.
 use lru_tenants::{TenantCache, TenantError, costs_are_within_the_total_limit};
 use std::test::Fail;
 use test_helpers::check;

@@ -1,4 +1,3 @@
--- The columns of an empty text.
 use Rattle.std.proofs.Common.{◌≡◌, ℕ, zero, suc, [], refl}
 use Rattle.lru_trace.specs.Lines.{cell}
 

@@ -88,7 +88,7 @@ module _ {slots levels : ℕ} {t : List ℕ} (tree : IsTree slots levels t) wher
 pub behind_root : (t : List ℕ) (node : ℕ) → 1 ≤ node → node < 2 * 1 → behind t node 1 ≡ 0
 behind_root t node low high = ap (span t (node + 1)) (let e : 2 * 1 - 1 - node ≡ 0 = omega (arith, low) in e)
 
--- Each node is the sum of its children, except one, which is `up` too small or `down` too large.
+-- Each node is the sum of its children, except for one node, which is `up` too small and `down` too large.
 pub record IsOff (slots up down : ℕ) (t : List ℕ) (node : ℕ) : Type 0 where
   pub len : length t ≡ 2 * slots
   pub sums : (i : ℕ) → 0 < i → i < slots → i ≢ node → get_or t i 0 ≡ get_or t (2 * i) 0 + get_or t (2 * i + 1) 0

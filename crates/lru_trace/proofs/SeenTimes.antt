@@ -16,8 +16,8 @@ use Rattle.std.specs.Prelude.{◌==◌, nat_eq}
 use Rattle.lru_theory.specs.Best.{until}
 use Rattle.lru_trace.specs.Times.{next_times}
 
--- What is known about the references from time `now` on: for each, the time of the next reference to its key; for each
--- key, the time of its first reference.
+-- What is known about the references from time `now` on. `nexts` has, for each reference, the time of the next
+-- reference to its key. `seen` has, for each key, the time of its first reference.
 pub record Seen (numbers nexts seen : List ℕ) (bound now : ℕ) : Type 0 where
   pub size : length nexts ≡ length numbers
   pub keys : length seen ≡ bound

@@ -1,4 +1,4 @@
--- The turns of the loops of `best`, which compute the times of the keys of MIN.
+-- One turn of a loop of `best`. The loops compute the times of the keys of MIN.
 use Rattle.std.proofs.Common.{◌≡◌, ℕ, zero, suc, ◌+◌, ◌-◌, ◌≤◌, ◌<◌, Bool, List, [], ◌∷◌, length, take}
 use Rattle.std.proofs.Common.{get_or, refl, sym, ap, ◌∙◌, subst, arith}
 use Rattle.std.specs.BTreeMap.{is_at}
@@ -51,7 +51,7 @@ length-next_times : {K : Type 0} (eq : K → K → Bool) (i : ℕ) (trace : List
 length-next_times eq i [] = refl
 length-next_times eq i (key ∷ trace) = ap suc (length-next_times eq (suc i) trace)
 
--- The time `now` was taken out of the times `ts`, which leaves `left`. The key of this reference comes again at time
+-- The times are `ts`, and `left` without the time `now`. The key of the reference at `now` is referenced again at time
 -- `next`.
 module _ (trace : List (List ℕ)) {nexts : List ℕ} (are : nexts ≡ next_times bytes_eq 0 trace) (now places : ℕ)
     (h : now < length nexts) (missed count next : ℕ) (found : Bool) (ts left new : List ℕ)

@@ -25,7 +25,7 @@ pub record AreNumbered (names : List (String Global × ℕ)) (n : ℕ) : Type 0 
   pub small : (key : List ℕ) (number : ℕ) → number_in names key ≡ Some number → number < n
   pub apart : (a b : List ℕ) (number : ℕ) → number_in names a ≡ Some number → number_in names b ≡ Some number → a ≡ b
 
--- the curve of a trace that comes behind a warm-up, whose references are not counted
+-- the curve of the references `trace`, which come behind the warm-up `warm`
 pub record IsOf (warm trace : List (List ℕ)) (curve : Counted) : Type 0 where
   pub before : List ℕ
   pub numbers : List ℕ
@@ -36,7 +36,7 @@ pub record IsOf (warm trace : List (List ℕ)) (curve : Counted) : Type 0 where
   pub all : curve.references ≡ length trace
   pub kept : IfSome curve.kept (λ kept. kept ≡ numbers)
 
--- A curve was `old`, and is `new` after these references, which are counted unless they are a warm-up.
+-- A curve was `old`, and is `new` after these references. If `is_warm` is false, they are counted.
 pub record Follows (is_warm : Bool) (old : Counted) (references : List (List ℕ)) (new : Counted) : Type 0 where
   pub counted : is_warm ≡ false → (warm trace : List (List ℕ)) → IsOf warm trace old → IsOf warm (trace ++ references) new
   pub warmed : is_warm ≡ true → (warm : List (List ℕ)) → IsOf warm [] old → IsOf (warm ++ references) [] new

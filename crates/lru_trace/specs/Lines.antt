@@ -1,4 +1,4 @@
--- The lines of a trace: each spells a key or no key.
+-- The lines of a trace, and their keys.
 use Rattle.std.specs.Prelude.{◌≡◌, ◌≢◌, ℕ, ◌<◌, Bool, not, ◌&&◌, nat_lt, nat_le, List, [], ◌∷◌, ◌++◌, length, ◌==◌}
 use Rattle.std.specs.Prelude.{if◌then◌else◌, zero, suc, map, Option, OnSome, Some, None}
 use Rattle.std.specs.List.{filter, AllByRecursion}
@@ -24,7 +24,7 @@ fed line = line ++ 10 ∷ []
 abbrev pub LacksFeed : List ℕ → Type 0
 LacksFeed bytes = AllByRecursion (λ b. b ≢ 10) bytes
 
--- `line` is what was read without its ending
+-- `line` is `bytes` without a line feed at the end
 abbrev pub EndsSo : Ending → List ℕ → List ℕ → Type 0
 EndsSo endings.Feed bytes line = bytes ≡ fed line
 EndsSo endings.InputEnd bytes line = (line ≡ bytes) × (0 < length line) × ((front : List ℕ) → bytes ≡ fed front → ⊥)
@@ -36,7 +36,7 @@ module _ (from to : Option (List ℕ)) where
   abbrev pub TakesRest : List ℕ → Type 0
   TakesRest bytes = LacksFeed bytes × Consumes from to bytes × OnSome from (IsAtEnd to)
 
-  -- a line was read, and ended in this way
+  -- a line was read, and ended as `Ending` says
   abbrev pub TakesLine : Ending → List ℕ → Type 0
   TakesLine endings.Feed line = LacksFeed line × Consumes from to (fed line)
   TakesLine endings.InputEnd line = TakesRest line × (0 < length line)
@@ -51,7 +51,7 @@ abbrev pub behind : ℕ → List ℕ → List ℕ
 behind separator [] = []
 behind separator (b ∷ line) = if b == separator then line else behind separator line
 
--- the column behind n separators, which is empty if the line has fewer
+-- The column behind n separators. If the line has fewer separators, the column is empty.
 abbrev pub cell : ℕ → ℕ → List ℕ → List ℕ
 cell separator zero line = before separator line
 cell separator (suc n) line = cell separator n (behind separator line)

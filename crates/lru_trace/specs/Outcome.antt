@@ -13,8 +13,8 @@ use Rattle.lru_trace.specs.declared.lines.Others.{Others}
 use Rattle.lru_trace.specs.Report.{output}
 use Rattle.lru_trace.specs.Sizes.{sizes_from}
 
--- A reader had the bytes `from` left, if they are known, and has `to` left now. All that was left was read, and this is
--- the curve of the references that its lines make.
+-- A reader had the bytes `from` left, if they are known, and has `to` left now. The reader was read to its end, and
+-- `curve` counts the references that the lines make.
 pub record KeysRead (from to : Option (List ℕ)) (options : Options) (curve : Counted) (others : Others) : Type 0 where
   pub input : List ℕ
   pub reads : Consumes from to input
@@ -22,7 +22,7 @@ pub record KeysRead (from to : Option (List ℕ)) (options : Options) (curve : C
   pub curve_of : IsOf (warm_in options (lines_of input)) (counted_in options (lines_of input)) curve
   pub left_out : others ≡ others_in options (lines_of input)
 
--- As `KeysRead`, but the first line names the sizes, and makes no reference.
+-- `KeysRead`, with a first line that names the sizes and makes no reference.
 pub record TraceRead (from to : Option (List ℕ)) (options : Options) (sizes : List ℕ) (curve : Counted) (others : Others)
     : Type 0 where
   pub input : List ℕ
@@ -36,7 +36,7 @@ pub record TraceRead (from to : Option (List ℕ)) (options : Options) (sizes : 
   pub keeps : is_some curve.kept ≡ wants_best options.policies
   pub left_out : others ≡ others_in options rest
 
--- At most one line was read, and it names no sizes, so no options determine an output.
+-- At most one line was read, and it names no sizes. So there is no output, whatever the options are.
 pub record NoSizesRead (from to : Option (List ℕ)) : Type 0 where
   pub input : List ℕ
   pub reads : Consumes from to input
@@ -50,8 +50,8 @@ SomeRead from to = (part : List ℕ) × Consumes from to part
 abbrev pub Begins : Option (List ℕ) → Option (List ℕ) → List ℕ → Type 0
 Begins old new text = (begun rest : List ℕ) × (text ≡ begun ++ rest) × Appends old new begun
 
--- All was read. `IsWritten` says which part of the text that the lines determine was written. If a reader does not say
--- what it has left, `input` may be any input.
+-- The reader was read to its end, and its lines determine the text. `IsWritten` says which part of the text was
+-- written. If the reader's type does not say which bytes are left, `input` may be any input.
 pub record Reported (from to : Option (List ℕ)) (options : Options) (IsWritten : List ℕ → Type 0) : Type 0 where
   pub input : List ℕ
   pub text : List ℕ

@@ -30,14 +30,14 @@ module _ (options : Options) (lines : List (List ℕ)) where
   abbrev pub counted_in : List (List ℕ)
   counted_in = sampled (bits_of options) (drop (warm_up_of options.policies) keys_read)
 
-  -- keys of the warm-up are not skipped
+  -- keys of the warm-up do not count as skipped
   abbrev pub others_in : Others
   others_in = record {
     malformed = malformed_in (texts_of options.column lines);
     skipped = skipped (bits_of options) (drop (warm_up_of options.policies) keys_read);
   }
 
-  -- the same of lines that are all in the warm-up, or all behind it
+  -- `others_in`, if all lines are in the warm-up (`warm`), or all are behind it
   abbrev pub others_so : Bool → Others
   others_so warm = record {
     malformed = malformed_in (texts_of options.column lines);

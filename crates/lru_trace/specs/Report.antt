@@ -81,7 +81,7 @@ module _ (bits : ℕ) (warm trace : List (List ℕ)) (sizes : List ℕ) (others 
   written forms.Csv best = csv_of best (point_rows best)
   written forms.Svg best = svg_text counts best (axis_in bits warm trace) (point_rows best)
 
--- What is written for these lines: nothing unless the first line names sizes.
+-- What is written for these lines. If the first line names no sizes, the output is `None`.
 abbrev pub output : Options → List (List ℕ) → Option (List ℕ)
 output options [] = None
 output options (first ∷ lines) =

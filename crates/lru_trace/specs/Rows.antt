@@ -14,20 +14,21 @@ abbrev pub best_in : List (List ℕ) → Bool → ℕ → Option BestMisses
 best_in trace false n = None
 best_in trace true n = Some (record { min = min_misses bytes_eq n trace; bypass = bypass_misses bytes_eq n trace })
 
--- how many references a sample of one key in 2 ^ bits is expected to have, rounded down: all of them if bits is 0
+-- How many references a sample of one key in 2 ^ bits is expected to have, rounded down. If bits is 0, all keys are in
+-- the sample.
 abbrev pub expected_of : ℕ → Counts → ℕ
 expected_of bits counts = (counts.references + unwrap_or counts.skipped 0) / 2 ^ bits
 
--- the counted references, and those of the warm-up before them
+-- `trace` are the counted references, and `warm` the references of the warm-up before them.
 module _ (warm trace : List (List ℕ)) where
   abbrev pub missed : ℕ → ℕ
   missed n = misses bytes_eq n (past_after [] warm) trace
 
-  -- how many keys there are, with those of the warm-up
+  -- how many different keys there are, also in the warm-up
   abbrev pub keys : ℕ
   keys = length (recency bytes_eq (past_after (past_after [] warm) trace))
 
-  -- In a sample of one key in 2 ^ bits, the size n stands for n / 2 ^ bits places.
+  -- In a sample of one key in 2 ^ bits, a cache of n / 2 ^ bits places stands for a cache of the size n.
   abbrev pub row_of : ℕ → ℕ → Bool → ℕ → Row
   row_of bits expected best n =
       let places : ℕ = n / 2 ^ bits in
@@ -38,16 +39,16 @@ module _ (warm trace : List (List ℕ)) where
         best = best_in trace best places;
       }
 
--- the powers of two from 2 ^ level on, up to the first that is at least `most`, but at most n of them
+-- the powers of two from 2 ^ level to the first power that is at least `most`, but at most n powers
 unfoldable pub powers : ℕ → ℕ → ℕ → List ℕ
 powers most zero level = []
 powers most (suc n) level = 2 ^ level ∷ (if nat_le most (2 ^ level) then [] else powers most n (suc level))
 
--- the powers of two up to the first that is at least the number of keys, times 2 ^ bits
+-- the powers of two from 1 to the first power that is at least the number of keys times 2 ^ bits
 abbrev pub axis_in : ℕ → List (List ℕ) → List (List ℕ) → List ℕ
 axis_in bits warm trace = powers (max (keys warm trace) 1 * 2 ^ bits) 64 0
 
--- those of them that stand for at least one place
+-- the powers of the axis that stand for at least one place
 abbrev pub powers_in : ℕ → List (List ℕ) → List (List ℕ) → List ℕ
 powers_in bits warm trace = drop bits (axis_in bits warm trace)
 

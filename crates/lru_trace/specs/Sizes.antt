@@ -7,7 +7,7 @@ abbrev pub with_digit : ℕ → ℕ → Option ℕ
 with_digit number b = if nat_le 48 b && (nat_le b 57 && nat_lt (10 * number + (b - 48)) (2 ^ 64))
     then Some (10 * number + (b - 48)) else None
 
--- The sizes that the bytes name, after the sizes `before` and the first digits of a number, if there are any.
+-- The sizes `before`, and then the sizes that the bytes name. If a number is given, its digits precede the bytes.
 abbrev pub sizes_from : List ℕ → Option ℕ → List ℕ → Option (List ℕ)
 sizes_from before None [] = None
 sizes_from before (Some number) [] = Some (before ++ number ∷ [])

@@ -1,10 +1,10 @@
--- The slots of a log; each contains a key or is free.
+-- The slots of a log. Each slot contains a key or is free.
 use Rattle.std.specs.Prelude.{◌≡◌, ℕ, ◌^◌, ◌≤◌, ◌<◌, if◌then◌else◌, List, [], ◌∷◌, ◌++◌, length}
 use Rattle.std.specs.Prelude.{get_or, Option, Some, None, is_some, nat_eq, Vec, vec_len, vec_capacity}
 use Rattle.std.specs.Option.{option_to_list}
 use Rattle.lru_theory.specs.Traces.{is_in, since}
 
--- the keys that were referenced, the last one first, how many keys there are, and how many slots are left
+-- the keys that were referenced, the last referenced first; the number of keys; and the number of slots that are left
 pub record Recent : Type 0 where
   pub recency : List ℕ
   pub keys : ℕ
@@ -19,7 +19,7 @@ abbrev pub newest : List (Option ℕ) → List ℕ
 newest [] = []
 newest (slot ∷ slots) = newest slots ++ option_to_list slot
 
--- each key that was referenced has one slot, and the slots with a key are marked
+-- Each key that was referenced has one slot. The slots with a key are marked.
 pub record IsLog {Z : Type 0} (levels : ℕ) (log : Vec (Option ℕ) Z) (slots : List (Option ℕ)) (marks : List ℕ)
     : Type 0 where
   pub size : length marks ≡ 2 ^ levels

@@ -1,5 +1,5 @@
--- The picture of the curves, in tenths of a pixel. The sizes 1 to 2 ^ octaves are at 900 to 7300 from the left. The
--- part of the references that miss is at 3900 from the top if none miss, and at 700 if all do.
+-- The picture of the curves, in tenths of a pixel. The sizes 1 to 2 ^ octaves are at 900 to 7300 from the left. If no
+-- references miss, the point is at 3900 from the top, and if all miss, at 700.
 use Rattle.std.specs.Prelude.{ℕ, zero, suc, ◌+◌, ◌-◌, ◌*◌, ◌/◌, ◌%◌, ◌^◌, max, nat_le, ◌==◌, if◌then◌else◌}
 use Rattle.std.specs.Prelude.{List, [], ◌++◌, length, flat_map, decimal, codes, Bool, Option, Some, None}
 use Rattle.lru_trace.specs.declared.svg.TheConstants.{START, LRU, MIN, BYPASS}
@@ -9,11 +9,12 @@ use Rattle.lru_trace.specs.declared.rows.Row.{Row}
 use Rattle.lru_trace.specs.declared.svg.Policy.{Policy}
 use Rattle.lru_trace.specs.declared.svg.Policy.TheVariants as policies
 
--- a part of the references, in units of 1 / scale, rounded down
+-- the part of the references that missed, in units of 1 / scale, rounded down
 abbrev pub part : ℕ → ℕ → ℕ → ℕ
 part missed references scale = if references == 0 then 0 else missed * scale / references
 
--- the part of the expected references that miss, rounded down as above, and 1 if more miss than are expected
+-- The part of the expected references that miss, in the same units. If more references miss than are expected, all
+-- miss.
 abbrev pub missed_part : ℕ → ℕ → ℕ → ℕ
 missed_part missed expected scale = part missed (max missed expected) scale
 
@@ -22,8 +23,7 @@ unfoldable pub level_of : ℕ → ℕ → ℕ
 level_of zero n = 0
 level_of (suc most) n = if nat_le (2 ^ suc most) n then suc most else level_of most n
 
--- a thousand times the logarithm of n to the base 2, within 9: exact at a power of two, and a parabola between two
--- powers
+-- 1000 times the logarithm of n to the base 2, within 9. It is exact at a power of two, and a parabola between powers.
 abbrev pub log_of : ℕ → ℕ
 log_of n =
     let level : ℕ = level_of 63 n in
@@ -50,7 +50,7 @@ abbrev pub point_text : ℕ → Policy → Row → List ℕ
 point_text octaves policy row = if row.size == 0 then [] else if nat_le (x_of octaves row.size) 7300
     then decimal (x_of octaves row.size) ++ (codes " " ++ (decimal (y_of policy row) ++ codes " ")) else []
 
--- the line of a policy in the legend, and the beginning of its curve
+-- the entry of a policy in the legend, and the beginning of its curve
 abbrev pub legend : Policy → List ℕ
 legend policies.Lru = LRU.now
 legend policies.Min = MIN.now
@@ -63,7 +63,7 @@ abbrev pub grid_text : ℕ → ℕ → List ℕ
 grid_text x size = codes "<path class='grid' d='M" ++ (decimal x ++ (codes " 700v3200'/><text class='tick' x='"
     ++ (decimal x ++ (codes "' y='4080'>" ++ (decimal size ++ codes "</text>\n")))))
 
--- a power of two on the axis, unless there are more than ten
+-- The tick of a power of two. If the axis has more than nine powers, only some have a tick.
 abbrev pub tick_text : ℕ → ℕ → List ℕ
 tick_text octaves power =
     if level_of 63 power % (1 + octaves / 9) == 0 then grid_text (x_of octaves power) power else []

@@ -1,4 +1,4 @@
-//! The lines of a trace, each of which is a key.
+//! The lines of a trace, and their keys.
 ghost use Rattle.std.specs.Prelude.{◌≡◌, ◌≢◌, ℕ, ◌+◌, ◌-◌, ◌^◌, ◌<◌, ◌≤◌, List, [], ◌∷◌, ◌++◌, true, false, is_some};
 ghost use Rattle.std.specs.Prelude.{IfOk, OnOk, OnErr, IfErr, MatchOption};
 ghost use Rattle.lru_trace.specs.Counted.{IsOf, Follows};
@@ -26,12 +26,12 @@ pub enum Ending {
     Nothing,
 }
 
-/// How many lines make no reference.
+/// How many lines make no reference, and why.
 #[derive(Clone, Copy, Debug, PartialEq, Eq)]
 pub struct Others {
     /// How many lines spell no key.
     pub malformed: u64,
-    /// How many keys behind the warm-up are not in the sample.
+    /// How many lines behind the warm-up spell a key that is not in the sample.
     pub skipped: u64,
 }
 
@@ -77,7 +77,7 @@ pub fn read_line<R: BufRead>(reader: &mut R, line: &mut Vec<u8>) -> Result<Endin
     }
 }
 
-/// Returns the key that the line spells.
+/// Returns the key that the line spells, if it spells one.
 fn key_of(line: &[u8]) -> Option<&str>
     ensures { MatchOption result (is_key line.now ≡ false) (λ key. (key.now ≡ line.now) × (is_key line.now ≡ true)) }
 {
@@ -102,8 +102,8 @@ fn refer_key(curve: &mut Curve, warm: bool, key: &str) -> Result<(), AllocError>
     curve.refer(key)
 }
 
-/// References the key that the line spells, if the sample has it. Returns what the line adds to the lines that make no
-/// reference. A reference of the warm-up is not counted.
+/// References the key that the line spells, if the key is in the sample. Counts the reference if `warm` is false.
+/// Returns what the line adds to `Others`.
 fn refer_line(
     curve: &mut Curve,
     options: Options,
@@ -136,9 +136,9 @@ fn refer_line(
     })
 }
 
-/// References the key of each line that is left, if the sample has it, and returns how many lines make no reference. A
-/// key is text of 1 to 64 bytes: the line, or a column of it. The first keys may be a warm-up, which is not counted. The
-/// number of lines is written to `progress` after each million.
+/// References the key of each remaining line, if the key is in the sample. Returns how many lines make no reference. A
+/// key is text of 1 to 64 bytes: the line, or a column of it. The first keys may be a warm-up, whose references are not
+/// counted. Writes the number of lines to `progress` after each million.
 ///
 /// # Errors
 ///

@@ -4,7 +4,7 @@ ghost use Rattle.lru_trace.specs.Outcome.{status_of};
 use std::alloc::AllocError;
 use thiserror::Error;
 
-/// How a trace ends if no read and no write fails.
+/// How a trace ends if nothing fails.
 #[derive(Clone, Copy, Debug, PartialEq, Eq)]
 pub enum TraceEnd {
     Done,

@@ -1,4 +1,3 @@
-//! The sample of the keys.
 ghost use Rattle.std.specs.Prelude.{◌≡◌, ◌≤◌};
 ghost use Rattle.lru_trace.specs.Samples.{hash, is_sampled};
 

@@ -1,4 +1,4 @@
-//! The texts of the answers to calls, as the program writes them.
+//! The texts of the answers to calls, as the program `replay` writes them.
 use crate::text::Text;
 use lru_replay::Answer;
 use lru_replay::lines::output::write_answer;

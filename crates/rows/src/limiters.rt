@@ -3,13 +3,13 @@ use lru_limits::{ByCost, ByLength, ByMemoryUsage, LinkType, Storing, Unlimited, 
 use std::marker::PhantomData;
 use test_helpers::{Alternating, Blanking, LinkedBy};
 
-/// A limiter that is made from a number, which `number_of` finds in the words of the limiter.
+/// A limiter that is made from a number. `number_of` finds the number in the words of the limiter.
 pub trait Numbered: Sized {
     fn of(number: u64) -> Self;
 }
 
-/// Returns the number from which the limiter with these words is made. Some words stand for a number. For other words
-/// it is the number at their end, or 0 if there is none.
+/// Returns the number from which the limiter with these words is made. Some words stand for a number. Otherwise it is
+/// the number at the end of the words, or 0 if there is none.
 pub fn number_of(words: &str) -> u64 {
     match words {
         "no growth at first" | "blank values" => 0,

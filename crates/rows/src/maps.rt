@@ -1,4 +1,4 @@
-//! Rows of calls on a map under any limiter, which the lines of the program cannot spell.
+//! Rows of calls on a map under any limiter. The program `replay` cannot spell all these limiters and calls.
 use crate::answers::write_answers;
 use crate::calls::calls_of;
 use crate::hasher::Polynomial;

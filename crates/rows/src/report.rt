@@ -1,4 +1,3 @@
-//! What is printed about a row that fails.
 use std::io;
 
 pub fn agrees(rt: &HostRuntime, name: &str, got: &[u8], expected: &[u8]) -> io::Result<bool> {

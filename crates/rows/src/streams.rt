@@ -1,4 +1,4 @@
-//! Readers and writers in memory that give and take few bytes in each call, and fail at one call.
+//! Readers and writers in memory that give or take few bytes in each call, and fail at given calls.
 use std::alloc::Global;
 use std::io::{self, Error, ErrorKind, Read, Write};
 
@@ -54,7 +54,7 @@ pub enum Failure {
     NoBytes,
 }
 
-/// Takes at most `most` bytes in each write, fails `times` times from write `fails_at` on, counted from 0, and counts
+/// Takes at most `most` bytes in each write, and fails `times` times from write `fails_at` on, counted from 0. Counts
 /// its flushes.
 #[derive(Drop)]
 pub struct Narrow {

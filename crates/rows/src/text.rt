@@ -1,8 +1,7 @@
-//! A text to which parts are added.
 use std::alloc::Global;
 use std::fmt::{Debug, Write};
 
-/// A text. If memory runs out, the text lacks what was added, and differs from the text that it is compared with.
+/// A text. If memory runs out, the text lacks a part, and so its row fails.
 #[derive(Drop)]
 pub struct Text(String);
 

@@ -20,8 +20,8 @@ fn weight_of(key: usize, value: usize) -> u64
         .saturating_add(OVERHEAD)
 }
 
-/// Inserts a copy of the value under a copy of the key. Allocates all the memory that it needs before it changes an
-/// entry. If the key is there, it needs memory only for the copies.
+/// Inserts a copy of the value under a copy of the key. Allocates all memory before it changes an entry. If the map
+/// contains the key, only the copies need memory.
 pub fn put(alloc: Global, map: &mut BytesMap, key: &[u8], value: &[u8]) -> u32
     ensures puts { Puts key.now value.now map.old result map.new }
     ensures stored { result ≡ 0 → value_of key.now map.new ≡ Some value.now }
@@ -29,7 +29,7 @@ pub fn put(alloc: Global, map: &mut BytesMap, key: &[u8], value: &[u8]) -> u32
 {
     let _len = map.len();
     let limit = map.limiter().limit();
-    // The key is not hashed, so a far too great length reads no memory.
+    // The key is not read here, so C may pass a length that is far too great.
     if key.len() as u64 > limit {
         return REJECTED;
     }
@@ -53,7 +53,7 @@ pub fn put(alloc: Global, map: &mut BytesMap, key: &[u8], value: &[u8]) -> u32
     }
 }
 
-// Reserves growth for the key, if it is not there. Returns whether there was enough memory.
+// Reserves growth for the key if it is not in the map. Returns whether there was enough memory.
 fn get_ready_for(map: &mut BytesMap, key: &[u8]) -> bool
     ensures ready { result ≡ true → IsReady key.now map.old map.new }
     ensures finds { result ≡ true → FindsMemory key.now map.new }
@@ -95,7 +95,8 @@ pub fn get(map: &mut BytesMap, key: &[u8], buffer: &mut [u8]) -> Value
     }
 }
 
-/// Copies the value of a key into the buffer, if it fits, and returns its length. The order stays.
+/// Returns the length of the value of a key, and copies the value into the buffer if it fits. Does not change the
+/// order.
 pub fn peek(map: &BytesMap, key: &[u8], buffer: &mut [u8]) -> Value
     ensures { Reads (lookup (names_bytes key.now) map.now.pairs) result buffer.old buffer.new }
 {
@@ -145,7 +146,7 @@ pub fn show(pair: Option<(&Vec<u8>, &Vec<u8>)>, key: &mut [u8], value: &mut [u8]
     }
 }
 
-/// Returns a copy of the map, or none if memory ran out.
+/// Returns a copy of the map, or `None` if memory ran out.
 pub fn copied(alloc: Global, map: &BytesMap) -> Option<Box<BytesMap>>
     ensures { IfSome result (λ copy. Copies map.now copy.value) }
 {

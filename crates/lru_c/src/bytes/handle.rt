@@ -84,8 +84,8 @@ impl BytesSlot {
     }
 }
 
-/// A handle: a map of byte strings on the heap, or none. The entries of the map weigh what its running total says, and
-/// at most its budget. Nothing drops a handle, as for [`Lru`](crate::handle::Lru).
+/// A handle: a map of byte strings on the heap, or none. The running total of the map is the weight of its entries, and
+/// at most its budget. Nothing drops a handle ([`Lru`](crate::handle::Lru)).
 #[repr(C)]
 pub struct LruBytes {
     pub(crate) slot: BytesSlot,

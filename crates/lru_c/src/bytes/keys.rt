@@ -3,7 +3,7 @@ ghost use Rattle.lru_c.specs.Bytes.{names_bytes, names_bytes-lawful};
 
 use lru_limits::LookupKey;
 
-/// Bytes that name the `Vec` of the same bytes, so that a look-up copies nothing.
+/// A look-up key: it names the `Vec` with the same bytes, so a look-up copies nothing.
 #[derive(Clone, Copy, PartialEq, Eq, Hash)]
 pub struct Named<'a>(pub &'a [u8]);
 

@@ -14,9 +14,9 @@ use std::io::{Read, Seek, Write};
 
 /// A device of the blocks of a file, of `N` bytes each, with a checksum in the last 8 bytes of each block.
 ///
-/// A write replaces the last 8 bytes by the hash of the other bytes and of the block's number. So contracts see all
-/// bytes of a block except the last 8. A read returns `Ok` only if the block has its checksum. So a read finds blocks
-/// that are torn, damaged or of another number, also after a restart.
+/// A write replaces the last 8 bytes by the hash of the other bytes and of the block's number. So contracts see the
+/// bytes of a block without the last 8. A read returns `Ok` only if the block has its checksum. So a read detects
+/// blocks that are torn, damaged or of another number, if their hash differs, also after a restart.
 ///
 /// [`FileDevice`]: crate::FileDevice
 ///
@@ -37,7 +37,7 @@ pub struct HashedFileDevice<F, const N: usize> {
 }
 
 impl<F: Read + Write + Seek, const N: usize> HashedFileDevice<F, N> {
-    /// Makes a device of the first `count` blocks of a file, as `FileDevice::new` does.
+    /// Makes a device of the first `count` blocks of a file, which may be shorter (see `FileDevice::new`).
     ///
     /// ```
     /// let mut hashed: HashedFileDevice<_, 16> = HashedFileDevice::new(file, 3);
@@ -70,7 +70,7 @@ impl<F: Read + Write + Seek, const N: usize> HashedFileDevice<F, N> {
         self.count
     }
 
-    /// Lends the file, such as to read its metadata.
+    /// Lends the file.
     ///
     /// ```
     /// assert_eq!(rt; hashed.file().position(), 48);
@@ -81,7 +81,7 @@ impl<F: Read + Write + Seek, const N: usize> HashedFileDevice<F, N> {
         &self.file.file
     }
 
-    /// Returns the file, as `FileDevice::into_file` does.
+    /// Returns the file. Call `sync` first.
     ///
     /// ```
     /// let bytes = hashed.into_file().into_inner();

@@ -9,8 +9,8 @@ use std::hash::Hash;
 use std::iter::FusedIterator;
 use std::marker::Model;
 
-/// An iterator that owns an ordered map and takes its entries out, oldest first, from both ends. Dropping it drops the
-/// entries that are left.
+/// An iterator that owns an ordered map and takes its entries out, oldest first, from both ends. If it is dropped, it
+/// drops the remaining entries.
 ///
 /// ```
 /// let mut entries = map.into_iter();
@@ -40,7 +40,7 @@ impl<K: Eq + Hash + Drop, V: Drop, S: KeyHasher<K> + Drop> Iterator for IntoEntr
         self.map.pop_first()
     }
 
-    /// Returns exactly how many entries are left, as `len` does.
+    /// Returns `len` as both bounds.
     fn size_hint(&self) -> (usize, Option<usize>)
         ensures lower { IsWithinCount result.0 (at_most (length self.now)) }
         ensures upper { IfSome result.1 (UpTo (at_most (length self.now))) }

@@ -1,4 +1,4 @@
-//! Which page is evicted if the cache is full, and its eviction.
+//! Which page is evicted if the cache is full, and how.
 ghost use Rattle.std.specs.Prelude.{◌≡◌, ◌≢◌, ◌⊎◌, ◌≤◌, ◌<◌, ◌+◌, ℕ, ◌∷◌, length, nat_eq, None, Some, false};
 ghost use Rattle.std.specs.Prelude.{IsTrue, IfErr, IfOk, OnOk, OnErr};
 ghost use Rattle.std.specs.Map.{lookup};
@@ -76,7 +76,7 @@ fn evict<B: Copy, D: BlockDevice<B>, S: KeyHasher<u64>>(
     Ok(())
 }
 
-/// Makes this page the newest, in place of the page `gone`.
+/// Evicts the page `gone`, if there is one, and makes this page the newest.
 pub(super) fn replace<B: Copy, D: BlockDevice<B>, S: KeyHasher<u64>>(
     map: &mut Pages<B, S>,
     device: &mut D,

@@ -1,4 +1,4 @@
-//! The calls of a run that return pairs. The memory for these pairs is taken before the map changes.
+//! The calls of a run that return pairs. Each requests the memory for the pairs before it changes the map.
 ghost use Rattle.std.specs.Prelude.{◌≡◌, ◌++◌, ◌+◌, ◌≤◌, ◌<◌, option_to_list};
 ghost use Rattle.std.specs.Vec.{vec_len, vec_capacity};
 ghost use Rattle.lru_model.specs.Drains.{newest_given, oldest_given, pops_first};
@@ -40,7 +40,7 @@ pub fn insert_with<K: Eq + Hash + Drop, V: Drop, L: Insertion<K, V, K>, S: KeyHa
     }
 }
 
-/// Takes out `front` of the newest pairs, then `back` of the oldest. The others are dropped.
+/// Takes out the `front` newest pairs and then the `back` oldest pairs, and drops the others.
 pub fn drain_pairs<K: Eq + Hash + Drop, V: Drop, L: Insertion<K, V, K>, S: KeyHasher<K>>(
     alloc: Global,
     map: &mut LruMap<K, V, L, S>,

@@ -1,4 +1,3 @@
-//! Lists of calls under a limiter with a running total.
 ghost use Rattle.std.specs.Prelude.{◌≡◌, IfOk, true, false};
 ghost use Rattle.std.specs.Result.{OnErr};
 ghost use Rattle.lru_limits.specs.Admissions.{offers_of};
@@ -14,10 +13,10 @@ use schnellru::{KeyHasher, LruMap, Summing};
 use std::alloc::{AllocError, Global};
 use std::hash::Hash;
 
-/// Carries out the calls on the map as `run_calls` does, except for calls that would make the limiter's total wrong.
+/// Carries out the calls on the map like `run_calls`, but makes no call that would make the limiter's total wrong.
 ///
 /// If a write would change the cost of its entry, or if a call would set a limiter with another total, the answer is
-/// `CostDiffers`, and nothing changes. So a total that is the sum of the costs stays their sum.
+/// `CostDiffers`, and nothing changes. So if the total was the sum of the costs, it still is.
 ///
 /// ```
 /// let mut costs: LruMap<u64, u64, ByCost> = LruMap::new(alloc, ByCost::new(10), [1, 2, 3, 4], 16);

@@ -1,4 +1,3 @@
-//! The position of a byte.
 ghost use Rattle.std.specs.Prelude.{◌≡◌, ◌<◌, ◌≤◌, ◌+◌, ◌∷◌, [], ◌++◌, length, take, drop};
 ghost use Rattle.lru_replay.specs.Lines.{Lacks};
 

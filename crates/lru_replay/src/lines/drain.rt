@@ -1,4 +1,4 @@
-//! The line `drain`: takes pairs out, and writes each at once.
+//! The line `drain`.
 ghost use Rattle.std.specs.Prelude.{ℕ, List};
 ghost use Rattle.lru_model.specs.Drains.{Drained};
 ghost use Rattle.lru_replay.specs.Output.{Writes, pairs_text};
@@ -8,8 +8,8 @@ use crate::lines::taken::{end_of_pairs, write_taken};
 use schnellru::{Insertion, LruMap};
 use std::io::Write;
 
-/// Takes out at most `most` of the newest pairs, and writes each. Then it drops the others. If a write fails, nothing
-/// more is written, and the map ends as if no write had failed.
+/// Takes out the `most` newest pairs, writes each at once, and then drops the others. After a failed write, nothing
+/// more is written, but the map still loses all its pairs.
 pub fn write_drain<L: Insertion<u64, u64, u64>, W: Write>(
     writer: &mut W,
     map: &mut LruMap<u64, u64, L>,

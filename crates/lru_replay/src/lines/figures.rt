@@ -3,7 +3,7 @@ ghost use Rattle.std.specs.Prelude.{◌≡◌, ℕ, Option, Some, None};
 
 use lru_limits::{ByCost, ByLength, ByMemoryUsage, UnlimitedCompact};
 
-/// A limiter of a replay, which may have a running total of costs.
+/// A limiter of a replay. It may have a running total of costs.
 pub trait ReportsCost {
     ghost reported: { Self → Option ℕ };
 
@@ -44,7 +44,6 @@ impl ReportsCost for ByCost {
     }
 }
 
-/// The figures of a map.
 #[derive(Clone, Copy)]
 pub struct Figures {
     pub len: usize,

@@ -1,5 +1,5 @@
-//! What a line means: a call on the map, or, for the first line, the limit of the map. A line is a word and at most two
-//! numbers.
+//! What a line means: the first line means the limit of the map, and each other line means a call. A line is a word and
+//! at most two numbers.
 ghost use Rattle.std.specs.Prelude.{◌≡◌, ℕ, List, IfSome, IfNone, true, false};
 ghost use Rattle.lru_replay.specs.declared.lines.words.Numbers.TheVariants as numbers;
 ghost use Rattle.lru_replay.specs.Grammar.{SpellsNumber, SpellsPair, StartsAsNumber, IsSplit, said_of, call_words};
@@ -15,14 +15,13 @@ pub enum Numbers {
     Two(u64, u64),
 }
 
-/// The limit of the map.
 #[derive(Clone, Copy)]
 pub enum Limit {
     /// `length N`: at most N pairs.
     Length(u32),
-    /// `memory N E`: a table of at most N bytes, in which an entry has E bytes.
+    /// `memory N E`: a table of at most N bytes, if an entry counts E bytes.
     Memory(usize, usize),
-    /// `cost N`: values whose sum is at most N.
+    /// `cost N`: the sum of the values is at most N.
     Cost(u64),
     /// `compact`: no limit.
     Compact,
@@ -89,8 +88,8 @@ fn number(word: &[u8]) -> Option<u64>
     text.parse().ok()
 }
 
-/// Returns false if the word is empty, or begins with a plus, or with a zero before more digits. `parse` rejects all
-/// other words that are no number.
+/// Returns false if the word is empty, begins with a plus, or begins with a zero and has more bytes. `parse` rejects
+/// each other word that is no number.
 fn starts_as_number(word: &[u8]) -> bool
     ensures yes { result ≡ true → StartsAsNumber word.now }
     ensures no { result ≡ false → StartsAsNumber word.now → ⊥ }

@@ -1,4 +1,4 @@
--- The powers that are left.
+-- The powers so far, and then the remaining powers, are all powers.
 use Rattle.std.proofs.Common.{◌≡◌, ◌-◌, ◌<◌, ◌++◌}
 use Rattle.std.specs.List.{All}
 use Rattle.lru_trace.specs.Rows.{powers}

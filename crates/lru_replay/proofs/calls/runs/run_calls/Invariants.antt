@@ -1,4 +1,3 @@
--- The calls so far are a run.
 use Rattle.std.proofs.Common.{◌≡◌, ◌≤◌, ◌++◌, length, vec_len, vec_capacity}
 use Rattle.std.specs.Vec.Iter.{into_iter_items, into_iter_len}
 use Rattle.lru_model.specs.State.{IsMap}

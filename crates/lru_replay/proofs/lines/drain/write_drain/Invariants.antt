@@ -1,4 +1,3 @@
--- This number of pairs was taken out and written.
 use Rattle.std.proofs.Common.{◌≡◌, ℕ, not, List}
 use Rattle.lru_model.specs.Lists.{is_empty}
 use Rattle.lru_model.specs.State.{contents, Leaves}

@@ -1,4 +1,3 @@
--- The bytes of the line so far.
 use Rattle.std.proofs.Common.{◌≡◌, ℕ, List, take}
 use Rattle.lru_replay.specs.declared.lines.line.TheConstants.{HELD}
 use Rattle.lru_replay.specs.Lines.{TakesPart}

@@ -1,4 +1,3 @@
--- The pairs before the rest were written.
 use Rattle.std.proofs.Common.{◌≡◌, ℕ, List, ◌++◌, drop}
 use Rattle.std.specs.Io.KnownBytes.{Appends}
 use Rattle.lru_replay.specs.Output.{rest_text}

@@ -1,4 +1,4 @@
--- `new` makes a value of no bytes, at the empty list.
+-- `new` makes a value without bytes. Its list of events is empty.
 use mathlib.Core.Path.{refl}
 use mathlib.Core.List.{[], ◌∷◌}
 use seplogic.Ra.Ura.{Ura}

@@ -1,4 +1,4 @@
--- An empty body. The borrow is opened and closed at another ghost value.
+-- The body is empty. The proof opens the borrow, and closes it with another ghost value.
 use Rattle.std.proofs.Common.{ℕ, List, [], ◌∷◌, refl, MutBor}
 use seplogic.Ra.Ura.{Ura}
 use mir.Syntax.{named}
