@@ -43,7 +43,7 @@ returns-in_err-bring-clause-failed g c =
       omega (arith, h.from, c.loop-n-test.true),
       c.loop-n.self,
       h.reads,
-      subst (λ m. UsesPage {A = Unit {0}} d m c.loop-n.self (Err c.in_err-bring.field-0.0) c.bring.new.self) (sym at)
+      subst (λ m. UsesPage d {A = Unit {0}} m c.loop-n.self (Err c.in_err-bring.field-0.0) c.bring.new.self) (sym at)
       c.in_err-bring.ensures.uses,
     )
 

@@ -2,6 +2,7 @@ use Rattle.std.proofs.Common.{◌∷◌, true, nat_eq, length, cond, Some, sym, 
 use Rattle.std.proofs.lemmas.Cmp.{nat_eq_equiv}
 use Rattle.std.specs.Map.{lookup}
 use Rattle.lru_model.specs.Lists.{without}
+use Rattle.lru_caches.specs.declared.page_cache.pages.Page.{Page}
 use Rattle.lru_caches.specs.Pages.{is_pinned}
 use Rattle.lru_caches.proofs.Outcomes.{some_there}
 use Rattle.lru_caches.proofs.PageOrder.{written-first}
@@ -21,7 +22,7 @@ pub returns-clause-written : goal.returns-clause-written
 returns-clause-written g c =
     let n = c.args.n in
     let was = c.args.map.now.pairs in
-    let page = record {
+    let page : Page g.row.B.Denot = record {
       block = c.args.block;
       is_dirty = true;
       is_pinned = is_pinned (lookup (nat_eq n) was);
