@@ -1,12 +1,12 @@
 //! A device over a file.
-ghost use Rattle.std.specs.Prelude.{◌≡◌, ℕ, Bool, ◌∷◌, [], nat_lt, if◌then◌else◌, IsTrue, ◌^◌, ◌<◌};
+ghost use Rattle.std.specs.Prelude.{◌≡◌, ℕ, Bool, ◌∷◌, [], nat_lt, if◌then◌else◌, IsTrue, IfOk, ◌^◌, ◌<◌};
 ghost use Rattle.lru_caches.specs.Files.{known, left, IsLeft, failures, IsHonest as AnsweredAsRecorded};
 ghost use Rattle.lru_caches.specs.Files.{written, unwritten, synced, unsynced};
 ghost use Rattle.lru_caches.specs.LeftLemma.{left_is_known};
 
 use crate::device::BlockDevice;
 use crate::file_device::durable::Durable;
-use crate::file_device::recorded::RecordedFile;
+use crate::file_device::recorded::{RecordedFile, blocks_of};
 use std::io::{Read, Seek, Write};
 use thiserror::Error;
 
@@ -73,6 +73,26 @@ impl<F: Read + Write + Seek, const N: usize> FileDevice<F, N> {
             count,
             is_usable: true,
         }
+    }
+
+    /// Makes a device of all blocks that the file has whole. Nothing is proved of their number.
+    ///
+    /// ```
+    /// let file = Cursor::new(*b"zeroone.two.thr");
+    /// assert_eq!(rt; FileDevice::<_, 4>::open(file)?.len(), 3);
+    /// ```
+    ///
+    /// Cost: a seek to the end of the file.
+    ///
+    /// # Errors
+    ///
+    /// `File`: the seek failed, or N is 0.
+    pub fn open(mut file: F) -> Result<Self, FileError>
+        ensures usable { IfOk result (λ device. IsTrue device.is_usable) }
+        ensures fresh { IfOk result (λ device. device.file.log.events ≡ []) }
+    {
+        let count = blocks_of(&mut file, N)?;
+        Ok(FileDevice::new(file, count))
     }
 
     /// Returns the number of blocks.

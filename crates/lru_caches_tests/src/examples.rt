@@ -185,6 +185,7 @@ fn of_file_device_hashed(rt: HostRuntime) -> Result<(), Fail> {
         hashed.write(1, b"uno.....checksum") == Ok(()),
         hashed.read(1)?.starts_with(b"uno....."),
         hashed.read(2) == Err(FileError::Damaged),
+        HashedFileDevice::<_, 16>::open(Cursor::new([0u8; 48]))?.len() == 3,
         hashed.len() == 3,
         hashed.file().position() == 48
     );
@@ -200,13 +201,23 @@ fn of_file_device(rt: HostRuntime) {
     let mut device: FileDevice<_, 4> = FileDevice::new(file, 3);
     let held = all!(
         device.write(1, b"uno.") == Ok(()),
-        device.read(1) == Ok(*b"uno."),
+        device.read(1) == Ok(*b"uno.")
+    );
+    check!(rt; held);
+}
+
+#[test]
+fn of_file_device_2(rt: HostRuntime) -> Result<(), Fail> {
+    let file = Cursor::new(*b"zeroone.two.thr");
+    let held = all!(
+        FileDevice::<_, 4>::open(file)?.len() == 3,
         device.len() == 3,
         device.file().position() == 8
     );
     let bytes = device.into_file().into_inner();
     let held = held & all!(bytes.starts_with(b"zerouno."));
     check!(rt; held);
+    Ok(())
 }
 
 #[test]

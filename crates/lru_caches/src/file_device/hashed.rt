@@ -1,5 +1,5 @@
 //! A device over a file whose blocks have checksums.
-ghost use Rattle.std.specs.Prelude.{◌≡◌, ℕ, Bool, List, [], ◌∷◌, ◌-◌, ◌≤◌, take, nat_lt, if◌then◌else◌, IsTrue, option_map};
+ghost use Rattle.std.specs.Prelude.{◌≡◌, ℕ, Bool, List, [], ◌∷◌, ◌-◌, ◌≤◌, take, nat_lt, if◌then◌else◌, IsTrue, IfOk, option_map};
 ghost use Rattle.lru_caches.specs.Checksums.{with_checksums, with_checksum as checked_block};
 ghost use Rattle.lru_caches.specs.Files.{known, left, IsLeft, failures, IsHonest as AnsweredAsRecorded};
 ghost use Rattle.lru_caches.specs.Files.{written, unwritten, synced, unsynced};
@@ -9,7 +9,7 @@ use crate::device::BlockDevice;
 use crate::file_device::FileError;
 use crate::file_device::checksum::with_checksum;
 use crate::file_device::durable::Durable;
-use crate::file_device::recorded::RecordedFile;
+use crate::file_device::recorded::{RecordedFile, blocks_of};
 use std::io::{Read, Seek, Write};
 
 /// A device of the blocks of a file, of `N` bytes each, with a checksum in the last 8 bytes of each block.
@@ -55,6 +55,22 @@ impl<F: Read + Write + Seek, const N: usize> HashedFileDevice<F, N> {
             count,
             is_usable: true,
         }
+    }
+
+    /// Makes a device of all blocks that the file has whole, as `FileDevice::open` does.
+    ///
+    /// ```
+    /// assert_eq!(rt; HashedFileDevice::<_, 16>::open(Cursor::new([0u8; 48]))?.len(), 3);
+    /// ```
+    ///
+    /// Cost and `# Errors`: as `FileDevice::open`.
+    pub fn open(mut file: F) -> Result<Self, FileError>
+        requires { 8 ≤ N }
+        ensures usable { IfOk result (λ device. IsTrue device.is_usable) }
+        ensures fresh { IfOk result (λ device. device.file.log.events ≡ []) }
+    {
+        let count = blocks_of(&mut file, N)?;
+        Ok(HashedFileDevice::new(file, count))
     }
 
     /// Returns the number of blocks.

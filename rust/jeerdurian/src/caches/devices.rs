@@ -46,6 +46,23 @@ macro_rules! file_device {
                 $name(proved::$name::new(file, count))
             }
 
+            /// Makes a device of all blocks that the file has whole.
+            ///
+            /// # Errors
+            ///
+            /// The seek to the end of the file failed, or `N` is 0.
+            ///
+            /// ```
+            #[doc = concat!("# use jeerdurian::caches::", stringify!($name), ";")]
+            /// let file = std::io::Cursor::new([0; 50]);
+            #[doc = concat!("assert_eq!(", stringify!($name), "::<_, 16>::open(file).map(|it| it.len()), Ok(3));")]
+            /// ```
+            #[allow(unused_comparisons, clippy::absurd_extreme_comparisons)]
+            pub fn open(file: F) -> Result<Self, FileError> {
+                const { assert!(N >= $least, "a block has fewer bytes than its checksum") };
+                proved::$name::open(file).map($name)
+            }
+
             /// Returns the number of blocks.
             ///
             /// ```

@@ -8,7 +8,7 @@ use crate::rattle_std::alloc::{AllocError, Allocator};
 use crate::rattle_std::marker::{PhantomData, Send, Sync};
 use crate::rattle_std::mem::{align_of, size_of};
 
-// Where the places begin. It owns nothing.
+// The address of the first place. It owns nothing.
 pub(crate) struct Block<T> {
     start: *mut T,
 }
@@ -78,7 +78,7 @@ pub(crate) fn allocate<T, A: Allocator>(
 pub(crate) fn deallocate<T, A: Allocator>(alloc: &A, block: Block<T>, count: usize, cells: Cells<T>, deed: Deed<T, A>) {
     let Cells { mark: _ } = cells;
     let Deed { mark: _ } = deed;
-    // SAFETY: by `deed`, this allocator gave this block with these bytes. No place holds an entry.
+    // SAFETY: `deed` shows that this allocator allocated this block with this size. No place holds an entry.
     unsafe {
         alloc.deallocate(block.start as *mut u8, count * size_of::<T>(), align_of::<T>());
     }

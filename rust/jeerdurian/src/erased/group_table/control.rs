@@ -1,5 +1,5 @@
 // Erased from crates/group_table/src/control.rt: do not edit.
-//! Control bytes: one for each bucket, and 16 more, which repeat the first buckets. So a group is read in one piece.
+//! Control bytes: one for each bucket, and 16 more after the last bucket. So a group is read in one piece.
 
 #[allow(unused_imports)]
 use crate::rattle_std::prelude::*;
@@ -36,8 +36,8 @@ impl Control {
         self.last == 0
     }
 
-    // Returns whether there are no buckets, before a search for this hash. Without buckets a search begins at bucket 0;
-    // with buckets it seldom does. So most searches test only where they begin, which they compute anyway. The sum in
+    // Returns whether there are no buckets. Without buckets, a search begins at bucket 0. With buckets, a search seldom
+    // begins there. So for most searches the first test is enough, and the search needs its value anyway. The sum in
     // the second test keeps the compiler from joining the tests.
     #[inline]
     pub(crate) fn is_empty_at(&self, hash: u64) -> bool {
@@ -84,7 +84,7 @@ impl Control {
     }
 }
 
-// Returns the control byte of a bucket with an entry of this hash. Its top bit is clear.
+// Returns the control byte of a bucket with an entry of this hash. The byte's top bit is clear.
 #[inline]
 pub(crate) fn tag_of(hash: u64) -> u8 {
     (hash >> 57) as u8
@@ -105,8 +105,8 @@ pub(crate) fn room_taken(byte: u8) -> usize {
 #[inline]
 fn set_both(bytes: &mut [u8], last: usize, b: usize, byte: u8) {
     (*at_mut!(bytes, b)) = byte;
-    // Writes the repetition of one of the first 16 buckets. For other buckets it writes the same byte again, which
-    // avoids a branch.
+    // Writes the repetition of one of the first 16 buckets. For any other bucket, this line writes the same byte again,
+    // which avoids a branch.
     (*at_mut!(bytes, sixteen_before(b, last) + 16)) = byte;
 }
 

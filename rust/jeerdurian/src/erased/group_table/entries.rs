@@ -14,7 +14,7 @@ struct Row<T> {
     deed: Deed<T, Global>,
 }
 
-// Without places there is no block. Only the control bytes know the number of places, so the caller of `free` gives it.
+// Without places, `row` is `None`. Only the control bytes know the number of places, so the caller of `free` passes it.
 // The caller also shows that no place holds an entry.
 pub(crate) struct Entries<T> {
     row: Option<Row<T>>,

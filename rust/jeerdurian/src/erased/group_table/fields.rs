@@ -1,5 +1,5 @@
 // Erased from crates/group_table/src/fields.rt: do not edit.
-//! The fields of a table: the control bytes and the entries, written together.
+//! Writes the control bytes and the entries of a table together.
 
 #[allow(unused_imports)]
 use crate::rattle_std::prelude::*;
@@ -17,7 +17,7 @@ pub(crate) fn no_links<N: LinkType>(alloc: Global, count: usize) -> Result<Vec<N
     Ok(links)
 }
 
-// Drops the entries in the first `count` places. The others hold none.
+// Drops the entries in the first `count` places. The other places hold no entry.
 pub(crate) fn drop_first<T>(control: &Control, entries: &mut Entries<T>, count: usize) {
     for b in 0..count {
         if control.byte(b) < DELETED {
@@ -38,7 +38,7 @@ pub(crate) fn fill_bucket<T>(control: &mut Control, entries: &mut Entries<T>, b:
     entries.write(b, entry);
 }
 
-// Writes the tag and the entry of a bucket.
+// Writes the tag and the entry of a bucket, and returns the entry that was there.
 #[inline]
 pub(crate) fn put<T>(
     control: &mut Control,

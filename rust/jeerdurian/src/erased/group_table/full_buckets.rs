@@ -7,8 +7,8 @@ use crate::rattle_std::prelude::*;
 use crate::erased::group_table::control::Control;
 use crate::erased::group_table::group::{lowest_lane, without_lowest};
 
-// Where a walk over the full buckets is. It keeps the lanes of a group that are still to come, so no step waits for the
-// one before.
+// The position of a walk over the full buckets. It keeps the full lanes of the group that are still to visit, so no
+// step waits for the step before.
 
 pub(crate) struct FullBuckets {
     start: usize,

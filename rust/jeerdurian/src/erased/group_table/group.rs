@@ -1,5 +1,5 @@
 // Erased from crates/group_table/src/group.rt: do not edit.
-//! Groups of sixteen control bytes, and masks of their lanes: bit i is lane i.
+//! Groups of sixteen control bytes, and masks of their lanes. Bit i of a mask is lane i.
 
 #[allow(unused_imports)]
 use crate::rattle_std::prelude::*;

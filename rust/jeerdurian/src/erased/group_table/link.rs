@@ -6,13 +6,13 @@ use crate::rattle_std::prelude::*;
 
 /// The type of a link. A link is the number of a bucket, or `MAX`, which means no bucket.
 ///
-/// A table with links of type `N` has fewer than `N::MAX` buckets, so the width of the links limits its size. The trait
-/// is implemented for `u8`, `u16`, `u32` and `usize`.
+/// A table with links of type `N` has fewer than `N::MAX` buckets, so the width of the links limits the size of the
+/// table. The trait is implemented for `u8`, `u16`, `u32` and `usize`.
 pub trait LinkType: Copy {
-    /// No bucket. Its number is at least 255, and greater than the number of every bucket.
+    /// The link that means no bucket. Its number is at least 255, and greater than the number of every bucket.
     const MAX: Self;
 
-    /// Returns the link of this number. No bits are cut off.
+    /// Returns the link with this number. No bits are lost.
     fn from_usize(value: usize) -> Self;
 
     /// Returns the number of this link.

@@ -1,5 +1,5 @@
 // Erased from crates/group_table/src/neighbours.rt: do not edit.
-//! Whether each run of 16 neighbouring buckets that includes a bucket contains an empty one.
+//! Tests whether each run of 16 neighbouring buckets around a bucket contains an empty bucket.
 
 #[allow(unused_imports)]
 use crate::rattle_std::prelude::*;
@@ -23,13 +23,13 @@ fn ones_if_less(low: u32, high: u16) -> usize {
     (difference >> 32).cast_unsigned() as usize
 }
 
-// Returns all ones if each run of 16 neighbouring buckets that includes this one contains an empty bucket, and 0
-// otherwise. It does if fewer than 16 used buckets lie between the nearest empty buckets on both sides.
+// Returns all ones if each run of 16 neighbouring buckets that includes b contains an empty bucket, and 0 otherwise.
+// Each run contains an empty bucket if fewer than 16 used buckets lie between the nearest empty buckets around b.
 #[inline]
 pub(crate) fn ones_if_empty_neighbours(control: &Control, b: usize) -> usize {
-    // `used` has a bit for each used bucket from this one up to the next empty one. Fewer than 16 used buckets are in a
-    // row around this one if and only if `used` is less than the mask of the empty buckets before. Comparing the masks
-    // takes fewer instructions than two counts and their sum.
+    // `used` has a bit for each used bucket from b up to the next empty bucket. `used` is less than the mask of the
+    // empty buckets before b if and only if fewer than 16 used buckets are in a row around b. Comparing the masks takes
+    // fewer instructions than two counts and their sum.
     let used = lanes_below(empty_from(control, b));
     ones_if_less(used, empty_before(control, b))
 }

@@ -8,7 +8,7 @@ use crate::erased::group_table::control::{Control, DELETED, tag_of};
 use crate::erased::group_table::entries::Entries;
 use crate::erased::group_table::group::{lowest_lane, without_lowest};
 
-// `start` is the first bucket of the present group, and the next group begins `stride` buckets later.
+// `start` is the first bucket of the current group. The next group begins `stride` buckets later.
 
 pub(crate) struct Probe {
     start: usize,
@@ -55,8 +55,9 @@ fn search_group<T, F: FnMut(&T) -> bool>(
     if group.match_empty() != 0 { Searched::Ended } else { Searched::GoesOn }
 }
 
-// Calls `f` with each entry that has the tag of the hash, group by group, until `f` accepts one. `inline(always)`: a
-// call would read its arguments before the search, even if the search compares no entry.
+// Calls `f` with the entries that have the tag of the hash, group by group, until `f` accepts one, or a group has an
+// empty bucket. `inline(always)`, because a call would read its arguments before the search, even if the search
+// compares no entry.
 #[inline(always)]
 pub(crate) fn find_bucket<T, F: FnMut(&T) -> bool>(
     control: &Control,
@@ -64,7 +65,7 @@ pub(crate) fn find_bucket<T, F: FnMut(&T) -> bool>(
     hash: u64,
     mut f: F,
 ) -> Option<usize> {
-    // The first group is not part of the loop: most searches end there, and then need no stride.
+    // The first group is not part of the loop, because most searches end there, and then need no stride.
     let tag = tag_of(hash);
     let mut probe = Probe::of(control, hash);
     match search_group(control, entries, probe.start, tag, &mut f) {
@@ -92,14 +93,14 @@ fn free_in_group(control: &Control, start: usize) -> Option<usize> {
     if control.byte(b) >= DELETED {
         return Some(b);
     }
-    // The table has 4 or 8 buckets, and the lane is a byte between them and their repetition. So the buckets from
-    // `start` on are full.
+    // The table has 4 or 8 buckets, and the lane is a byte between the bytes of the buckets and their repetition. So
+    // the buckets from `start` on are full.
     Some(lowest_lane(control.group(0).match_free()))
 }
 
 #[inline(always)]
 pub(crate) fn first_free(control: &Control, hash: u64) -> usize {
-    // The first group is not part of the loop: it nearly always has a free bucket, and then needs no stride.
+    // The first group is not part of the loop, because it nearly always has a free bucket. Then no stride is needed.
     let mut probe = Probe::of(control, hash);
     if let Some(b) = free_in_group(control, probe.start) {
         return b;

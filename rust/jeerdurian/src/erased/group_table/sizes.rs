@@ -4,8 +4,8 @@
 #[allow(unused_imports)]
 use crate::rattle_std::prelude::*;
 
-/// Returns how many entries a table of `buckets` buckets may hold: `buckets` - 1 if `buckets` is at most 8, and
-/// otherwise seven eighths of `buckets`.
+/// Returns how many entries a table of `buckets` buckets may hold: 0 if `buckets` is 0, `buckets` - 1 if it is at most
+/// 8, and otherwise seven eighths of `buckets`.
 #[inline]
 
 pub fn full_capacity(buckets: usize) -> usize {
@@ -13,7 +13,7 @@ pub fn full_capacity(buckets: usize) -> usize {
 }
 
 /// Returns how many buckets `capacity` entries need: 0 if `capacity` is 0, and otherwise a power of two below `max`.
-/// Returns `None` if no such power is enough.
+/// Returns `None` if no such power is enough, or if 8 * `capacity` overflows.
 
 pub fn buckets_for_capacity(capacity: usize, max: usize) -> Option<usize> {
     if capacity == 0 {

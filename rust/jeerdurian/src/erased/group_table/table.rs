@@ -20,12 +20,12 @@ mod relocation;
 
 /// A hash table of numbered buckets. Each bucket is empty, deleted or full.
 ///
-/// It sees no key and stores no hash: the caller gives the hash, and a search calls the caller's closure. An entry
-/// keeps its bucket until it is taken out, or all entries are moved. `docs/TABLE.md` explains the rules.
+/// A table sees no key and stores no hash. The caller passes the hash, and a search calls the caller's closure. An
+/// entry keeps its bucket until the entry is taken out, or all entries are moved. `docs/TABLE.md` explains the rules.
 ///
-/// Only `with_buckets`, `relocate`, `rehash` and `clone_with` ask for memory. `get`, `get_mut`, `take` and the figures
-/// take O(1). `find`, `place` and `try_place` take O(1) if the hashes are spread, and at worst O(B) for B buckets. All
-/// other calls take O(B).
+/// Only `with_buckets`, `relocate`, `rehash` and `clone_with` allocate. `new`, `get`, `get_mut`, `take` and the
+/// figures, such as `len`, take O(1). `find`, `place` and `try_place` take O(1) if the hashes are spread, and at worst
+/// O(B) for B buckets. All other calls take O(B).
 ///
 /// ```text
 /// let mut table = Table::with_buckets(alloc, 8)?;
@@ -33,7 +33,8 @@ mod relocation;
 /// assert_eq!(rt; table.find(7, |entry| *entry == "a"), Some(b));
 /// ```
 pub struct Table<T> {
-    // Not next to `len`: the compiler would join the changes of both into one load and one store, which is slower.
+    // Not next to `len`, because the compiler would join the changes of both into one load and one store, which is
+    // slower.
     growth_left: usize,
     control: Control,
     entries: Entries<T>,
@@ -43,7 +44,8 @@ pub struct Table<T> {
 }
 
 impl<T> Table<T> {
-    /// Makes a table of no buckets, which takes no memory. It rejects each entry until `relocate` gives it buckets.
+    /// Makes a table without buckets, and allocates nothing. `try_place` returns every entry until `relocate` adds
+    /// buckets.
     pub const fn new(alloc: Global) -> Self {
         Table {
             control: Control::new(alloc),
@@ -55,15 +57,15 @@ impl<T> Table<T> {
         }
     }
 
-    /// Makes a table of `buckets` empty buckets: 0, or a power of two from 4 on. `buckets` + 16 is at most
-    /// `isize::MAX`.
+    /// Makes a table of `buckets` empty buckets. `buckets` must be 0, or a power of two from 4 on. `buckets` + 16 must
+    /// be at most `isize::MAX`.
     ///
-    /// It requests memory twice: a `T` for each bucket, and then `buckets` + 16 control bytes. It takes time
-    /// O(buckets). A table of no buckets takes no memory.
+    /// Allocates twice: a `T` for each bucket, and then `buckets` + 16 control bytes. Takes time O(buckets). With 0
+    /// buckets it allocates nothing.
     ///
     /// # Errors
     ///
-    /// Out of memory, unless `buckets` is 0.
+    /// Out of memory. With 0 buckets the call never fails.
     pub fn with_buckets(alloc: Global, buckets: usize) -> Result<Self, AllocError> {
         if buckets == 0 {
             return Ok(Table::new(alloc));
@@ -83,7 +85,7 @@ impl<T> Table<T> {
     /// Returns the bucket of the first entry that `f` accepts.
     ///
     /// `f` is called with entries whose tag is the hash's top 7 bits, in the order of the search. Only tests show that
-    /// `f` is called at most once with each entry. `None` means that `f` rejected each entry of that hash.
+    /// `f` is called at most once with each entry. Returns `None` if `f` rejected each entry with this hash.
     #[inline]
     pub fn find<F: FnMut(&T) -> bool>(&self, hash: u64, f: F) -> Option<usize> {
         if self.control.is_empty_at(hash) {
@@ -99,8 +101,8 @@ impl<T> Table<T> {
         self.entries.get(b)
     }
 
-    /// Lends the entry in a full bucket for writing, at the cost of `get`. The table does not rehash, so do not change
-    /// the entry's hash.
+    /// Lends the entry in a full bucket for writing. Do not change the entry's hash, because the entry keeps its
+    /// bucket.
     #[inline]
     pub fn get_mut(&mut self, b: usize) -> &mut T {
         full!(self.control.byte(b));
@@ -109,15 +111,15 @@ impl<T> Table<T> {
 
     /// Takes the entry out of a full bucket.
     ///
-    /// The bucket becomes empty if each run of 16 neighbouring buckets that includes it contains an empty one. This is
-    /// so in each table of up to 16 buckets. Then the growth left rises by one. Otherwise the bucket becomes deleted,
-    /// so that searches still go past it.
+    /// If each run of 16 neighbouring buckets that includes this bucket contains an empty bucket, this bucket becomes
+    /// empty, and the growth left rises by one. Otherwise this bucket becomes deleted, so that searches still go past
+    /// it. In a table of up to 16 buckets, each run contains an empty bucket.
     #[inline(always)]
     pub fn take(&mut self, b: usize) -> T {
         full!(self.control.byte(b));
         self.len -= 1;
         let gives_room = ones_if_empty_neighbours(&self.control, b);
-        // To subtract all ones is to add 1.
+        // Subtracting all ones adds 1.
         self.growth_left = self.growth_left.wrapping_sub(gives_room);
         let byte = emptied_byte(gives_room);
         empty_bucket(&mut self.control, &mut self.entries, b, byte)
@@ -126,8 +128,8 @@ impl<T> Table<T> {
     /// Puts an entry with this hash into the first free bucket in the order of a search, and returns the bucket. There
     /// must be growth left.
     ///
-    /// If the bucket was empty, the growth left falls by one. If it was deleted, the growth left stays. `place` asks
-    /// for no memory, and moves no other entry.
+    /// If the bucket was empty, the growth left falls by one. If it was deleted, the growth left stays. `place`
+    /// allocates nothing, and moves no other entry.
     ///
     /// ```text
     /// if table.growth_left() > 0 {
@@ -147,7 +149,7 @@ impl<T> Table<T> {
     ///
     /// # Errors
     ///
-    /// Returns the entry, and changes nothing, if there are no buckets, or if there is no growth left and the first
+    /// Returns the entry, and changes nothing, in two cases: there are no buckets; or no growth is left, and the first
     /// free bucket is empty.
     #[inline(always)]
     pub fn try_place(&mut self, hash: u64, entry: T) -> Result<usize, T> {
@@ -216,9 +218,9 @@ impl<T> Table<T> {
 }
 
 impl<T> Table<T> {
-    /// Drops all entries. Every bucket is empty afterwards; their number and the counts of insertions stay.
+    /// Drops all entries. Every bucket is empty afterwards. The number of buckets and the counts of insertions stay.
     ///
-    /// It does nothing if all growth is left, because then no bucket is full or deleted.
+    /// Does nothing if all growth is left, because then no bucket is full or deleted.
     pub fn clear(&mut self) {
         let most = full_capacity(self.control.buckets());
         if self.growth_left == most {
@@ -231,7 +233,7 @@ impl<T> Table<T> {
     }
 }
 
-// Returns whether there are no buckets. With growth left there are some, and the control bytes are not read.
+// Returns whether there are no buckets. If growth is left, there are buckets, and the control bytes are not read.
 #[inline]
 fn is_without_buckets(control: &Control, growth_left: usize) -> bool {
     growth_left == 0 && control.is_empty()

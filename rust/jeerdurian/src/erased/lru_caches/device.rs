@@ -1,17 +1,17 @@
 // Erased from crates/lru_caches/src/device.rt: do not edit.
-//! What a device is: numbered blocks that are read and written one at a time, and synced.
+//! The trait of devices: numbered blocks that are read and written one at a time, and synced.
 
 #[allow(unused_imports)]
 use crate::rattle_std::prelude::*;
 
 /// A device of numbered blocks, such as a disk or a file. Any call may fail.
 ///
-/// Between two syncs a crash may leave each block as it was at the last `sync`, or as it was written since, or torn:
-/// writes may be lost and reordered. A write changes only its own block, even if it fails or the machine stops in the
-/// middle. After a `sync` that failed, no clause says what the blocks are, and no call may be made.
+/// Between two syncs, a crash may lose and reorder writes. It may leave each block as it was at the last `sync`, as it
+/// was written later, or torn. A write changes only its own block, even if it fails or the machine stops in the middle.
+/// After a failed `sync`, no clause says what the blocks are, and no `read`, `write` or `sync` may be called.
 ///
-/// For most devices a contract sees the block itself: `ghost seen = { λ block. block };`. Contracts do not distinguish
-/// blocks that have the same `seen`.
+/// For most devices a contract sees the block itself: `ghost seen = { λ block. block };`. If two blocks have the same
+/// `seen`, contracts do not distinguish them.
 ///
 /// ```text
 /// let calls_left = Cell::new(2);           // the third call fails
@@ -41,14 +41,15 @@ pub trait BlockDevice<B> {
     /// The device failed. No block has changed.
     fn read(&mut self, n: u64) -> Result<B, Self::Error>;
 
-    /// Replaces a block. A crash may leave what it might leave before, or the new block, or a torn block.
+    /// Replaces a block. A crash may now leave the new block or a torn block, in addition to the blocks that it might
+    /// leave before.
     ///
     /// # Errors
     ///
-    /// The device failed. Afterwards that block may be anything, and no other block has changed.
+    /// The device failed. This block may be anything now, and no other block has changed.
     fn write(&mut self, n: u64, block: &B) -> Result<(), Self::Error>;
 
-    /// Makes the blocks durable. Once this has returned `Ok`, a crash leaves exactly what a read returns.
+    /// Makes the blocks durable. After an `Ok`, a crash leaves each known block as it is.
     ///
     /// # Errors
     ///

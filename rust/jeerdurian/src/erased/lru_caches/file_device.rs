@@ -6,7 +6,7 @@ use crate::rattle_std::prelude::*;
 
 use crate::erased::lru_caches::device::BlockDevice;
 use crate::erased::lru_caches::file_device::durable::Durable;
-use crate::erased::lru_caches::file_device::recorded::RecordedFile;
+use crate::erased::lru_caches::file_device::recorded::{RecordedFile, blocks_of};
 use crate::rattle_std::io::{Read, Seek, Write};
 
 pub(crate) mod checksum;
@@ -40,8 +40,8 @@ impl ::core::fmt::Display for FileError {
 /// A device of the blocks of a file, of `N` bytes each.
 ///
 /// Nothing is proved of the bytes that an operating system returns or keeps. So contracts see a record of the calls on
-/// the file (`specs/Files`), which takes no memory. The premise `IsHonest` says that each read of the file returned
-/// what the record says. Under this premise a read returns what was written there last.
+/// the file (`specs/Files`), which takes no memory. The premise `IsHonest` says that each read returned what was last
+/// written or read there. Under this premise a read returns the known block.
 ///
 /// [`HashedFileDevice`] also finds torn and foreign blocks.
 ///
@@ -61,8 +61,8 @@ pub struct FileDevice<F, const N: usize> {
 }
 
 impl<F: Read + Write + Seek, const N: usize> FileDevice<F, N> {
-    /// Makes a device of the first `count` blocks of a file. The file may be shorter: a read of a block past its end
-    /// fails, and a write there makes the file longer.
+    /// Makes a device of the first `count` blocks of a file. The file may be shorter. Then a read of a block past its
+    /// end fails, and a write there makes the file longer.
     ///
     /// ```text
     /// let mut device: FileDevice<_, 4> = FileDevice::new(file, 3);
@@ -71,6 +71,23 @@ impl<F: Read + Write + Seek, const N: usize> FileDevice<F, N> {
     /// Cost: `O(1)`, and no call of the file.
     pub fn new(file: F, count: u64) -> Self {
         FileDevice { file: RecordedFile::new(file), count, is_usable: true }
+    }
+
+    /// Makes a device of all blocks that the file has whole. Nothing is proved of their number.
+    ///
+    /// ```text
+    /// let file = Cursor::new(*b"zeroone.two.thr");
+    /// assert_eq!(rt; FileDevice::<_, 4>::open(file)?.len(), 3);
+    /// ```
+    ///
+    /// Cost: a seek to the end of the file.
+    ///
+    /// # Errors
+    ///
+    /// `File`: the seek failed, or N is 0.
+    pub fn open(mut file: F) -> Result<Self, FileError> {
+        let count = blocks_of(&mut file, N)?;
+        Ok(FileDevice::new(file, count))
     }
 
     /// Returns the number of blocks.
@@ -84,7 +101,7 @@ impl<F: Read + Write + Seek, const N: usize> FileDevice<F, N> {
         self.count
     }
 
-    /// Lends the file, such as to read its metadata.
+    /// Lends the file.
     ///
     /// ```text
     /// assert_eq!(rt; device.file().position(), 8);
@@ -97,7 +114,7 @@ impl<F: Read + Write + Seek, const N: usize> FileDevice<F, N> {
 
     /// Returns the file.
     ///
-    /// A page cache returns the device by `close`, which calls `sync`. After other writes, call `sync` first.
+    /// Call `sync` first. If the device was in a page cache, `close` has called it.
     ///
     /// ```text
     /// let bytes = device.into_file().into_inner();

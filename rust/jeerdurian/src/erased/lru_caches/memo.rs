@@ -11,10 +11,10 @@ use crate::rattle_std::hash::Hash;
 pub(crate) mod loader;
 pub(crate) mod table;
 
-/// A function with its newest results, up to a limit, so that it is not called again at the same key.
+/// A function with its newest results, up to a limit. It is not called for a stored result.
 ///
-/// Each result is right. Each call is a step of a map: the stored answer becomes the newest, or the result is inserted
-/// (`step` of `answer`).
+/// Each call returns a result of the function (`answer`). Each call is a step of a map: the stored result becomes the
+/// newest, or the new result is inserted (`step`).
 ///
 /// ```text
 /// let mut squares = Memo::new(alloc, ByLength::new(9), |n: &u64| n.wrapping_mul(*n));
@@ -40,8 +40,7 @@ impl<K: Eq + Hash, V, F: Fn(&K) -> V, L: Insertion<K, V, K>> Memo<K, V, F, L, Ra
 }
 
 impl<K: Eq + Hash, V, F: Fn(&K) -> V, L: Insertion<K, V, K>, S: KeyHasher<K>> Memo<K, V, F, L, S> {
-    /// Makes a memo of a function as `new` does, with this hasher of keys, and `entry_bytes` as for
-    /// `LruMap::with_hasher`.
+    /// Makes a memo of a function, with a hasher of keys. `LruMap::with_hasher` explains `entry_bytes`.
     ///
     /// ```text
     /// let seeded = RandomState::with_seeds([5, 6, 7, 8]);
@@ -80,10 +79,10 @@ impl<K: Eq + Hash, V, F: Fn(&K) -> V, L: Insertion<K, V, K>, S: KeyHasher<K>> Me
 }
 
 impl<K: Eq + Hash, V: Copy, F: Fn(&K) -> V, L: Insertion<K, V, K>, S: KeyHasher<K>> Memo<K, V, F, L, S> {
-    /// Returns what the function returns at a key: the stored result, or else the result of a call, which is stored.
+    /// Returns a result of the function at a key. If no result is stored, calls the function and stores the result.
     ///
-    /// If the memo runs out of memory or its limiter rejects the result, the result is returned without being stored.
-    /// If the function returns different results at equal keys, each key may get the result of another equal key.
+    /// If the memo runs out of memory or its limiter rejects the result, the result is not stored, but still returned.
+    /// If the function returns different results at equal keys, a key may get the result of an equal key.
     ///
     /// ```text
     /// assert_eq!(rt; (squares.answer(3), squares.len()), (9, 1));
@@ -96,9 +95,10 @@ impl<K: Eq + Hash, V: Copy, F: Fn(&K) -> V, L: Insertion<K, V, K>, S: KeyHasher<
 }
 
 impl<K: Eq + Hash, V, F: Fn(&K) -> V, L: Insertion<K, V, K>, S: KeyHasher<K>> Memo<K, V, F, L, S> {
-    /// Lends a closure what `answer` would return, and returns what the closure returns. The values need not be `Copy`.
+    /// Lends a closure the result that `answer` would return, and returns what the closure returns. The results need
+    /// not be `Copy`.
     ///
-    /// The closure is called once. The result is lent to it even if it is not stored.
+    /// The closure is called once, even if the result is not stored.
     ///
     /// ```text
     /// let mut blocks = Memo::new(alloc, ByLength::new(9), |n: &usize| vec![in alloc; 7u8; *n].ok());

@@ -19,9 +19,10 @@ mod more;
 
 /// A hash map whose entries are in the order of insertion, oldest first.
 ///
-/// The map evicts nothing: if its table cannot grow, an insert fails and changes nothing.
+/// The map evicts nothing. If a new key needs a larger table and the table cannot grow, the insert fails and changes
+/// nothing.
 ///
-/// In the examples of the calls, `map` contains (1, 11) and the newest, (2, 20).
+/// In the examples of the calls, `map` contains (1, 11) and then (2, 20).
 ///
 /// ```text
 /// let mut map: OrderedMap<u64, u64> = OrderedMap::new(alloc);
@@ -109,7 +110,7 @@ impl<K: Eq + Hash, V, S: KeyHasher<K>> OrderedMap<K, V, S> {
         self.map.peek(key)
     }
 
-    /// Lends the value of a key for writing. The order stays.
+    /// Lends the value of a key for writing. Does not change the order.
     ///
     /// ```text
     /// if let Some(value) = map.get_mut(&2) {
@@ -253,8 +254,8 @@ impl<K: Eq + Hash, V, S: KeyHasher<K>> OrderedMap<K, V, S> {
 }
 
 impl<K: Eq + Hash, V, S: KeyHasher<K>> OrderedMap<K, V, S> {
-    /// Inserts a key with a value as the newest entry. If the key is there, its entry keeps its key and its place, and
-    /// the old value is returned.
+    /// Inserts a key with a value as the newest entry. If the key is in the map, replaces and returns the old value.
+    /// The entry then keeps its key and its place.
     ///
     /// ```text
     /// let mut map: OrderedMap<u64, u64> = OrderedMap::new(alloc);
@@ -280,7 +281,7 @@ impl<K: Eq + Hash, V, S: KeyHasher<K>> OrderedMap<K, V, S> {
         Err(AllocError)
     }
 
-    /// Removes the entries for which the closure returns false. The others keep their order.
+    /// Removes the entries for which the closure returns false. The other entries keep their order.
     ///
     /// The closure is called with each entry, oldest first.
     ///

@@ -18,8 +18,8 @@ mod laws;
 mod pages;
 mod pins;
 
-/// Why a call on a page cache failed. A failed call changes no block that the cache shows, unless a `sync` of the
-/// device failed in it.
+/// Why a call on a page cache failed. A failed call changes no block that the cache shows. But after a failed `sync`,
+/// no clause says which blocks the cache shows.
 ///
 /// The text contains the text of the device's error, so a `PageError<E>` is `Display` if `E` is.
 ///
@@ -35,8 +35,8 @@ pub enum PageError<E> {
     Memory,
     /// The device has no block of this number.
     NoBlock,
-    /// The cache is full, and no page may be evicted for a new one: each page is pinned, or is dirty in a cache that
-    /// keeps dirty pages. Nothing has changed.
+    /// The cache is full, and no page may be evicted: each page is pinned, or is dirty in a cache that keeps dirty
+    /// pages. Nothing has changed.
     Full,
     /// A `sync` of the device has failed, so what was written before may be lost. Discard the cache.
     Broken,
@@ -59,14 +59,15 @@ where
 
 /// A write-back cache of the blocks of a device.
 ///
-/// It keeps the pinned pages and the pages that were used last. The number of all these pages is at most its capacity.
-/// A write changes only the cached page: the page is then dirty, and goes to the device when it is evicted or flushed.
+/// The cache keeps the pinned pages and the pages that were used last, at most `capacity` pages in all. A write changes
+/// only the cached page, which is dirty then. The cache writes a dirty page to the device when it evicts or flushes the
+/// page.
 ///
-/// After a `flush` that returned `Ok`, a crash leaves each block as it was shown at that flush. If a later call wrote
-/// the block, a crash may also leave it as it was written, or torn. `docs/CACHES.md` says what this supposes of a disk.
+/// After a `flush` that returned `Ok`, a crash leaves each block as the cache showed it then. If a later call wrote the
+/// block, a crash may also leave it as it was written, or torn. `docs/CACHES.md` says what this supposes of a disk.
 ///
-/// Code that drops or forgets a cache does not compile, because its dirty pages would be lost. Call `close` or
-/// `discard`.
+/// Call `close` or `discard` in the end. Code that drops or forgets a cache does not compile, because its dirty pages
+/// would be lost.
 ///
 /// ```text
 /// let mut cache = PageCache::new(alloc, disk, 2);
@@ -101,7 +102,7 @@ impl<B: Copy, D: BlockDevice<B>> PageCache<B, D, RandomState> {
 }
 
 impl<B: Copy, D: BlockDevice<B>, S: KeyHasher<u64>> PageCache<B, D, S> {
-    /// Makes an empty cache as `new` does, with this hasher of block numbers.
+    /// Makes an empty cache, with a hasher of block numbers (see `new`).
     ///
     /// Cost: `O(1)`, and no memory.
     ///
@@ -144,7 +145,7 @@ impl<B: Copy, D: BlockDevice<B>, S: KeyHasher<u64>> PageCache<B, D, S> {
         self.map.is_empty()
     }
 
-    /// Returns whether a page is cached. The order of use stays.
+    /// Returns whether a page is cached. Does not change the order of use.
     ///
     /// Cost: `O(1)` expected.
     ///
@@ -168,7 +169,7 @@ impl<B: Copy, D: BlockDevice<B>, S: KeyHasher<u64>> PageCache<B, D, S> {
         self.counts.hits
     }
 
-    /// Returns how many calls that read, write or pin a page did not find it cached, as `hits` counts.
+    /// Returns how many calls that read, write or pin a page did not find it cached (see `hits`).
     ///
     /// Cost: `O(1)`.
     ///
@@ -180,7 +181,7 @@ impl<B: Copy, D: BlockDevice<B>, S: KeyHasher<u64>> PageCache<B, D, S> {
         self.counts.misses
     }
 
-    /// Lends the device. The device does not have the writes that are only in dirty pages.
+    /// Lends the device. Dirty pages are not written to it yet.
     ///
     /// Cost: `O(1)`.
     ///
@@ -191,8 +192,7 @@ impl<B: Copy, D: BlockDevice<B>, S: KeyHasher<u64>> PageCache<B, D, S> {
         &self.device
     }
 
-    /// Writes all dirty pages to the device, and then calls its `sync`. The pages stay cached, and are clean
-    /// afterwards.
+    /// Writes all dirty pages to the device, and then calls its `sync`. The pages stay cached, and are clean then.
     ///
     /// ```text
     /// assert_eq!(rt; cache.flush(), Ok(()));
@@ -230,8 +230,7 @@ impl<B: Copy, D: BlockDevice<B>, S: KeyHasher<u64>> PageCache<B, D, S> {
     ///
     /// # Errors
     ///
-    /// The flush failed. The error contains the cache as `flush` left it: it has the same pages, and the same pages are
-    /// dirty.
+    /// The flush failed. The error contains the cache, with the same pages. The same pages are dirty.
     pub fn close(mut self) -> Result<D, Unclosed<B, D, S>>
 where {
         match self.flush() {

@@ -1,5 +1,5 @@
 // Erased from crates/lru_limits/src/accounts.rt: do not edit.
-//! Costs, limiters with a running total of costs, two limiters by cost, and one by bytes.
+//! Costs, and limiters with a running total of costs or bytes.
 
 #[allow(unused_imports)]
 use crate::rattle_std::prelude::*;
@@ -20,8 +20,8 @@ pub use owned_bytes::OwnedBytes;
 /// A value with a cost. The cost of an unsigned number of up to 64 bits is the number. The cost of a text is the number
 /// of its bytes, and the cost of a vector is the number of its items.
 ///
-/// The cost is read again when the entry is evicted or removed, or when the value is replaced. So if the cost of a
-/// stored value changes, the running total is no longer the sum of the costs.
+/// The limiter reads the cost again when the entry is evicted or removed, or when the value is replaced. So if the cost
+/// of a stored value changes, the running total is no longer the sum of the costs.
 ///
 /// ```text
 /// struct Page {
@@ -95,8 +95,8 @@ impl<T> Costed for Vec<T> {
 /// A limiter with a running total. It adds the cost of each accepted entry, and subtracts the cost of each evicted or
 /// removed entry.
 ///
-/// After each call, the total is the sum over the map's entries, unless somebody writes to the values or to the limiter
-/// through a reference.
+/// If no caller writes to a stored value, or writes or sets the limiter, the total after each call is the sum of the
+/// costs of the map's entries.
 ///
 /// ```text
 /// let limiter = ByCost::new(3);

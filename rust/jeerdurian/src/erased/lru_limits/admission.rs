@@ -1,5 +1,5 @@
 // Erased from crates/lru_limits/src/admission.rt: do not edit.
-//! Limiters that store each entry as it came, or reject it.
+//! Limiters that accept each entry unchanged, or reject it.
 
 #[allow(unused_imports)]
 use crate::rattle_std::prelude::*;
@@ -9,9 +9,9 @@ use crate::erased::lru_limits::limiter::{Insertion, Limiter};
 use crate::rattle_std::alloc::{AllocError, Global};
 use crate::rattle_std::hash::Hash;
 
-/// Accepts or rejects entries, and stores an accepted entry as it came.
+/// Accepts or rejects entries, and changes no accepted entry.
 ///
-/// Every such limiter is an [`Insertion`], can be in [`crate::Both`], and permits `try_insert`. `never_changes` of
+/// Every `Admission` is an [`Insertion`], can be in [`crate::Both`], and permits `try_insert`. `never_changes` of
 /// `specs/Admissions.antt` makes the terms of a limiter that never changes.
 ///
 /// ```text
@@ -24,19 +24,20 @@ pub trait Admission<K, V>: Limiter<K, V> {
     fn accepts(&self, length: usize, key: &K, value: &V) -> bool;
 
     /// Called by an insert with a new key and its value, before the insert evicts anything. The map has `length`
-    /// entries. Returns whether the entry is accepted; if not, it is dropped, and the map does not change.
+    /// entries. Returns whether the entry is accepted. If not, the entry is dropped, and the map's entries do not
+    /// change.
     fn admit(&mut self, length: usize, key: &K, value: &V) -> bool;
 
     /// Returns whether `admit_in_place` would accept this value.
     fn accepts_in_place(&self, length: usize, key: &K, old_value: &V, new_value: &V) -> bool;
 
     /// Called by an insert or an update before `new_value` replaces `old_value` of a stored key. The map has `length`
-    /// entries. Returns whether the new value is accepted; if not, the map removes the entry.
+    /// entries. Returns whether the new value is accepted. If not, the map removes the entry.
     fn admit_in_place(&mut self, length: usize, key: &K, old_value: &V, new_value: &V) -> bool;
 }
 
 impl<K: Eq + Hash, V, L: Admission<K, V>> Insertion<K, V, K> for L {
-    // Forced inline: the caller then takes the entry as it came, and branches instead of selecting between `Some` and
+    // Forced inline, so that the caller uses the entry unchanged, and branches instead of selecting between `Some` and
     // `None`.
     #[inline(always)]
     fn on_insert(&mut self, _alloc: Global, length: usize, key: K, value: V) -> Result<Option<(K, V)>, AllocError> {

@@ -18,8 +18,9 @@ const REST_FACTOR: u64 = 0xa54f_f53a_5f1d_36f1;
 
 /// Builds hashers with four seeds. A contract sees a `RandomState` as the hasher before the first write.
 ///
-/// So `state.hash_one(&key)` is the hash of the key in a map with an equal state, and of every value that names the
-/// key. The default seeds are 1, 2, 3, 4: they are not random, and nothing is claimed about keys chosen to collide.
+/// So `state.hash_one(&key)` is the hash of the key in a map with an equal state. Every value that names the key has
+/// the same hash. The default seeds are 1, 2, 3, 4: they are not random, and nothing is claimed about keys chosen to
+/// collide.
 ///
 /// ```text
 /// let state = RandomState::with_seeds([5, 6, 7, 8]);
@@ -72,7 +73,7 @@ impl BuildHasher for RandomState {
 /// The hasher that a `RandomState` makes.
 ///
 /// A whole number is written as its bytes, the lowest byte first: `write_u64(n)` does what `write(&n.to_le_bytes())`
-/// does. Two writes differ from one write of the bytes of both.
+/// does. Two writes may give another hash than one write of the same bytes.
 ///
 /// ```text
 /// let mut hasher = state.build_hasher();
@@ -93,7 +94,7 @@ const fn folded(a: u64, b: u64) -> u64 {
     (product & u64::MAX as u128) as u64 ^ (product >> 64) as u64
 }
 
-// Returns one to seven bytes as a number, the lowest first, by two or three loads that may overlap.
+// Returns one to seven bytes as a number, lowest byte first, by two or three loads that may overlap.
 #[inline]
 fn short_number(bytes: &[u8]) -> u64 {
     let len = bytes.len();
@@ -120,7 +121,7 @@ impl DefaultHasher {
         self.state = folded(self.state ^ word, self.word_key);
     }
 
-    // Joins fewer than eight bytes, with their count as the top byte.
+    // Mixes fewer than eight bytes into the state, with their count as the top byte.
     #[inline]
     fn join_rest(&mut self, bytes: u64, count: u64) {
         self.state = folded(self.state ^ (bytes + (count << 56)), self.rest_key);

@@ -1,16 +1,16 @@
 // Erased from crates/lru_limits/src/keys.rt: do not edit.
-//! What a key may be looked up by.
+//! Values that look up a key, and the hash of a key.
 
 #[allow(unused_imports)]
 use crate::rattle_std::prelude::*;
 
 use crate::rattle_std::hash::{BuildHasher, Hash};
 
-/// A value that names at most one key, up to equality, and hashes as that key does.
+/// A value that looks up a key. It names at most one key, up to equality, and has the hash of this key.
 ///
-/// Every key type implements it for its own keys, and `&str` implements it for keys of type `String`. In your own impl,
-/// `names` says which key a value names, `is_key` computes this, and you prove two laws. A derived `Hash` of a struct
-/// with one field writes what the field writes.
+/// Every key type implements `LookupKey` for its own keys, and `&str` implements it for `String` keys. In your own
+/// impl, define in `names` which key a value names, compute `names` in `is_key`, and prove two laws. If a struct has
+/// one field, its derived `Hash` writes what the field writes.
 ///
 /// ```text
 /// let key = String::from_str(rt.alloc(), "a")?;

@@ -1,5 +1,5 @@
 // Erased from crates/lru_limits/src/limiter.rt: do not edit.
-//! What a limiter is: the callbacks of a map, and their laws.
+//! The traits of a limiter: the callbacks of a map, and their laws.
 
 #[allow(unused_imports)]
 use crate::rattle_std::prelude::*;
@@ -9,11 +9,11 @@ use crate::erased::lru_limits::keys::LookupKey;
 use crate::rattle_std::alloc::{AllocError, Global};
 use crate::rattle_std::hash::Hash;
 
-/// Decides when a map is over its limit, and whether its table may grow. It is notified of each entry that is evicted
-/// or removed.
+/// Decides when a map is over its limit, and whether its table may grow. The limiter is notified of each entry that is
+/// evicted or removed.
 ///
-/// Each callback accepts every state, length, key and value. In `rules`, the impl defines the result and the effect of
-/// each callback as functions of its arguments.
+/// A callback may be called with any state, length, key and value. In `rules`, the impl defines the result and the
+/// effect of each callback as functions of its arguments.
 ///
 /// ```text
 /// let limiter = ByLength::new(3);
@@ -24,22 +24,22 @@ pub trait Limiter<K, V> {
     /// The type of the links of the map, which limits the number of its entries.
     type LinkType: LinkType;
 
-    /// Returns whether a map of `length` entries is over the limit, so that its oldest entry is evicted.
+    /// Returns whether a map of `length` entries is over the limit. If so, the map evicts its oldest entry.
     ///
-    /// Called at two times:
+    /// Called in two cases:
     ///
-    /// - Before an insert stores a new entry in a map that is not empty, with the length that the map will have.
-    ///   `try_insert` then calls it on a copy of the limiter, even in an empty map.
-    /// - By `trim` and `set_limiter`, and by an insert or an update that stored an entry or replaced a value, with the
-    ///   length of the map. It is called again after each eviction, but not for an empty map.
+    /// - Before an insert stores a new entry in a map that is not empty, with the length after the insert. `try_insert`
+    ///   calls it on a copy of the limiter, even if the map is empty.
+    /// - In `trim` and `set_limiter`, and after an insert or an update stored an entry or replaced a value, with the
+    ///   length of the map. Called again after each eviction, but not for an empty map.
     fn is_over_the_limit(&self, length: usize) -> bool;
 
-    /// Called with each entry that is evicted, removed, popped or taken by an iterator, as soon as it is out of the
-    /// map. The limiter may write to the key and the value before the caller of the map gets them.
+    /// Called with each entry that is evicted, removed, popped or taken by an iterator, as soon as the entry is out of
+    /// the map. The limiter may write to the key and the value before the caller of the map gets them.
     ///
-    /// It is also called with an entry that `on_insert` returned, if the map cannot store it. If `on_replace` returned
-    /// false, it is called with the removed entry. It is not called for entries that a clear or a `Drain` drops. Nor is
-    /// it called for entries dropped with the map or an `IntoIter`, but no contract says so.
+    /// Also called with an entry that `on_insert` returned but the map cannot store, and with an entry that is removed
+    /// because `on_replace` returned false. Not called for entries that a clear or a `Drain` drops. Entries that are
+    /// dropped with the map or with an `IntoIter` cause no call, either, but no contract says so.
     fn on_removed(&mut self, key: &mut K, value: &mut V);
 
     /// Called once by each clear of the map, even if the map is empty. The drop of a `Drain` is a clear.
@@ -47,18 +47,18 @@ pub trait Limiter<K, V> {
 
     /// Returns whether the map may have a larger table, of `new_memory_usage` bytes.
     ///
-    /// Called by an insert that finds no bucket for a new entry, and by `try_reserve` if too little growth is left. It
-    /// is not called if no larger table exists, or if the table is rehashed without growing. After `false` the insert
-    /// evicts the oldest entries to store the new entry, and `try_reserve` returns `Refused`. After `true` the
-    /// allocation of the table may still fail. The limiter is not notified of this.
+    /// Called by an insert that finds no bucket for a new entry, and by `try_reserve` and `try_insert` if too little
+    /// growth is left. Not called if no larger table exists, or if the table is rehashed without growing. After `false`
+    /// the insert evicts the oldest entries to store the new entry, and `try_reserve` and `try_insert` fail. After
+    /// `true` the allocation of the table may still fail. The limiter is not notified of this failure.
     fn on_grow(&mut self, new_memory_usage: usize) -> bool;
 }
 
 /// Accepts or rejects entries whose key is given as an `I`.
 ///
-/// `I` is the type of the key, or of a name of the key, such as a `&str`, which becomes a `String` only if the entry is
-/// stored. The impl defines `offers`: what may be stored for an offered entry, when an offer may run out of memory, and
-/// what a replacement does. Each [`crate::Admission`] is an `Insertion`.
+/// `I` is the type of the key, or of a name of the key. For example, a `&str` becomes a `String` only if the limiter
+/// accepts the entry. The impl defines `offers`: what may be stored for an offered entry, when an offer may run out of
+/// memory, and what a replacement does. Each [`crate::Admission`] is an `Insertion`.
 ///
 /// ```text
 /// let mut limiter = ByCost::new(3);
@@ -67,16 +67,16 @@ pub trait Limiter<K, V> {
 /// ```
 pub trait Insertion<K: Eq + Hash, V, I: LookupKey<K>>: Limiter<K, V> {
     /// Called by an insert with a new key and its value, before the insert evicts anything. The map has `length`
-    /// entries. Returns the entry to store, or `None` to reject it; then the map does not change.
+    /// entries. Returns the entry to store, or `None` if it is rejected. After `None` the map's entries do not change.
     ///
     /// # Errors
     ///
-    /// Out of memory to make the key. This happens only if `offers.may_run_out` permits it. The limiter is then
-    /// unchanged.
+    /// The limiter could not allocate the key. This happens only if `offers.may_run_out` permits it. The limiter is
+    /// then unchanged.
     fn on_insert(&mut self, alloc: Global, length: usize, key: I, value: V) -> Result<Option<(K, V)>, AllocError>;
 
     /// Called by an insert or an update before `new_value` replaces `old_value`. The map has `length` entries, and
-    /// `new_key` names the stored `old_key`. The stored key stays. Returns whether the new value is accepted. If not,
-    /// the map removes the entry and calls `on_removed` with it.
+    /// `new_key` names the stored `old_key`. The limiter may change `old_key` only to an equal key. Returns whether the
+    /// new value is accepted. If not, the map removes the entry and calls `on_removed` with it.
     fn on_replace(&mut self, length: usize, old_key: &mut K, new_key: I, old_value: &mut V, new_value: &mut V) -> bool;
 }

@@ -1,5 +1,5 @@
 // Erased from crates/lru_limits/src/limiters.rt: do not edit.
-//! The limiters that look at no key or value, two limiters for one map, and an adapter for limiters of your own.
+//! Limiters that read no keys or values, a pair of limiters for one map, and an adapter for your own limiter.
 
 #[allow(unused_imports)]
 use crate::rattle_std::prelude::*;
@@ -22,7 +22,7 @@ pub use storing::Storing;
 pub use unlimited::Unlimited;
 pub use unlimited_compact::UnlimitedCompact;
 
-/// The links of a map have 32 bits under `ByLength`, `ByMemoryUsage`, `ByBytes` and `UnlimitedCompact`, and 64 bits
-/// under `Unlimited`, `ByCost` and `ByWeight`. `Storing` has the links of the limiter inside, and `Both` has the links
-/// of its first limiter. These widths are proved here, except those of `ByBytes`, `ByWeight` and `Both`.
+/// States the width of a map's links: 32 bits under `ByLength`, `ByMemoryUsage`, `ByBytes` and `UnlimitedCompact`, and
+/// 64 bits under `Unlimited`, `ByCost` and `ByWeight`. `Storing` has the links of the limiter inside, and `Both` has
+/// the links of its first limiter. The contract does not cover `ByBytes`, `ByWeight` and `Both`.
 pub fn limiters_fix_their_links<K, V, C: Costed, L: Limiter<K, V>>() {}

@@ -1,7 +1,7 @@
 // Erased from crates/lru_model/src/laws.rt: do not edit.
-//! What is proved about inserts and other single calls. The modules are about what inserts keep (`kept`), all
-//! insertions into the table (`insertions`), shrinks (`shrinks`), each call (`calls`), calls one after another
-//! (`runs`), and calls with `ByBytes` (`bytes`). Each theorem is the contract of a function that does nothing.
+//! What is proved about inserts and other single calls. Each theorem is the contract of a function that does nothing.
+//! The modules contain more theorems: on what an insert keeps (`kept`), insertions into the table (`insertions`),
+//! shrinks (`shrinks`), each call (`calls`), calls one after another (`runs`), and maps with `ByBytes` (`bytes`).
 
 #[allow(unused_imports)]
 use crate::rattle_std::prelude::*;
@@ -29,63 +29,65 @@ pub use runs::{
 };
 pub use shrinks::{shrinks_keep_the_list, shrinks_leave_a_tight_table, shrinks_pay_for_moves};
 
-/// An insert evicts only from the old end. It may also remove the entry of its key, if the replacement is rejected.
+/// An insert evicts only the oldest entries. Or it removes only the entry of its key, because the limiter rejected the
+/// new value.
 pub fn inserts_evict_the_oldest<K: Eq + Hash, V, I: LookupKey<K>, L: Insertion<K, V, I>, S: KeyHasher<K>>() {}
 
-/// The number of entries after an insert, plus the number of entries that it passes to its callback, is at most one
-/// more than the number of entries before.
+/// Suppose that an insert finds n entries, leaves m entries, and passes p entries to its callback. Then m + p is at
+/// most n + 1 (`few`). An insert with a callback is also an `Insert` (`step`).
 pub fn inserts_pass_few<K: Eq + Hash, V, I: LookupKey<K>, L: Insertion<K, V, I>, S: KeyHasher<K>>() {}
 
-/// In a table of up to 16 buckets, four things determine what the table reports about an insert (`small_report`): the
-/// entries, the limiter, the number of buckets and the growth left. So these four things determine how the insert ends,
-/// unless memory runs out.
+/// If a table has up to 16 buckets, `small_report` computes what the table reports about an insert (`Report` in
+/// `specs/Exact`). It uses only the entries, the limiter, the number of buckets, the growth left, and constants of the
+/// map. The insert changes the entries as this report says. Memory may still run out.
 pub fn small_inserts_are_exact<K: Eq + Hash, V, I: LookupKey<K>, L: Insertion<K, V, I>, S: KeyHasher<K>>() {}
 
-/// An insert changes the list of entries as the table reports (`exact`). The report says whether the limiter was
-/// queried, for how many bytes, and how many entries were evicted because growth was refused. Every insert has a report
-/// (`given`). Three things determine what an insert returns and leaves (`alike`): its report, and the entries and the
-/// limiter before it. This holds if the insert returns `Ok`, and if the limiter and the arguments determine what
-/// `on_insert` does.
+/// An insert changes the entries as the report of the table says (`exact`). The report says for how many bytes the
+/// limiter was queried, if it was, and how many entries were evicted because growth was refused. Every insert has a
+/// report (`given`). Suppose that two inserts have equal arguments and reports, and equal entries and limiters before
+/// them. If both return `Ok`, they return the same, and leave the same entries and limiter (`alike`). The limiter and
+/// the arguments must determine what `on_insert` does (`IsDetermined`).
 pub fn inserts_are_exact_unless_refused<K: Eq + Hash, V, I: LookupKey<K>, L: Insertion<K, V, I>, S: KeyHasher<K>>() {}
 
-/// An insert does what it would do to a list of entries without a table, under two premises. The limiter permits every
-/// growth, as `ByLength` and the unlimited limiters do. And there is a table for the entries, and a table for one entry
-/// more (`HasTables`). The law leaves open whether memory runs out.
+/// An insert changes the entries as it would change a plain list without a table (`InsertsInList`), under two premises.
+/// `on_grow` permits every growth and changes nothing, as in `ByLength` and `Unlimited`. There is a table for the
+/// entries, and a table for one entry more (`HasTables`). The insert may still run out of memory.
 pub fn granted_inserts_are_exact<K: Eq + Hash, V, I: LookupKey<K>, L: Insertion<K, V, I>, S: KeyHasher<K>>() {}
 
-/// If an insert grows the table, the new table can hold fewer than 4 * (n + 1) entries, for the n entries before the
-/// insert.
+/// Suppose that there are n entries before an insert. If the insert grows the table, the new table can hold fewer than
+/// 4 * (n + 1) entries.
 pub fn inserts_grow_little<K: Eq + Hash, V, I: LookupKey<K>, L: Insertion<K, V, I>, S: KeyHasher<K>>() {}
 
-/// Suppose that the map has entries, but no growth left. If a search for the new key meets a deleted bucket first, the
-/// new entry fills this bucket: the limiter is not queried, and nothing moves (`served`). If the limiter also accepts
-/// the entry, and is not over its limit with it, an insert adds the entry to all the others in the same table
-/// (`added`). Conversely, an insertion that ends in the same table without moves met a deleted bucket first (`only`).
+/// Suppose that the map has entries, but no growth left. If the first free bucket in the search for the new key is
+/// deleted, the new entry fills this bucket. The limiter is not queried for a growth, and nothing moves (`served`).
+/// If the limiter also accepts the new entry, and is then not over its limit, an insert evicts nothing (`added`).
+/// Conversely, if an insertion keeps the number of buckets, and evicts and moves nothing, the first free bucket was
+/// deleted (`only`).
 pub fn deleted_buckets_serve<K: Eq + Hash, V, I: LookupKey<K>, L: Insertion<K, V, I>, S: KeyHasher<K>>() {}
 
-/// An insert pays for the entries that it moves: the count of moved entries, plus the potential, rises by at most 2 for
-/// the entry that it stores. So inserts move at most two entries for each stored entry, plus one for each entry that a
-/// shrink rehashed.
+/// An insert pays for the entries that it moves. The count of moved entries, plus the potential, rises by at most 2 for
+/// the entry that the insert stores (`rise`). So inserts moved at most two entries for each stored entry, plus one for
+/// each entry that a shrink rehashed (`paid`).
 pub fn inserts_pay_for_moves<K: Eq + Hash, V, I: LookupKey<K>, L: Insertion<K, V, I>, S: KeyHasher<K>>() {}
 
-/// Suppose that a table without growth left cannot grow. After the insertion, the map has at least half of the entries
-/// that the table may hold, the new entry included (`half`). If memory runs out, the map may have one entry fewer
-/// (`without_memory`). In a table of up to 16 buckets only the oldest entry is evicted (`one`).
+/// Suppose that growth is refused (`IsRefusedGrowth`). After the insertion, the map has at least half as many entries
+/// as the table may hold, including the new entry (`half`). If memory runs out, the map may have one entry fewer
+/// (`without_memory`). If the table has up to 16 buckets, only the oldest entry is evicted (`one`).
 pub fn refused_growth_keeps_half<K: Eq + Hash, V, L: Limiter<K, V>, S: KeyHasher<K>>() {}
 
-/// An insertion into the table evicts nothing if the table grows. It evicts entries only if the table would be more
-/// than half full and cannot grow: there is no larger table, or the limiter refuses it. This holds even if memory runs
-/// out.
+/// If an insertion grows the table, it evicts nothing (`grown`). An insertion evicts entries only if the table needs to
+/// grow and cannot: there is no larger table, or the limiter refuses the larger table (`otherwise`). The same holds if
+/// memory runs out (`without_memory`).
 pub fn growth_keeps_the_list<K: Eq + Hash, V, L: Limiter<K, V>, S: KeyHasher<K>>() {}
 
-/// After a removal the key is not there.
+/// If no two keys are equal, a removed key is not in the map afterwards.
 pub fn removed_keys_are_absent<K: Eq + Hash, V, I: LookupKey<K>, L: Limiter<K, V>, S: KeyHasher<K>>() {}
 
-/// A reservation keeps the entries and the counts of moves.
+/// A reservation keeps the entries, and the counts `moved`, `placed` and `shrunk`.
 pub fn reservations_keep_the_list<K: Eq + Hash, V, L: Limiter<K, V>, S: KeyHasher<K>>() {}
 
 /// After a successful reservation for n entries, the growth left is at least n.
 pub fn reservations_make_room<K: Eq + Hash, V, L: Limiter<K, V>, S: KeyHasher<K>>() {}
 
-/// If the budget is the number of bytes that a table uses, the greatest usage within this budget is the same number.
+/// Suppose that the table of a map uses n bytes. Then the greatest usage within a budget of n bytes is n.
 pub fn usages_are_their_budgets<K: Eq + Hash, V, L: Limiter<K, V>, S: KeyHasher<K>>() {}

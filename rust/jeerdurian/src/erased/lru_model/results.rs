@@ -1,21 +1,21 @@
 // Erased from crates/lru_model/src/results.rt: do not edit.
-//! The types that the calls of a map return, except the types of std.
+//! The types that the calls of a map return.
 
 #[allow(unused_imports)]
 use crate::rattle_std::prelude::*;
 
 use crate::rattle_std::fmt::Display;
 
-/// What an insert did, and the value that the map does not keep.
+/// What an insert did, with the value that the map does not keep.
 ///
-/// - The key was not there: `unkept` is `None`. `kept` is false if the limiter rejected the entry, if the map could not
-///   store it, or if it was stored and then evicted.
-/// - The key was there, and the limiter accepted the new value: `unkept` is the old value. `kept` is false if the entry
-///   was evicted afterwards, because the limiter was still over its limit.
-/// - The key was there, and the limiter rejected the new value: `unkept` is the new value, and `kept` is false. The
-///   entry was removed.
+/// - If the key was new, `unkept` is `None`. `kept` is false if the limiter rejected the entry, if the map could not
+///   store the entry, or if the map stored and then evicted it.
+/// - If the limiter accepted a new value for a key that was there, `unkept` is the old value. `kept` is false if the
+///   entry was then evicted, because the limiter was still over its limit.
+/// - If the limiter rejected a new value for a key that was there, the entry was removed. `unkept` is the new value,
+///   and `kept` is false.
 ///
-/// If `kept` is false and `unkept` is a value, the callback got the entry of the key.
+/// If `kept` is false and `unkept` is `Some`, the callback got the entry of the key.
 ///
 /// ```text
 /// let inserted = map.insert_full(1, 11, &mut |_, _| {})?;
@@ -23,29 +23,29 @@ use crate::rattle_std::fmt::Display;
 /// ```
 #[derive(Clone, Copy, Debug, PartialEq, Eq)]
 pub struct Inserted<V> {
-    /// Whether the key is in the map.
+    /// Whether the key is in the map after the insert.
     pub kept: bool,
-    /// The value that the map does not keep, if the key was there.
+    /// If the key was there, the value that the map does not keep.
     pub unkept: Option<V>,
 }
 
-/// What an update did, and the value that is not in the map afterwards.
+/// What an update did, with a value that is not in the map afterwards.
 ///
 /// ```text
 /// assert_eq!(rt; map.update(1, 11), Updated::Replaced(10));
 /// ```
 #[derive(Clone, Copy, Debug, PartialEq, Eq)]
 pub enum Updated<V> {
-    /// The limiter accepted the new value instead of this one. If it was still over its limit, the entry may have been
-    /// evicted.
+    /// The old value: the limiter accepted the new value in its place. If the limiter was over its limit, the entry may
+    /// then have been evicted.
     Replaced(V),
-    /// The limiter rejected this new value, and the entry was removed.
+    /// The new value: the limiter rejected it, and the entry was removed.
     Rejected(V),
-    /// The key is not there. This is the new value.
+    /// The new value: the key is not in the map.
     Absent(V),
 }
 
-/// Why a reservation fails.
+/// Why `try_reserve` fails.
 ///
 /// ```text
 /// let mut map: LruMap<u64, u64, Unlimited> = LruMap::new(alloc, Unlimited, [1, 2, 3, 4], 32);
@@ -56,9 +56,9 @@ pub enum Updated<V> {
 /// ```
 #[derive(Clone, Copy, Debug, PartialEq, Eq)]
 pub enum ReserveError {
-    /// No table holds the entries and the reserved ones, or their number overflows.
+    /// No table can hold the entries plus the reserved entries, or the sum of their numbers overflows.
     TooLarge = 1,
-    /// The limiter refused the table.
+    /// The limiter refused the larger table.
     Refused = 2,
     /// Out of memory.
     Memory = 3,
@@ -101,7 +101,7 @@ where
     }
 }
 
-/// How many entries the inserts of a map have moved and stored, and how many its shrinks have rehashed.
+/// How many entries the inserts of a map moved and stored, and how many entries its shrinks rehashed.
 ///
 /// ```text
 /// let mut map: LruMap<u64, u64> = LruMap::with_limiter(alloc, ByLength::new(3));
@@ -111,9 +111,9 @@ where
 #[derive(Clone, Copy, Debug, PartialEq, Eq)]
 pub struct MoveReport {
     /// Entries that inserts moved, because the table grew or was rehashed. Entries that `try_reserve` or `try_insert`
-    /// moves are not counted.
+    /// moved are not counted.
     pub moved: u64,
-    /// New entries that inserts stored, `try_insert` included.
+    /// New entries that inserts stored, including the inserts of `try_insert`.
     pub placed: u64,
     /// Entries that `shrink_to_fit` rehashed.
     pub shrunk: u64,

@@ -8,7 +8,8 @@ use crate::erased::group_table::{buckets_for_capacity, full_capacity};
 
 const MOST_BYTES: usize = isize::MAX as usize - 15;
 
-/// Returns how many bytes a table of `buckets` buckets takes, or `None` if these are more than `isize::MAX - 15`.
+/// Returns how many bytes a table of `buckets` buckets takes, or `None` if it would take more than `isize::MAX - 15`
+/// bytes.
 
 pub fn usage(entry_bytes: usize, buckets: usize) -> Option<usize> {
     if buckets == 0 {
@@ -19,14 +20,15 @@ pub fn usage(entry_bytes: usize, buckets: usize) -> Option<usize> {
     if bytes <= MOST_BYTES { Some(bytes) } else { None }
 }
 
-/// Returns how many bytes a table takes. The table exists and has buckets.
+/// Returns how many bytes a table with one or more buckets takes. These bytes must be at most `isize::MAX - 15`.
 pub fn bytes_of(entry_bytes: usize, buckets: usize) -> usize {
     (entry_bytes * buckets + 15) / 16 * 16 + buckets + 16
 }
 
-/// Returns the buckets and the bytes of a larger table: a table of `buckets` buckets grows into it for `pairs` entries.
-/// The entries must be more than half of the capacity of the old table. Returns `None` if the larger table would have
-/// `max` buckets or more, which links cannot number, or would take more than `isize::MAX - 15` bytes.
+/// Returns the number of buckets and the bytes of the larger table into which a table of `buckets` buckets grows for
+/// `pairs` entries. `pairs` must be more than half of the capacity of the old table. Returns `None` if the larger table
+/// would have `max` buckets or more, because links cannot number them. Also returns `None` if the larger table would
+/// take more than `isize::MAX - 15` bytes.
 
 pub fn larger_table(max: usize, entry_bytes: usize, buckets: usize, pairs: usize) -> Option<(usize, usize)> {
     let need = buckets_for_capacity(pairs, max)?;
@@ -35,8 +37,8 @@ pub fn larger_table(max: usize, entry_bytes: usize, buckets: usize, pairs: usize
     Some((count, bytes))
 }
 
-/// Returns the greatest number of bytes within the budget that a table takes, among the tables of fewer than `max`
-/// buckets (4, 8, 16 and so on). Returns 0 if no table is within the budget.
+/// Returns the bytes of the largest table that has fewer than `max` buckets and takes at most `budget` bytes. A table
+/// has 4, 8, 16 or a greater power of 2 buckets. Returns 0 if there is no such table.
 pub fn usage_within(max: usize, entry_bytes: usize, budget: usize) -> usize {
     let mut best = 0;
     for k in 0..62u32 {

@@ -23,8 +23,8 @@ use totals::is_above;
 /// The limiter `L` says what an entry costs. `S` hashes names and keys. The budgets of all tenants add up to at most
 /// the total limit, if `set_total_limit` set one.
 ///
-/// In the examples of the calls, `cache` has one open tenant, 1, with a budget of 3 and the entry (7, 2), unless the
-/// example makes another cache.
+/// In the examples of the calls, `cache` has one open tenant, 1, with a budget of 3 and the entry (7, 2). Some examples
+/// make another cache.
 ///
 /// ```text
 /// let mut cache: TenantCache<u64, u64, u64> = TenantCache::new(alloc, [1, 2, 3, 4], 32);
@@ -43,7 +43,7 @@ pub struct TenantCache<N: Eq + Hash, K: Eq + Hash, V, L: Budgeted<K, V> = ByCost
 }
 
 impl<N: Eq + Hash, K: Eq + Hash, V: Costed> TenantCache<N, K, V> {
-    /// Makes a cache without tenants and without a total limit, whose entries cost what their values cost.
+    /// Makes a cache without tenants and without a total limit. An entry costs what its value costs.
     ///
     /// If strangers choose names or keys, take seeds that nobody can guess. Cost: `O(1)`, and no memory.
     ///
@@ -57,7 +57,7 @@ impl<N: Eq + Hash, K: Eq + Hash, V: Costed> TenantCache<N, K, V> {
 }
 
 impl<N: Eq + Hash, K: Eq + Hash, V, L: Budgeted<K, V>, S: KeyHasher<K> + Copy> TenantCache<N, K, V, L, S> {
-    /// Makes a cache as `new` does, but under any limiter with a budget, and with this hasher of names and keys.
+    /// Makes a cache without tenants, with any limiter that has a budget, and with this hasher of names and keys.
     ///
     /// If strangers choose names or keys, take std's `RandomState::new(&rt)?`, whose hashes nobody can guess. Cost:
     /// `O(1)`, and no memory.
@@ -103,7 +103,7 @@ impl<N: Eq + Hash, K: Eq + Hash, V, L: Budgeted<K, V>, S: KeyHasher<K> + Copy> T
 }
 
 impl<N: Eq + Hash, K: Eq + Hash, V, L: Budgeted<K, V>, S: KeyHasher<K> + Copy> TenantCache<N, K, V, L, S> {
-    /// Opens a tenant with an empty map and a budget: the greatest sum of the costs of its entries.
+    /// Opens a tenant with an empty map and a budget. The costs of its entries may add up to at most the budget.
     ///
     /// ```text
     /// assert_eq!(rt; cache.open(2, 3), Ok(()));
@@ -140,9 +140,9 @@ impl<N: Eq + Hash, K: Eq + Hash, V, L: Budgeted<K, V>, S: KeyHasher<K> + Copy> T
 
     /// Inserts a key with a value, as the newest entry of the tenant. Returns whether the key is there afterwards.
     ///
-    /// It inserts into the map of the tenant. The limiter rejects an entry that alone costs more than the budget, or
-    /// that would take the tenant's total past `u64::MAX`; if the key is there, its entry is then removed. Otherwise
-    /// the tenant's oldest entries are evicted until the total is within the budget.
+    /// The limiter rejects an entry if its cost alone is above the budget, or if the tenant's total would be above
+    /// `u64::MAX`. If the key is there, a rejection removes its entry. If the limiter accepts the entry, the tenant's
+    /// oldest entries are evicted until the total is within the budget.
     ///
     /// ```text
     /// assert_eq!(rt; cache.put(&1, 8, 1), Ok(true));
@@ -154,12 +154,12 @@ impl<N: Eq + Hash, K: Eq + Hash, V, L: Budgeted<K, V>, S: KeyHasher<K> + Copy> T
     /// # Errors
     ///
     /// `NotOpen`: nothing has changed. `Memory`: out of memory for the entry. Some of the tenant's oldest entries may
-    /// have been evicted, as after an `Err` of `LruMap::insert`.
+    /// have been evicted.
     pub fn put<T: LookupKey<N>>(&mut self, name: &T, key: K, value: V) -> Result<bool, TenantError> {
         self.put_with(name, key, value, &mut |_, _| {})
     }
 
-    /// Sets the budget of a tenant. If its cost is above the budget, its oldest entries are evicted until it is not.
+    /// Sets the budget of a tenant. The tenant's oldest entries are evicted while its cost is above the budget.
     ///
     /// ```text
     /// assert_eq!(rt; (cache.set_budget(&1, 1), cache.cost(&1)), (Ok(()), Ok(0)));
@@ -174,7 +174,7 @@ impl<N: Eq + Hash, K: Eq + Hash, V, L: Budgeted<K, V>, S: KeyHasher<K> + Copy> T
         self.set_budget_with(name, budget, &mut |_, _| {})
     }
 
-    /// Closes a tenant and drops its entries. Returns how many there were.
+    /// Closes a tenant and drops its entries. Returns how many entries there were.
     ///
     /// ```text
     /// assert_eq!(rt; (cache.len(), cache.close(&1), cache.len()), (1, Ok(1), 0));

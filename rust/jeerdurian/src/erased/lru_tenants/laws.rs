@@ -9,18 +9,17 @@ use crate::erased::lru_tenants::cache::TenantCache;
 use crate::erased::schnellru::KeyHasher;
 use crate::rattle_std::hash::Hash;
 
-/// In any list of calls, of any kind and for any types, each call finds its tenant as the last call of that tenant left
-/// it, whatever calls of other tenants come between (`own`). If each call names another tenant, a tenant's map stays as
-/// it is (`others`).
+/// In any list of calls, each call finds its tenant as the previous call on this tenant left it, whatever calls on
+/// other tenants come between (`own`). If no call names a tenant, its map stays as it is (`others`).
 ///
-/// The premise: each call leaves every tenant as it is, except the one that it names, as each clause with `On` says.
+/// The premise: each call changes only the tenant that it names, as each clause with `On` says.
 ///
 /// ```text
 /// each_tenant_has_its_own_run::<u64, u64, u64, ByCost, RandomState>();
 /// ```
 pub fn each_tenant_has_its_own_run<N: Eq + Hash, K: Eq + Hash, V, L: Budgeted<K, V>, S: KeyHasher<K>>() {}
 
-/// The costs of the entries of all tenants add up to at most the total limit, if there is one. This holds of every
+/// If there is a total limit, the costs of the entries of all tenants add up to at most this limit. This holds of every
 /// cache, so after any list of calls.
 ///
 /// ```text

@@ -13,10 +13,10 @@ use crate::erased::schnellru::KeyHasher;
 use crate::rattle_std::alloc::{AllocError, Global};
 use crate::rattle_std::hash::Hash;
 
-/// Carries out the calls on the cache, one after another, and returns one answer for each.
+/// Carries out the calls on the cache, one after another, and returns one answer for each call.
 ///
-/// The answers to a tenant depend only on its own calls, except that `open` may return `OverTotal` if the cache has a
-/// total limit, and that memory may run out.
+/// The answers to a tenant's calls depend only on these calls, with two exceptions. `open` may return `OverTotal` if
+/// the cache has a total limit. And memory may run out.
 ///
 /// ```text
 /// let mut cache: TenantCache<u64, u64, u64> = TenantCache::new(alloc, [1, 2, 3, 4], 32);
@@ -26,7 +26,7 @@ use crate::rattle_std::hash::Hash;
 /// assert!(rt; answers.get(2) == Some(&TenantAnswer::Got(Err(TenantError::NotOpen))));
 /// ```
 ///
-/// Cost: as the calls, and one request for memory for the answers.
+/// Cost: the costs of the calls, and one allocation for the answers.
 ///
 /// # Errors
 ///

@@ -26,19 +26,19 @@ pub fn more_places_never_miss_more<K: Eq>() {}
 pub fn lru_is_competitive<K: Eq>() {}
 
 /// Loading keys ahead gains nothing. If a policy with h places loads keys ahead and pays `paid` times, some demand
-/// policy misses at most `paid` times. It also has h places, and begins with the same keys.
+/// policy misses at most `paid` times. The demand policy has h places, too, and begins with the same keys.
 pub fn loading_ahead_gains_nothing<K: Eq>() {}
 
 /// A cache of n places is *included* in a cache of m places if its keys are keys of the larger cache, in the same
 /// order. The larger cache must contain at most m - n more keys. If the smaller cache is included before some calls, it
-/// is included after them (`included`). So the larger cache finds what the smaller one finds (`finds`), and misses no
-/// more often at the references of a trace (`misses`). The calls may reference keys, make them the newest, remove them
-/// or look at them.
+/// is included after them (`included`). So the larger cache finds each key that the smaller cache finds (`finds`), and
+/// misses no more often in a trace (`misses`). The calls may reference keys, make them the newest, remove them or look
+/// at them.
 pub fn a_smaller_cache_is_included<K: Eq>() {}
 
-/// A larger budget never means more misses. If the keys of the cache with the smaller limit of cost are the newest keys
-/// of the other cache, this is so after any trace, too (`front`). The smaller cache misses at least as often
-/// (`misses`).
+/// A larger budget never means more misses. Suppose that the cache with the smaller budget contains the newest keys of
+/// the other cache. This is so after any trace, too (`front`), and the cache with the smaller budget misses at least as
+/// often (`misses`).
 pub fn a_larger_budget_never_misses_more<K: Eq>() {}
 
 /// A policy that stores each referenced key pays at least as often as MIN misses, whether it loads keys ahead (`loads`)

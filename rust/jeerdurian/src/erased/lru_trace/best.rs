@@ -1,5 +1,5 @@
 // Erased from crates/lru_trace/src/best.rt: do not edit.
-//! The misses of the best possible policies, which know the rest of the trace.
+//! How often the best possible policies miss, which know the rest of the trace.
 
 #[allow(unused_imports)]
 use crate::rattle_std::prelude::*;
@@ -7,10 +7,10 @@ use crate::rattle_std::prelude::*;
 use crate::rattle_std::alloc::{AllocError, Global};
 use crate::rattle_std::collections::BTreeSet;
 
-/// The time of each next reference of a trace. From these times `Best` counts how often the best possible policies
-/// miss, which `docs/THEORY.md` explains.
+/// For each reference of a trace, the time of the next reference to its key. From these times `Best` counts how often
+/// the best possible policies miss; `docs/THEORY.md` explains these policies.
 ///
-/// It takes 8 bytes for each reference.
+/// `Best` takes 8 bytes for each reference.
 
 pub struct Best {
     nexts: Vec<usize>,
@@ -18,7 +18,7 @@ pub struct Best {
 }
 
 impl Best {
-    /// Looks ahead in a trace, whose keys have these numbers.
+    /// Computes the times for a trace whose keys have these numbers.
     pub(crate) fn new(alloc: Global, numbers: &[usize]) -> Result<Self, AllocError> {
         let nexts = next_times(alloc, numbers)?;
         Ok(Best { nexts, alloc })
@@ -32,10 +32,11 @@ impl Best {
         (*at!(self.nexts, now))
     }
 
-    /// Returns how often MIN with `places` places misses, from no keys. MIN stores each key that is referenced, and
-    /// evicts the key whose next reference comes last. No policy that stores each key misses less often.
+    /// Returns how often MIN with `places` places misses, if it begins with no keys. MIN stores each key that is
+    /// referenced, and evicts the other key whose next reference comes last. No policy that stores each key misses less
+    /// often.
     ///
-    /// Cost: `O(log n)` for each reference and n places; the memory is in proportion to the smaller of n and the number
+    /// Cost: `O(log n)` for each reference and n places. The memory is in proportion to the smaller of n and the number
     /// of keys.
     ///
     /// # Errors
@@ -56,8 +57,8 @@ impl Best {
         Ok(misses)
     }
 
-    /// Returns how often MIN with bypass and `places` places misses, from no keys. It may leave out the key that is
-    /// referenced. No policy at all misses less often.
+    /// Returns how often MIN with bypass and `places` places misses, if it begins with no keys. This policy need not
+    /// store the key that is referenced. No policy misses less often.
     ///
     /// Cost: as `min_misses`.
     ///
@@ -93,7 +94,7 @@ fn add(times: &mut BTreeSet<usize>, time: usize, end: usize) -> Result<(), Alloc
     }
 }
 
-/// Returns a number above all of these. Fails, too, if one is `usize::MAX`, because no vector is that long.
+/// Returns a number above all of these numbers. Fails if a number is `usize::MAX`.
 fn bound_of(numbers: &[usize]) -> Result<usize, AllocError> {
     let mut bound = 0;
     for number in numbers {

@@ -11,9 +11,9 @@ use crate::rattle_std::collections::HashMap;
 
 /// The misses of a trace in LRU caches of every size, counted in one pass.
 ///
-/// A reference misses in a cache of n places if its reuse distance is at least n, or if it is the first to its key. So
-/// the curve counts how many references had each reuse distance. Its memory is in proportion to the number of keys, unless it
-/// keeps the references.
+/// A reference misses in a cache of n places if it is the first reference to its key, or if its reuse distance is at
+/// least n. So the curve counts how many references had each reuse distance. If it does not keep the references, its
+/// memory is in proportion to the number of keys.
 ///
 /// ```text
 /// let mut curve = Curve::new(alloc)?;
@@ -41,7 +41,7 @@ impl Curve {
         Curve::make(alloc, None)
     }
 
-    /// Makes a curve that also keeps the references, 8 bytes for each, so that `best` can count how often the best
+    /// Makes a curve that also keeps the references, with 8 bytes for each. From these `best` counts how often the best
     /// possible policies miss.
     ///
     /// ```text
@@ -120,7 +120,7 @@ impl Curve {
         Ok(())
     }
 
-    /// References a key before the references that are counted.
+    /// References a key without counting the reference. Call this before the first `refer`.
     ///
     /// Cost: as `refer`.
     ///
@@ -165,10 +165,10 @@ impl Curve {
         }
     }
 
-    /// Looks ahead in the trace, for the best possible policies. Returns nothing if the curve does not keep the
-    /// references.
+    /// Returns the times of the next references, which the best possible policies know. Returns `None` if the curve
+    /// does not keep the references.
     ///
-    /// Cost: in proportion to the number of references, and 8 bytes for each.
+    /// Cost: in proportion to the number of references.
     ///
     /// # Errors
     ///
@@ -180,17 +180,17 @@ impl Curve {
         }
     }
 
-    /// Returns how many references there were.
+    /// Returns how many references were counted.
     pub fn references(&self) -> u64 {
         self.references
     }
 
-    /// Returns how many keys were referenced.
+    /// Returns how many different keys were referenced, also in the warm-up.
     pub fn keys(&self) -> usize {
         self.firsts
     }
 
-    /// Returns how many references miss in an LRU cache of `places` places.
+    /// Returns how many counted references miss in an LRU cache of `places` places.
     ///
     /// Cost: in proportion to the smaller of `places` and the number of keys.
     pub fn misses(&self, places: usize) -> u64 {

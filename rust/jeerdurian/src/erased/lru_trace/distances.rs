@@ -7,20 +7,20 @@ use crate::rattle_std::prelude::*;
 use crate::erased::lru_trace::tree::Tree;
 use crate::rattle_std::alloc::{AllocError, Global};
 
-/// A new log has 2 ^ `FIRST_LEVELS` slots.
+/// The first log has 2 ^ `FIRST_LEVELS` slots.
 const FIRST_LEVELS: u32 = 3;
 
-/// No log has 2 ^ `MOST_LEVELS` slots, because no memory is that large.
+/// A log has at most 2 ^ `MOST_LEVELS` slots. No memory is larger.
 const MOST_LEVELS: u32 = 59;
 
 /// The keys of a trace, by the time of their last reference.
 ///
-/// Keys are the numbers that `add_key` returned. A contract sees the recency list: the keys that were referenced, the
-/// last one first.
+/// Keys are the numbers that `add_key` returned. A contract sees the recency list: each key that was referenced, the
+/// last referenced key first.
 ///
 /// Each reference takes the next slot of a log, and the slot that its key had before becomes free. If the log is full,
-/// the keys move together, into a log of twice as many slots if more than half of the slots contain keys. So the memory
-/// is in proportion to the number of keys, however long the trace is.
+/// the keys move to the front of a new log. If about half of the slots or more contain keys, the new log has twice as
+/// many slots. So the memory is in proportion to the number of keys, however long the trace is.
 
 pub struct Distances {
     log: Vec<Option<usize>>,
@@ -91,7 +91,7 @@ impl Distances {
     ///
     /// # Errors
     ///
-    /// Out of memory for a larger log. The reference is not counted.
+    /// Out of memory for a new log. The key was not referenced.
     pub fn refer(&mut self, key: usize) -> Result<Option<usize>, AllocError> {
         if self.log.len() == self.marks.len() {
             self.make_room()?;

@@ -1,5 +1,5 @@
 // Erased from crates/lru_trace/src/lines.rt: do not edit.
-//! The lines of a trace, each of which is a key.
+//! The lines of a trace, and their keys.
 
 #[allow(unused_imports)]
 use crate::rattle_std::prelude::*;
@@ -23,12 +23,12 @@ pub enum Ending {
     Nothing,
 }
 
-/// How many lines make no reference.
+/// How many lines make no reference, and why.
 #[derive(Clone, Copy, Debug, PartialEq, Eq)]
 pub struct Others {
     /// How many lines spell no key.
     pub malformed: u64,
-    /// How many keys behind the warm-up are not in the sample.
+    /// How many lines behind the warm-up spell a key that is not in the sample.
     pub skipped: u64,
 }
 
@@ -60,7 +60,7 @@ pub fn read_line<R: BufRead>(reader: &mut R, line: &mut Vec<u8>) -> Result<Endin
     }
 }
 
-/// Returns the key that the line spells.
+/// Returns the key that the line spells, if it spells one.
 fn key_of(line: &[u8]) -> Option<&str> {
     if line.is_empty() || line.len() > LONGEST_KEY {
         return None;
@@ -78,8 +78,8 @@ fn refer_key(curve: &mut Curve, warm: bool, key: &str) -> Result<(), AllocError>
     curve.refer(key)
 }
 
-/// References the key that the line spells, if the sample has it. Returns what the line adds to the lines that make no
-/// reference. A reference of the warm-up is not counted.
+/// References the key that the line spells, if the key is in the sample. Counts the reference if `warm` is false.
+/// Returns what the line adds to `Others`.
 fn refer_line(curve: &mut Curve, options: Options, warm: bool, line: &[u8]) -> Result<Others, AllocError> {
     let Some(key) = key_of(text_in(line, options.column)) else {
         return Ok(Others { malformed: 1, skipped: 0 });
@@ -91,9 +91,9 @@ fn refer_line(curve: &mut Curve, options: Options, warm: bool, line: &[u8]) -> R
     Ok(Others { malformed: 0, skipped: 0 })
 }
 
-/// References the key of each line that is left, if the sample has it, and returns how many lines make no reference. A
-/// key is text of 1 to 64 bytes: the line, or a column of it. The first keys may be a warm-up, which is not counted. The
-/// number of lines is written to `progress` after each million.
+/// References the key of each remaining line, if the key is in the sample. Returns how many lines make no reference. A
+/// key is text of 1 to 64 bytes: the line, or a column of it. The first keys may be a warm-up, whose references are not
+/// counted. Writes the number of lines to `progress` after each million.
 ///
 /// # Errors
 ///

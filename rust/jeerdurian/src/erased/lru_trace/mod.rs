@@ -1,5 +1,5 @@
 // Erased from crates/lru_trace/src/lib.rt: do not edit.
-//! Miss-ratio curves: how often LRU caches of every size miss at a trace of keys, counted in one pass.
+//! Miss-ratio curves: how often the references of a trace miss in LRU caches of every size, counted in one pass.
 //!
 //! [`Curve`] counts the references of a trace and returns the misses for each size. [`trace`] reads a trace from lines
 //! and writes a report.

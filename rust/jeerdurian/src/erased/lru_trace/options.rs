@@ -13,19 +13,19 @@ pub enum Form {
     Svg,
 }
 
-/// A column of a line of separated text: the bytes behind this number of separators, up to the next one.
+/// A column of a line: the bytes behind the first `index` separators, up to the next separator.
 #[derive(Clone, Copy, Debug, PartialEq, Eq)]
 pub struct Column {
     pub index: usize,
     pub separator: u8,
 }
 
-/// Whose misses are counted.
+/// The policies whose misses are counted.
 #[derive(Clone, Copy, Debug, PartialEq, Eq)]
 pub enum Policies {
-    /// LRU's. The first `warm_up` keys fill the caches, and are not counted.
+    /// LRU. The first `warm_up` keys fill the caches, and their references are not counted.
     Lru { warm_up: u64 },
-    /// LRU's, and those of the best possible policies, which begin with no keys.
+    /// LRU and the best possible policies. All begin with no keys.
     Best,
 }
 

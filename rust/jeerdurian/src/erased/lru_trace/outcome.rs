@@ -4,7 +4,7 @@ use crate::rattle_std::prelude::*;
 
 use crate::rattle_std::alloc::AllocError;
 
-/// How a trace ends if no read and no write fails.
+/// How a trace ends if nothing fails.
 #[derive(Clone, Copy, Debug, PartialEq, Eq)]
 pub enum TraceEnd {
     Done,

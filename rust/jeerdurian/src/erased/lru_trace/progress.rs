@@ -17,7 +17,7 @@ impl<P: Write> Progress<P> {
         Progress { alloc, writer }
     }
 
-    /// Writes the number after each million. If the write fails or memory runs out, nothing else changes.
+    /// Writes the number of lines after each million. Ignores a failed write, and running out of memory.
     pub fn note(&mut self, lines: u64) {
         if lines == 0 || lines % STEP != 0 {
             return;

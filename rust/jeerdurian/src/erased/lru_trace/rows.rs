@@ -22,7 +22,7 @@ pub struct BestMisses {
     pub bypass: usize,
 }
 
-/// How often a trace misses in a cache of this size, of how many expected references.
+/// How many references a trace is expected to have, and how many miss in a cache of this size.
 #[derive(Clone, Copy)]
 pub struct Row {
     pub size: usize,
@@ -74,7 +74,7 @@ pub fn rows_of(
     Ok(rows)
 }
 
-/// Returns where the axis of sizes ends, at the next power of two.
+/// Returns a number of places. The axis of sizes ends at the first power of two that is at least this number.
 pub fn end_of(keys: usize, bits: u32) -> u128 {
     (keys.max(1) as u128) << bits
 }

@@ -1,6 +1,4 @@
 // Erased from crates/lru_trace/src/samples.rt: do not edit.
-//! The sample of the keys.
-
 #[allow(unused_imports)]
 use crate::rattle_std::prelude::*;
 

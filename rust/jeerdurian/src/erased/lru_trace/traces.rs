@@ -1,5 +1,5 @@
 // Erased from crates/lru_trace/src/traces.rt: do not edit.
-//! A trace, from the lines of a reader to the report of a writer.
+//! Reads a trace from lines, and writes its report.
 
 #[allow(unused_imports)]
 use crate::rattle_std::prelude::*;
@@ -48,16 +48,17 @@ fn read_trace<R: BufRead, P: Write>(
     Ok(Some(Lines { sizes, curve, others }))
 }
 
-/// Reads a trace, and writes how often LRU caches of each size miss at it. The bytes that were read determine what is
-/// written: `docs/TRACE.md` shows it.
+/// Reads a trace, and writes how often LRU caches of each size miss. The options and the bytes that were read determine
+/// what is written. `docs/TRACE.md` shows examples.
 ///
-/// The first line names sizes, and each other line, or a column of it, is a key that is referenced: text of 1 to 64
-/// bytes. Other lines are counted as malformed, and keys behind the warm-up that are not in the sample as skipped.
-/// `Policies::Lru` may leave out a warm-up. `Policies::Best` also writes the misses of the best possible policies: in the
-/// text form for each named size, and in the other forms also for each power of two.
+/// The first line names sizes. Each other line spells a key: the line, or a column of it, is text of 1 to 64 bytes. A
+/// line that spells no key counts as malformed. A line behind the warm-up counts as skipped if its key is not in the
+/// sample. `Policies::Best` also writes the misses of the best possible policies: in the text form for each named size,
+/// and in the other forms also for each power of two.
 ///
 /// Cost: `O(log n)` expected for each line and n keys. The memory is in proportion to the number of keys and the
-/// longest line. With `Policies::Best` it is in proportion to the number of lines, and each size costs `O(log n)` for each line.
+/// longest line. With `Policies::Best` the memory is also in proportion to the number of lines, and each size costs
+/// `O(log n)` more for each line.
 ///
 /// # Errors
 ///

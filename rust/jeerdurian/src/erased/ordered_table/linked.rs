@@ -17,8 +17,8 @@ mod copy;
 mod moves;
 mod place;
 
-// A pair with links to its neighbours in the order; a link is `MAX` at an end. The value is between the key and the
-// links, so a look-up or a step of a walk reads one line of memory.
+// A pair with links to its neighbours in the order. At an end of the order, the link is `MAX`. The value is between the
+// key and the links, so that a look-up or a step of a walk reads few cache lines.
 
 pub(crate) struct Entry<K, V, N> {
     pair: Pair<K, V>,

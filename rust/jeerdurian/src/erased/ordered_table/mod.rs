@@ -1,8 +1,8 @@
 // Erased from crates/ordered_table/src/lib.rt: do not edit.
 //! The table of an LRU map: a bucket table whose entries are in an order, newest first.
 //!
-//! [`OrderedTable`] moves a pair to either end of the order, and takes one out of it, in constant time. It knows no
-//! limit and calls no limiter: `LruMap` of `schnellru` adds both.
+//! [`OrderedTable`] moves a pair to either end of the order, or takes a pair out, in constant time. It has no limiter.
+//! `LruMap` of `schnellru` adds one.
 
 #[allow(unused_imports)]
 use crate::rattle_std::prelude::*;

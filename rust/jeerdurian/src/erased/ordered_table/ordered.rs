@@ -24,8 +24,8 @@ pub struct Pair<K, V> {
 
 /// A table whose full buckets are in an order, newest first. `N` is the type of its links.
 ///
-/// A contract sees it as its `slots`, the `order` of its full buckets, and its `insertions`. The caller computes the
-/// hashes. The keys fit the table (`KeysFit`) as long as equal keys get the same hash.
+/// A contract sees a table as its `slots`, the `order` of its full buckets, and its `insertions`. Only `move_to`
+/// computes hashes. The keys fit the table (`KeysFit`) if each pair was inserted with the hash of its key.
 ///
 /// ```text
 /// let hasher = RandomState::default();
@@ -41,18 +41,18 @@ pub struct Pair<K, V> {
 /// ```
 pub struct OrderedTable<K, V, N: LinkType> {
     linked: LinkedTable<K, V, N>,
-    // The bucket of the last promotion, if the links do not show it yet. The next call that changes the order rewrites
-    // the links.
+    // The bucket of the last promotion, if this promotion is not yet written into the links. The next call that changes
+    // the order writes it.
     promoted: Option<usize>,
 }
 
 impl<K, V, N: LinkType> OrderedTable<K, V, N> {
-    /// Makes a table of no buckets, which takes no memory.
+    /// Makes a table without buckets, and allocates nothing.
     pub const fn new(alloc: Global) -> Self {
         OrderedTable { linked: LinkedTable::new(alloc), promoted: None }
     }
 
-    /// Returns the bytes of an entry, which is a pair and two links.
+    /// Returns the size of an entry, which is a pair and two links.
     pub const fn entry_bytes() -> usize {
         LinkedTable::<K, V, N>::entry_bytes()
     }
@@ -75,7 +75,7 @@ impl<K, V, N: LinkType> OrderedTable<K, V, N> {
         self.linked.growth_left()
     }
 
-    /// Returns how many pairs were put into the table. A pair that moves is not counted again.
+    /// Returns how many pairs were put into the table. A moved pair is not counted again.
     #[inline]
     pub fn placed(&self) -> u64 {
         self.linked.placed()
@@ -122,7 +122,7 @@ impl<K, V, N: LinkType> OrderedTable<K, V, N> {
     /// Returns the bucket of the first pair that `f` accepts.
     ///
     /// `f` is called with pairs whose tag is the hash's top 7 bits. Only tests show that `f` is called with each pair
-    /// at most once, and not again after it accepted one.
+    /// at most once, and not again after it returned true.
     ///
     /// Cost: `O(1)` expected.
     #[inline]
@@ -132,7 +132,7 @@ impl<K, V, N: LinkType> OrderedTable<K, V, N> {
 }
 
 impl<K: Eq + Hash, V, N: LinkType> OrderedTable<K, V, N> {
-    /// Returns the bucket of the key that `key` names; `hash` is the hash of this key.
+    /// Returns the bucket of the key that `key` names. `hash` must be the hash of this key.
     ///
     /// Cost: `O(1)` expected.
     #[inline]

@@ -19,7 +19,7 @@ pub(crate) mod keys;
 
 pub struct Walk<'a, K, V, N: LinkType> {
     entries: &'a OrderedTable<K, V, N>,
-    // The buckets of the first and of the last pair that is left, and how many are left.
+    // The buckets of the first and the last pair that is left, and how many pairs are left.
     front: usize,
     back: usize,
     left: usize,

@@ -3,7 +3,7 @@
 //!
 //! [`LruMap`] is the map, and [`ByLength`] is one of its limiters. `docs/LIMITERS.md` shows how to write a limiter and
 //! a look-up key. `docs/CALLING.md` shows how to prove code that calls the map. `docs/DIFFERENCES.md` lists what
-//! differs from the Rust crate. The theorems on all calls are the contracts of the functions of [`laws`].
+//! differs from the Rust crate. The contract of each function of [`laws`] is a theorem about calls.
 
 #[allow(unused_imports)]
 use crate::rattle_std::prelude::*;

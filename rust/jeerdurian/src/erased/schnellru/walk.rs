@@ -15,7 +15,7 @@ pub(crate) mod into_iter;
 pub(crate) mod iter_mut;
 mod positions;
 
-/// The iterator over a map under this limiter.
+/// The iterator that `LruMap::iter` returns.
 ///
 /// ```text
 /// let mut walk = map.iter();
@@ -69,7 +69,7 @@ impl<K: Eq + Hash, V, L: Limiter<K, V>, S: KeyHasher<K>> LruMap<K, V, L, S> {
         self.entries.values()
     }
 
-    /// Returns the entry at this index in the order of use. The newest has index 0. The order stays.
+    /// Returns the entry at this index in the order of use. The newest entry has index 0. The order stays.
     ///
     /// ```text
     /// assert!(rt; map.get_index(0) == Some((&3, &30)) && map.get_index(3).is_none());
@@ -83,7 +83,7 @@ impl<K: Eq + Hash, V, L: Limiter<K, V>, S: KeyHasher<K>> LruMap<K, V, L, S> {
         Some((&pair.key, &pair.value))
     }
 
-    /// Returns the index of a key in the order of use. The newest has index 0. The order stays.
+    /// Returns the index of a key in the order of use. The newest key has index 0. The order stays.
     ///
     /// ```text
     /// assert_eq!(rt; (map.get_index_of(&1), map.get_index_of(&9)), (Some(2), None));

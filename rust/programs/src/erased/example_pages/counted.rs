@@ -1,5 +1,4 @@
 // Erased from crates/example_pages/src/counted.rt: do not edit.
-//! A device that counts its writes.
 #[allow(unused_imports)]
 use crate::rattle_std::prelude::*;
 

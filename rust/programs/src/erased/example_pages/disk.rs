@@ -1,5 +1,5 @@
 // Erased from crates/example_pages/src/disk.rt: do not edit.
-//! A file, or a file in memory. A crash of a file in memory loses what was not made durable.
+//! A file, or a file in memory that can crash. A crash may lose what was not made durable.
 #[allow(unused_imports)]
 use crate::rattle_std::prelude::*;
 
@@ -10,10 +10,10 @@ use crate::rattle_std::cell::Cell;
 use crate::rattle_std::fs::File;
 use crate::rattle_std::io::{self, ErrorKind, Read, Seek, SeekFrom, Write};
 
-/// What a disk writes whole: a crash may tear a page between two sectors.
+/// A disk writes a sector whole. A crash may tear a page between two sectors.
 const SECTOR: usize = 2048;
 
-/// The calls that a machine makes before it loses power. From then on each call fails.
+/// The power of a machine. It fails after `calls_left` calls, and then each call fails.
 
 pub struct Power {
     calls_left: Cell<u64>,
@@ -47,7 +47,7 @@ impl<'a> CrashFile<'a> {
         Ok(CrashFile { now: vec![in alloc; 0; len]?, durable: vec![in alloc; 0; len]?, at: 0, power })
     }
 
-    /// Leaves each sector as it was made durable, or as it was written since.
+    /// Leaves each sector as it was made durable, or as it was written afterwards.
     pub fn crash(&mut self, random: &mut Random) {
         let sectors = self.now.chunks_mut(SECTOR).zip(self.durable.chunks_mut(SECTOR));
         for (now, durable) in sectors {
@@ -78,7 +78,7 @@ impl Read for CrashFile<'_> {
 }
 
 impl Write for CrashFile<'_> {
-    /// A write during which the power fails may still write all.
+    /// Writes the bytes even if the power fails, but then returns an error.
     fn write(&mut self, buf: &[u8]) -> io::Result<usize> {
         let has_power = self.power.take();
         let Some(rest) = self.now.as_mut_slice().get_mut(self.at..) else {
@@ -117,7 +117,7 @@ impl Durable for CrashFile<'_> {
     }
 }
 
-/// What a store is on.
+/// A file of a store.
 
 pub enum Disk<'a> {
     File(File),

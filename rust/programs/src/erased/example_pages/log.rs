@@ -1,5 +1,5 @@
 // Erased from crates/example_pages/src/log.rt: do not edit.
-//! A log of pages, which is written before the pages themselves.
+//! A log of pages. A page is written to the log before it is written to its place.
 #[allow(unused_imports)]
 use crate::rattle_std::prelude::*;
 
@@ -7,7 +7,8 @@ use crate::erased::lru_caches::{BlockDevice, FileError, HashedFileDevice};
 use crate::programs::example_pages::disk::Disk;
 use crate::programs::example_pages::page::{Header, PAGE, Page, header_of};
 
-/// The pages of the transactions since the last checkpoint, in order. Behind them are pages of earlier transactions.
+/// The log begins with the pages of the transactions since the last checkpoint, in order. Pages of earlier transactions
+/// may follow.
 
 pub struct Log<'a> {
     device: HashedFileDevice<Disk<'a>, PAGE>,
@@ -27,7 +28,7 @@ impl<'a> Log<'a> {
         self.next.saturating_add(pages as u64) <= self.device.len()
     }
 
-    /// The next page is written to the front. The pages that are there stay until then.
+    /// Begins at the front again. Each old page stays until a new page is written over it.
     pub fn restart(&mut self) {
         self.next = 0;
     }
@@ -54,7 +55,7 @@ impl<'a> Log<'a> {
         self.sync()
     }
 
-    /// Appends pages, and returns when a crash cannot lose them.
+    /// Appends pages, and syncs the log, so that a crash cannot lose them.
     pub fn append(&mut self, pages: &[Page]) -> Result<(), FileError> {
         for page in pages {
             self.write(self.next, page)?;
@@ -63,7 +64,7 @@ impl<'a> Log<'a> {
         self.sync()
     }
 
-    /// Returns a page of the log, or none if it is torn.
+    /// Returns a page of the log, or `None` if it is torn.
     pub fn read(&mut self, n: u64) -> Result<Option<Page>, FileError> {
         if !self.device.has(n) || !self.device.is_usable() {
             return Err(FileError::File);
@@ -96,7 +97,7 @@ impl<'a> Log<'a> {
         Ok(newest)
     }
 
-    /// Returns how many pages a transaction has, if page n is its first page and all are there.
+    /// If page n is the first page of a whole transaction, returns how many pages the transaction has.
     pub fn transaction_at(&mut self, n: u64) -> Result<Option<u64>, FileError> {
         let Some(first) = self.header(n)? else {
             return Ok(None);

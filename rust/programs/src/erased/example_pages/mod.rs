@@ -1,7 +1,7 @@
 // Erased from crates/example_pages/src/main.rt: do not edit.
-//! A store of records on a file of pages and a log. Lines of standard input call it: `get N`, `put N TEXT`, `commit`,
-//! `checkpoint`, `stats` and `crashes N`. The puts before a `commit` are one transaction. `crashes N` crashes a store
-//! in memory N times.
+//! A store of records on a file of pages and a log. Each line of standard input is a command: `get N`, `put N TEXT`,
+//! `commit`, `checkpoint`, `stats` or `crashes N`. The puts before a `commit` are one transaction. `crashes N` crashes
+//! a store in memory N times.
 
 #[allow(unused_imports)]
 use crate::rattle_std::prelude::*;

@@ -4,7 +4,6 @@
 #[allow(unused_imports)]
 use crate::rattle_std::prelude::*;
 
-/// The bytes of a page.
 pub const PAGE: usize = 4096;
 
 pub type Page = [u8; PAGE];
@@ -30,7 +29,6 @@ pub struct Header {
     pub count: u64,
 }
 
-/// The number of records of a page.
 pub const RECORDS: u64 = ((PAGE - HEADER - CHECKSUM) / RECORD) as u64;
 
 fn number_at(page: &[u8], at: usize) -> u64 {

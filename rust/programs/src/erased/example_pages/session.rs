@@ -1,5 +1,5 @@
 // Erased from crates/example_pages/src/session.rt: do not edit.
-//! The answers to the lines.
+//! Commands, and the answers to them.
 #[allow(unused_imports)]
 use crate::rattle_std::prelude::*;
 
@@ -18,7 +18,7 @@ enum Command<'a> {
     Crashes(u64),
 }
 
-/// The command of a line, if it is one.
+/// Returns the command that the line spells, if it spells one.
 fn command_of(line: &str) -> Option<Command<'_>> {
     let (word, rest) = line.split_once(" ").unwrap_or((line, ""));
     match word {
@@ -43,7 +43,7 @@ fn record_of(text: &str) -> Record {
     record
 }
 
-/// The text of a record, which ends before its first byte 0.
+/// Returns the text of a record. The text ends before the first byte 0.
 fn text_of(record: &[u8]) -> &str {
     let end = record.iter().position(|byte| *byte == 0);
     let text = record.get(..end.unwrap_or(record.len())).unwrap_or(record);
@@ -108,7 +108,7 @@ impl Session {
         }
     }
 
-    /// Writes what is committed. Returns whether that worked.
+    /// Makes a checkpoint. Returns whether it succeeded.
     pub fn close(self) -> bool {
         let Session { mut store, changes: _ } = self;
         let is_written = store.checkpoint().is_ok();

@@ -1,10 +1,10 @@
 // Erased from crates/example_pages/src/store.rt: do not edit.
-//! A store of records whose transactions survive a crash whole or not at all.
+//! A store of records. A transaction survives a crash whole or not at all.
 //!
-//! A transaction writes its pages to the log first, and syncs the log. Only then does it write them into the page
-//! cache. So the file of pages never contains a page of a transaction that may still be lost, and the log contains each
-//! page that a crash may tear. A checkpoint flushes the cache; then the log begins at its front again. After a crash
-//! the pages of the log are written once more, unless the file has a page of the same or a later transaction.
+//! A transaction writes its pages to the log, syncs the log, and then writes the pages into the page cache. So the file
+//! of pages never contains a page of a transaction that may still be lost, and the log contains each page that a crash
+//! may tear. A checkpoint flushes the cache, and then the log begins at its front again. After a crash, a page of the
+//! log is written to the file if the page in the file is torn or of an earlier transaction.
 #[allow(unused_imports)]
 use crate::rattle_std::prelude::*;
 
@@ -17,7 +17,6 @@ use crate::programs::example_pages::page::{
 };
 use crate::rattle_std::alloc::{AllocError, Global};
 
-/// Why a call failed.
 #[derive(Debug)]
 pub enum StoreError {
     Pages(PageError<FileError>),
@@ -26,7 +25,7 @@ pub enum StoreError {
     NoRecord,
     /// The transaction has more pages than the log.
     TooLarge,
-    /// A commit failed half way: only a recovery shows whether it took place.
+    /// A commit failed half way. Only a recovery shows whether it took place.
     Interrupted,
     Memory,
 }
@@ -49,7 +48,7 @@ impl From<AllocError> for StoreError {
     }
 }
 
-/// How many pages there are, how many the log contains, and how many are cached.
+/// The number of pages of the file, of the log and of the cache.
 #[derive(Clone, Copy)]
 pub struct Sizes {
     pub pages: u64,
@@ -61,7 +60,7 @@ pub struct Sizes {
 #[derive(Clone, Copy, Default)]
 pub struct Recovered {
     pub transactions: u64,
-    /// Pages that were torn, and are whole again.
+    /// How many torn pages were restored.
     pub torn: u64,
 }
 
@@ -98,7 +97,7 @@ impl<'a> Store<'a> {
         self.checkpoint()
     }
 
-    /// Writes all pages to their file. Then the log may be written from its front.
+    /// Writes all pages to their file. Then the log begins at its front again.
     pub fn checkpoint(&mut self) -> Result<(), StoreError> {
         self.admit()?;
         self.pages.flush()?;
@@ -130,7 +129,7 @@ impl<'a> Store<'a> {
         Ok(record_at(&page, slot))
     }
 
-    /// Replaces these records. After an error it has replaced none, or the store is interrupted.
+    /// Replaces these records. After an error, no record is replaced, or the store is interrupted.
     pub fn commit(&mut self, alloc: Global, changes: &[(u64, Record)]) -> Result<(), StoreError> {
         self.admit()?;
         let mut pages: Vec<Page> = Vec::new(alloc);
@@ -166,7 +165,7 @@ impl<'a> Store<'a> {
         Ok(())
     }
 
-    /// Puts a record into its page, which is read unless it is among the pages that have changed.
+    /// Puts a record into its page. If the page is not among the changed pages, reads it first.
     fn change(&mut self, pages: &mut Vec<Page>, id: u64, record: &Record) -> Result<(), StoreError> {
         let (number, slot) = self.place_of(id)?;
         for page in pages.iter_mut() {
@@ -182,8 +181,8 @@ impl<'a> Store<'a> {
         pages.push(page).map_err(|_| StoreError::Memory)
     }
 
-    /// Makes the store whole after a crash. It has each transaction whose `commit` returned `Ok`, and may have the one
-    /// that was interrupted.
+    /// Makes the store whole after a crash. Then the store has each transaction whose `commit` returned `Ok`, and it
+    /// may have the interrupted transaction.
     pub fn recover(&mut self) -> Result<Recovered, StoreError> {
         let mut recovered = Recovered::default();
         let mut next = 0u64;
@@ -202,7 +201,7 @@ impl<'a> Store<'a> {
         Ok(recovered)
     }
 
-    /// Writes a page of the log to its place, unless a page of the same or a later transaction is there.
+    /// Writes page n of the log to its place if the page there is torn or of an earlier transaction.
     fn redo(&mut self, n: u64, recovered: &mut Recovered) -> Result<(), StoreError> {
         let Some(page) = self.log.read(n)? else {
             return Ok(());
@@ -223,7 +222,7 @@ impl<'a> Store<'a> {
         Ok(())
     }
 
-    /// Returns the greatest transaction that a page names. Fails if a page is torn.
+    /// Returns the greatest transaction that a page of the log or the file names. Fails if a page of the file is torn.
     fn newest(&mut self) -> Result<u64, StoreError> {
         let mut newest = self.log.newest()?;
         for n in 0..self.len {
@@ -233,12 +232,12 @@ impl<'a> Store<'a> {
         Ok(newest)
     }
 
-    /// Lends the cache, such as to read its counts.
+    /// Lends the cache.
     pub fn cache(&self) -> &Pages<'a> {
         &self.pages
     }
 
-    /// Returns the file of pages and the log. What is not in them is lost, as by a crash.
+    /// Returns the file of pages and the log. What was not written to them is lost.
     pub fn into_files(self) -> (Disk<'a>, Disk<'a>) {
         let Store { pages, log, len: _, transaction: _, is_interrupted: _ } = self;
         (pages.discard().into_inner().into_file(), log.into_file())

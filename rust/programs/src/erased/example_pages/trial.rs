@@ -9,7 +9,7 @@ use crate::programs::example_pages::store::{Sizes, Store, StoreError};
 use crate::programs::test_helpers::Random;
 use crate::rattle_std::alloc::Global;
 
-/// The cache evicts, and the log is full after a few transactions.
+/// With these sizes the cache evicts, and the log is full after a few transactions.
 const SIZES: Sizes = Sizes { pages: 4, log: 8, cache: 2 };
 
 /// How many records the trial changes: three of each page. One of the three lies across two sectors.
@@ -28,7 +28,7 @@ type Files<'a> = (Disk<'a>, Disk<'a>);
 pub struct Counts {
     pub crashes: u64,
     pub commits: u64,
-    /// Crashes that interrupted a commit, which took place (`kept`) or not (`dropped`).
+    /// Crashes that interrupted a commit: the commit took place (`kept`), or did not (`dropped`).
     pub kept: u64,
     pub dropped: u64,
     /// Pages that were torn, and are whole again.
@@ -37,7 +37,7 @@ pub struct Counts {
     pub lost: u64,
 }
 
-/// What is committed, and the transaction that is not yet.
+/// The committed records, and the transaction that is not committed yet.
 
 struct Model {
     records: Vec<Record>,
@@ -112,7 +112,8 @@ fn crash<'a>(store: Store<'a>, random: &mut Random) -> Files<'a> {
     (pages, log)
 }
 
-/// Recovers the store, and compares it with what was committed before, and then with the interrupted transaction, too.
+/// Recovers the store, and compares it with the committed records. If they differ, compares it with these records after
+/// the interrupted transaction.
 fn check(store: &mut Store, model: &mut Model, counts: &mut Counts) {
     match store.recover() {
         Ok(recovered) => counts.torn = counts.torn.saturating_add(recovered.torn),
@@ -134,7 +135,8 @@ fn check(store: &mut Store, model: &mut Model, counts: &mut Counts) {
     }
 }
 
-/// Crashes a store this often: at each of its calls in turn, and then, half of the time, in the recovery.
+/// Crashes a store `count` times, at each call of its files in turn. Half of the time, crashes it again in the
+/// recovery.
 pub fn crashes(alloc: Global, count: u64) -> Result<Counts, StoreError> {
     let power = Power::new();
     let mut random = Random::new(1);

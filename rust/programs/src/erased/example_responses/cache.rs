@@ -12,7 +12,7 @@ use crate::rattle_std::collections::BTreeMap;
 /// What an entry costs in addition to the bytes of its path and of its response.
 const OVERHEAD: u64 = 64;
 
-/// A response of some bytes, which is stale from `expires` on.
+/// A response of `bytes` bytes. It is stale from the time `expires` on.
 #[derive(Clone, Copy)]
 pub struct Response {
     pub bytes: u64,
@@ -25,8 +25,8 @@ impl Costed for Response {
     }
 }
 
-/// How many look-ups of a host found a fresh response, how many did not, and how many entries were evicted, or removed
-/// because a new response was rejected.
+/// The counts of a host. A hit is a look-up that found a fresh response. `evictions` also counts entries that were
+/// removed because a new response was rejected.
 #[derive(Clone, Copy, Default)]
 pub struct Counts {
     pub hits: u64,
@@ -94,7 +94,7 @@ impl ResponseCache {
         Ok(())
     }
 
-    /// Returns how many entries were evicted.
+    /// Opens a host or sets its budget. Returns words that say which, and how many entries were evicted.
     pub fn set_host(&mut self, host: &str, budget: u64) -> Result<(&'static str, u64), TenantError> {
         let (before, _) = self.size(host);
         if self.entries.set_budget(&host, budget).is_err() {
@@ -107,8 +107,8 @@ impl ResponseCache {
         Ok(("budget set", evicted))
     }
 
-    /// Stores a response. Returns a word that says whether it is there afterwards, and how many entries were evicted,
-    /// or removed because a new response was rejected.
+    /// Stores a response. Returns a word that says whether the response was stored, and how many entries were evicted
+    /// or rejected.
     pub fn put(&mut self, host: &str, path: &str, response: Response) -> Result<(&'static str, u64), TenantError> {
         let path = owned(self.alloc, path)?;
         let mut evicted = 0u64;
@@ -144,7 +144,7 @@ impl ResponseCache {
     }
 }
 
-/// A look-up returns no response whose path was just purged.
+/// Shows that a look-up of a path that was just purged returns no response.
 fn look_up_purged(
     cache: &mut ResponseCache,
     host: &str,

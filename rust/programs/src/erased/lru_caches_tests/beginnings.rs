@@ -1,5 +1,5 @@
 // Erased from crates/lru_caches_tests/src/beginnings.rt: do not edit.
-//! What the examples of the docs begin with, and the texts of errors.
+//! The values that the examples of the docs begin with, and tests of the texts of errors.
 #[allow(unused_imports)]
 use crate::rattle_std::prelude::*;
 

@@ -6,7 +6,8 @@ use crate::rattle_std::prelude::*;
 
 use crate::erased::lru_caches::{BlockDevice, OrderedMap, PageCache, PageError};
 
-/// Copies a block to another number, and changes no other. If it fails, each block is shown as before.
+/// Copies a block to another number, and changes no other block. If the call fails, the cache shows each block as
+/// before.
 pub fn copy_block<D: BlockDevice<u64>>(
     cache: &mut PageCache<u64, D>,
     from: u64,
@@ -26,7 +27,7 @@ pub fn write_durably<D: BlockDevice<u64>>(
     cache.flush()
 }
 
-/// Writes a value under a key that is there, and returns whether it is.
+/// Returns whether the key is in the map. If it is, writes the value under it.
 pub fn overwrite(map: &mut OrderedMap<u64, u64>, key: u64, value: u64) -> bool {
     match map.get_mut(&key) {
         Some(place) => {

@@ -1,5 +1,5 @@
 // Erased from crates/lru_caches_tests/src/disk.rt: do not edit.
-//! A disk in memory with a volatile cache, that fails and crashes.
+//! A disk in memory with a volatile cache. The disk can fail and crash.
 
 #[allow(unused_imports)]
 use crate::rattle_std::prelude::*;
@@ -10,13 +10,14 @@ use crate::rattle_std::cell::Cell;
 #[derive(Clone, Copy, Debug, PartialEq)]
 pub struct DiskError;
 
-/// What a write that fails leaves in its block.
+/// What a failed write leaves in its block.
 pub const TORN: u64 = 99;
 
-/// A disk of four blocks, which keeps what is written in a volatile cache until it is synced.
+/// A disk of four blocks. What is written stays in a volatile cache until a sync.
 ///
-/// After `calls_left` calls that work, one fails. A write that fails leaves its block torn. A crash, and a `sync` that
-/// fails, drop what was written to the blocks of `dropped`, and keep what was written to the others.
+/// After `calls_left` calls, the next call fails. A failed write leaves its block torn. A crash or a failed `sync`
+/// loses what was written to the blocks of `dropped` since the last sync, and keeps what was written to the other
+/// blocks.
 
 pub struct Disk<'a> {
     pub blocks: [u64; 4],

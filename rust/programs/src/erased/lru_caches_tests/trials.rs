@@ -19,7 +19,7 @@ fn functions_are_called_if_a_result_is_not_stored() {
     run(HostRuntime).passes();
 }
 
-/// No insert into an ordered map fails above some number of keys.
+/// An ordered map can have many keys.
 #[test]
 fn an_ordered_map_of_many_keys() {
     let run = |rt: HostRuntime| -> () {
@@ -31,8 +31,7 @@ fn an_ordered_map_of_many_keys() {
     run(HostRuntime).passes();
 }
 
-/// A disk that fails after each number of calls that the lists need. It then fails again after the same number, or
-/// stays broken.
+/// A disk that fails at each of its calls in turn. It then fails again after the same number of calls, or stays broken.
 #[test]
 fn a_disk_that_fails() {
     let run = |rt: HostRuntime| -> () {

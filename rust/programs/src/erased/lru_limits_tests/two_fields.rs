@@ -13,7 +13,7 @@ pub struct Name {
     pub text: String,
 }
 
-/// Names a `Name` without a `String`.
+/// A look-up key for a `Name`, without a `String`.
 #[derive(Clone, Copy, PartialEq, Eq, Hash)]
 pub struct Naming<'a> {
     pub tenant: u64,

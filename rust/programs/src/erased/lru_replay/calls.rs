@@ -1,5 +1,5 @@
 // Erased from crates/lru_replay/src/calls.rt: do not edit.
-//! The calls of a run, and their answers; lists of calls, carried out on a map.
+//! The calls of a run, and their answers.
 #[allow(unused_imports)]
 use crate::rattle_std::prelude::*;
 
@@ -11,8 +11,7 @@ pub(crate) mod summing;
 use crate::erased::lru_model::{MoveReport, ReserveError, Updated};
 use crate::rattle_std::alloc::AllocError;
 
-/// A call of a run. It does what the map's call of the same name does, except for `SetLimiter`. `docs/RUNS.md` has the
-/// other special cases.
+/// A call of a run. Most calls do what the map's call of the same name does; `docs/RUNS.md` lists the others.
 ///
 /// ```text
 /// let calls = vec![in alloc; Call::Insert(1, 10), Call::Get(1), Call::Peek(2)]?;
@@ -20,9 +19,9 @@ use crate::rattle_std::alloc::AllocError;
 #[derive(Debug)]
 pub enum Call<K, V, L> {
     Insert(K, V),
-    /// Does what `insert_with` does, and returns the pairs that the closure gets.
+    /// `insert_and_keep`: inserts, and returns the pairs that `insert_with` passes to its callback.
     InsertWith(K, V),
-    /// `get_or_insert`: inserts the key with this value if it is not there, and returns the value of the key.
+    /// `get_or_insert`: inserts the key with this value if the key is not in the map, and returns the value of the key.
     GetOrInsert(K, V),
     Update(K, V),
     Get(K),
@@ -64,16 +63,16 @@ pub enum Call<K, V, L> {
 /// ```
 #[derive(Debug, PartialEq)]
 pub enum Answer<K, V> {
-    /// To `Insert`, `Write`, `Contains`, `Promote` and `Demote`: whether the key is in the map.
+    /// To `Insert`, `Write`, `Contains`, `Promote` and `Demote`: whether the key is in the map now.
     Flag(bool),
-    /// To `InsertWith`: what the insert returned, and what it passed to its callback.
+    /// To `InsertWith`: what `insert_and_keep` returned.
     Given {
-        /// Whether the key is in the map, or that memory ran out.
+        /// Whether the key is in the map now, or out of memory.
         done: Result<bool, AllocError>,
-        /// The pairs that the callback got, in that order.
+        /// The pairs that `insert_with` passes to its callback, in order.
         out: Vec<(K, V)>,
     },
-    /// To `Update`: what the update did.
+    /// To `Update`.
     Updated(Updated<V>),
     /// To `GetOrInsert`, `Get`, `Peek`, `Remove` and the searches by a hash: the value, if there is one.
     Value(Option<V>),
@@ -82,7 +81,7 @@ pub enum Answer<K, V> {
     /// To `List` and `Drain`: the pairs.
     Pairs(Vec<(K, V)>),
     Done,
-    /// To `Reserve`: that there is growth left, or why not.
+    /// To `Reserve`: enough growth is left, or the reason why it is not.
     Reserved(Result<(), ReserveError>),
     /// To `Shrink`: whether the table has fewer buckets now. After an `Err`, out of memory, nothing has changed.
     Shrunk(Result<bool, AllocError>),
@@ -93,10 +92,9 @@ pub enum Answer<K, V> {
         memory: usize,
         report: MoveReport,
     },
-    /// To `Insert` and `GetOrInsert`: out of memory. To `InsertWith`, `List` and `Drain`: out of memory for the pairs
-    /// to return, and nothing has changed. A reservation reports this in `Reserved`, and a shrink in `Shrunk`.
+    /// To `Insert` and `GetOrInsert`: out of memory. To `InsertWith`, `List` and `Drain`: out of memory for the
+    /// returned pairs, and nothing has changed.
     Memory,
-    /// To `Write` and `SetLimiter`, under a limiter with a running total: the total would be wrong, and nothing has
-    /// changed.
+    /// To `Write` and `SetLimiter` in `run_summing`: the call was not made, because the running total would be wrong.
     CostDiffers,
 }

@@ -1,6 +1,6 @@
 // Erased from crates/lru_replay/src/costs.rt: do not edit.
-//! Programs that make references on a map with a limit of cost, such as `ByCost` and `ByWeight`: the theorems of
-//! `references`, for any `weight` of an entry.
+//! The theorems of `references`, for a map with a limit of cost, such as `ByCost` or `ByWeight`, and any `weight` of an
+//! entry.
 
 #[allow(unused_imports)]
 use crate::rattle_std::prelude::*;
@@ -13,8 +13,9 @@ use crate::rattle_std::hash::Hash;
 /// number 2 ^ 31 buckets.
 pub fn maps_keep_to_their_cost<K: Eq + Hash, V, S: KeyHasher<K>>() {}
 
-/// Each of these calls makes a reference if it returns `Ok`. An inserted entry must cost what its key costs, and at
-/// most the limit. A value written through a get must cost what the old value costs.
+/// An insert, a try and a call of a memo make a reference if they return `Ok`. The inserted entry must cost what its
+/// key costs, and at most the limit. A get and a promotion make a reference if the map contains the key. If the program
+/// writes a new value through the get, it must cost as much as the old value.
 pub fn calls_make_references<K: Eq + Hash, V, S: KeyHasher<K>>() {}
 
 /// `ensure_newest` and `get_or_insert`, whose closure is `make`, make references, too.
@@ -23,12 +24,12 @@ pub fn gets_that_insert_make_references<K: Eq + Hash, V, F: FnOnce() -> V, S: Ke
 /// The fallible forms of `ensure_newest` and `get_or_insert` make references, too.
 pub fn gets_that_insert_if_made_make_references<K: Eq + Hash, V, E, F: FnOnce() -> Result<V, E>, S: KeyHasher<K>>() {}
 
-/// A program that makes the references of a trace leaves the keys that an LRU cache with this limit of cost contains
-/// (`keys`), and misses as often as that cache (`misses`). The map counts the misses: `placed`, the count of entries
-/// that inserts stored, rises by the number of misses (`stored`). Equal keys must cost the same.
+/// After the references of a trace, the map contains the keys that an LRU cache with this limit of cost contains
+/// (`keys`), and the program missed as often as this cache (`misses`). The map counts the misses: `placed`, the count
+/// of entries that inserts stored, rises by the number of misses (`stored`). Equal keys must cost the same.
 pub fn references_keep_the_newest<K: Eq + Hash, V, S: KeyHasher<K>>() {}
 
 /// More capacity never means more misses. Suppose that the references of one trace are made on two maps, by any calls,
-/// and that the keys of the map with the smaller limit were the newest keys of the other map. Then they are so after
-/// the trace, too (`front`), and the map with the smaller limit misses at least as often (`misses`).
+/// and that the keys of the map with the smaller limit were the newest keys of the other map. Then they are its newest
+/// keys after the trace, too (`front`), and the map with the smaller limit misses at least as often (`misses`).
 pub fn more_capacity_never_misses_more<K: Eq + Hash, V, S: KeyHasher<K>>() {}

@@ -1,5 +1,5 @@
 // Erased from crates/lru_replay/src/lines.rt: do not edit.
-//! Runs of calls, as lines from a reader to a writer: what lines mean, and the texts of answers.
+//! What the lines of a replay mean, and the texts of its answers.
 
 #[allow(unused_imports)]
 use crate::rattle_std::prelude::*;

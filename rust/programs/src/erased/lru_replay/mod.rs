@@ -2,10 +2,10 @@
 //! Runs of calls on an LRU map: as lists of calls, and as lines from a reader to a writer.
 //!
 //! [`run_calls`] carries out a list of calls on a map of any keys, values, limiter and hasher. [`run_summing`] does
-//! this under a limiter with a running total, and carries out no write that would make the total wrong. [`replay`]
-//! reads lines that spell [`Call`]s, and writes their answers. `docs/REPLAY.md` lists the lines. All three are runs of
-//! the same steps, which `docs/RUNS.md` explains. The theorems on runs are the contracts of the functions of [`laws`].
-//! The theorems on programs that refer to keys, by any calls, are in [`references`] (`docs/THEORY.md`).
+//! this under a limiter with a running total, and makes no call that would make the total wrong. [`replay`] reads lines
+//! that spell [`Call`]s, and writes their answers. `docs/REPLAY.md` lists the lines. All three functions carry out the
+//! same steps, which `docs/RUNS.md` explains. The theorems on runs are the contracts of the functions of [`laws`]. The
+//! theorems on programs that refer to keys, by any calls, are in [`references`] (`docs/THEORY.md`).
 
 #[allow(unused_imports)]
 use crate::rattle_std::prelude::*;

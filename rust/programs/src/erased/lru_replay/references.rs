@@ -1,6 +1,6 @@
 // Erased from crates/lru_replay/src/references.rt: do not edit.
-//! Programs that make references: how they leave a map with `ByLength`, and how often they miss. The functions do
-//! nothing: their contracts are the theorems. `docs/THEORY.md` explains each theorem.
+//! Theorems on programs that make references on a map with `ByLength`. The functions do nothing; their contracts are
+//! the theorems. `docs/THEORY.md` explains each theorem.
 
 #[allow(unused_imports)]
 use crate::rattle_std::prelude::*;
@@ -10,8 +10,8 @@ use crate::erased::lru_model::laws;
 use crate::rattle_std::hash::Hash;
 
 /// These calls make a reference if they return `Ok`: an insert (`inserts`), an insert that evicts nothing (`tries`),
-/// and a call of a memo (`remembers`). A get that finds the key makes one, whatever is written through the loan
-/// (`gets`), and so does a promotion of a key that is there (`promotes`). If a get returns `None`, the insert after it
+/// and a call of a memo (`remembers`). If the map contains the key, a get makes a reference, whatever is written
+/// through the loan (`gets`), and a promotion makes one, too (`promotes`). If a get returns `None`, the insert after it
 /// makes the reference. A reference to a key is also a reference to each equal key (`equal`).
 pub fn calls_make_references<K: Eq + Hash, V, S: KeyHasher<K>>() {
     laws::inserts_leave_the_newest::<K, V, S>();
@@ -33,7 +33,7 @@ pub fn gets_that_insert_if_made_make_references<K: Eq + Hash, V, E, F: FnOnce() 
     laws::calls_keep_the_length::<K, V, ByLength, S>();
 }
 
-/// What other calls do to the keys: a get or a promotion, even of a key that is not there (`promotes`), a removal
+/// What other calls do to the keys: a get or a promotion, even if the key is not in the map (`promotes`), a removal
 /// (`removes`), a clear (`clears`), a reservation (`reserves`), a shrink (`shrinks`), a write (`writes`), and a call
 /// that changes nothing (`looks`).
 pub fn calls_change_the_keys<K: Eq + Hash, V, S: KeyHasher<K>>() {
@@ -42,32 +42,33 @@ pub fn calls_change_the_keys<K: Eq + Hash, V, S: KeyHasher<K>>() {
     laws::calls_keep_the_length::<K, V, ByLength, S>();
 }
 
-/// A program that made the references of a trace makes one more reference, which finds its key (`hits`) or does not
-/// (`misses`). The map still keeps to its length (`keeps`).
+/// A program made the references of a trace, and makes one more reference. The reference finds its key (`hits`), or
+/// misses (`misses`). The map still keeps to its length (`keeps`).
 pub fn programs_make_references<K: Eq + Hash, V, S: KeyHasher<K>>() {}
 
-/// A program that makes the references of a trace leaves the `max_length` keys that were referenced last (`keys`). It
-/// misses exactly at the references whose reuse distance is at least `max_length`, and at the first reference to each
-/// key (`misses`). The keys that were in the map before count as referenced, the oldest first. The map counts the
-/// misses: `placed`, the count of entries that inserts stored, rises by the number of misses (`stored`).
+/// After the references of a trace, the map contains the `max_length` keys that were referenced last (`keys`). A
+/// reference misses exactly if it is the first reference to its key, or if its reuse distance is at least `max_length`
+/// (`misses`). Keys that were in the map before count as referenced before the trace, the oldest key first. The map
+/// counts the misses: `placed`, the count of entries that inserts stored, rises by the number of misses (`stored`).
 pub fn references_keep_the_newest<K: Eq + Hash, V, S: KeyHasher<K>>() {}
 
 /// More capacity never means more misses. Suppose that the references of one trace are made on two maps, by any calls.
-/// If the keys of the smaller map were the newest keys of the larger map, they are so after the trace, too (`front`).
-/// If the larger map contained the keys of the smaller map in any order, the smaller map misses at least as often
-/// (`misses`).
+/// If the keys of the smaller map were the newest keys of the larger map, they are its newest keys after the trace, too
+/// (`front`). If they were included in the keys of the larger map (`IsIncluded`), the smaller map misses at least as
+/// often (`misses`).
 pub fn more_capacity_never_misses_more<K: Eq + Hash, V, S: KeyHasher<K>>() {}
 
-/// If a larger map contains the keys of a smaller map, it contains them after the same calls, too (`included`). So the
-/// larger map finds each key that the smaller map finds (`finds`). The calls are those of `calls_change_the_keys`, and
-/// references.
+/// If the keys of a smaller map are included in the keys of a larger map, they are included after the same calls, too
+/// (`included`). So the larger map finds each key that the smaller map finds (`finds`). The calls are references and
+/// the calls of `calls_change_the_keys`.
 pub fn a_smaller_map_is_included<K: Eq + Hash, V, S: KeyHasher<K>>() {}
 
-/// LRU is competitive, whichever calls make the references. Take any policy with h places, even one that knows the
-/// whole trace in advance. It begins with the keys `first`, and pays `paid` times for the same references. A map with
-/// `ByLength(k)`, h ≤ k, may contain any keys before. If the policy stores each key, ahead (`loads`) or on demand
-/// (`demands`), the map misses at most `k / (k + 1 - h) * paid + length first` times. If the policy need not store a
-/// key, the map misses at most `k / (k - h) * paid + length first` times (`bypasses`).
+/// LRU is competitive, whichever calls make the references. Take any policy with h places, even a policy that knows the
+/// whole trace in advance. The policy begins with the keys `first`, and pays `paid` times for the same references. A
+/// map with `ByLength(k)`, h ≤ k, may contain any keys before. If the policy stores each referenced key, ahead
+/// (`loads`) or on demand (`demands`), the map misses at most `k / (k + 1 - h) * paid + length first` times. If the
+/// policy need not store the key, and h < k, the map misses at most `k / (k - h) * paid + length first` times
+/// (`bypasses`).
 pub fn maps_are_competitive<K: Eq + Hash, V, S: KeyHasher<K>>() {
     references_keep_the_newest::<K, V, S>();
     crate::erased::lru_theory::lru_is_competitive::<K>();

@@ -1,5 +1,5 @@
 // Erased from crates/lru_replay_tests/src/caches.rt: do not edit.
-//! Calls of the caches of `lru_caches` that are references: a memo, a loader and a page cache.
+//! References by calls of `lru_caches`: of a memo, a loader and a page cache.
 
 #[allow(unused_imports)]
 use crate::rattle_std::prelude::*;
@@ -8,13 +8,14 @@ use crate::erased::lru_caches::{BlockDevice, Loader, Memo, PageCache, PageError}
 use crate::erased::schnellru::{ByLength, RandomState};
 use crate::programs::lru_replay::references::calls_make_references;
 
-/// Returns an answer of a memo. Unless the memo ran out of memory, the call is a reference.
+/// Returns an answer of a memo. If the memo did not run out of memory, the call is a reference.
 fn answer<F: Fn(&String) -> u64>(memo: &mut Memo<String, u64, F, ByLength>, key: String) -> u64 {
     calls_make_references::<String, u64, RandomState>();
     memo.answer(key)
 }
 
-/// Returns a value of a loader. If it was loaded, and the loader did not run out of memory, the call is a reference.
+/// Returns a value of a loader. If the call returns `Ok`, and the loader did not run out of memory, the call is a
+/// reference.
 fn load<F: Fn(&String) -> Result<u64, u64>>(
     loader: &mut Loader<String, u64, F, ByLength>,
     key: String,
@@ -24,9 +25,9 @@ fn load<F: Fn(&String) -> Result<u64, u64>>(
     Ok(value)
 }
 
-/// Reads a block through a page cache that has no pins and may evict dirty pages. The pages change as the keys of an
-/// LRU cache do at a reference to the number (`refers`). So if they were the pages of the numbers that were read last,
-/// they still are (`newest`).
+/// Reads a block through a page cache that has no pins and may evict dirty pages. The read is a reference to the
+/// number: the numbers of the pages change like the keys of an LRU cache (`refers`). So if they were the numbers that
+/// were read last, they still are (`newest`).
 fn read<D: BlockDevice<u8>>(cache: &mut PageCache<u8, D>, n: u64) -> Result<u8, PageError<D::Error>> {
     crate::erased::lru_theory::a_cache_is_the_newest::<u64>();
     cache.without_pins_the_newest_stay();
@@ -34,7 +35,7 @@ fn read<D: BlockDevice<u8>>(cache: &mut PageCache<u8, D>, n: u64) -> Result<u8, 
     Ok(block)
 }
 
-/// Reads a block through two page caches without pins. The smaller cache stays included in the larger one.
+/// Reads a block through two page caches without pins. The smaller cache stays included in the larger cache.
 fn read_both<D: BlockDevice<u8>>(
     small: &mut PageCache<u8, D>,
     large: &mut PageCache<u8, D>,

@@ -1,5 +1,5 @@
 // Erased from crates/lru_replay_tests/src/callers.rt: do not edit.
-//! Callers of runs, whose contracts follow from laws on runs: the code of docs/CALLING.md.
+//! Callers of runs, as in docs/CALLING.md. Their contracts follow from laws on runs.
 
 #[allow(unused_imports)]
 use crate::rattle_std::prelude::*;
@@ -10,8 +10,8 @@ use crate::programs::lru_replay::laws::{granted_calls_are_exact, lists_are_runs}
 use crate::programs::lru_replay::{Answer, Call, run_calls, run_summing};
 use crate::rattle_std::alloc::{AllocError, Global};
 
-/// Inserts two entries by a list of calls, into a map that is within its limits, and leaves it within them. Of the
-/// entries of other keys the newest are left, in their order, and the inserts pay for the entries that they move.
+/// Inserts two entries by a list of calls. A map that was within its limits still is. The newest entries of other keys
+/// stay, in their order. The moved entries are paid for.
 fn put_both(
     alloc: Global,
     map: &mut LruMap<u64, u64, Both<ByLength, ByMemoryUsage>>,
@@ -31,7 +31,7 @@ fn put_both(
     run_calls(alloc, map, calls)
 }
 
-/// Inserts two entries by a list of calls, into a map that is within its total cost, and leaves it within that cost.
+/// Inserts two entries by a list of calls. A map that was within its limit of cost still is.
 fn charge_both(
     alloc: Global,
     map: &mut LruMap<u64, u64, ByCost>,
@@ -48,8 +48,8 @@ fn charge_both(
     run_summing(alloc, map, calls)
 }
 
-/// Makes calls on a map with a maximum length. They do what they would do to a list without a table, if the link type
-/// and memory permit a table for 8 * (n + m + 1) entries, with n entries before and m calls.
+/// Makes m calls on a map with a maximum length and n entries. If there is a table for 8 * (n + m + 1) entries, the
+/// calls do to the map what they do to a list without a table.
 fn call_on_list<S: KeyHasher<u64>>(
     alloc: Global,
     map: &mut LruMap<u64, u64, ByLength, S>,

@@ -1,5 +1,5 @@
 // Erased from crates/lru_replay_tests/src/costs.rt: do not edit.
-//! Programs with `String` keys under a limit of cost, that prove how often they load a value.
+//! Programs with `String` keys under a limit of cost. Their contracts say how often they load a value.
 
 #[allow(unused_imports)]
 use crate::rattle_std::prelude::*;
@@ -18,7 +18,7 @@ trait Source {
     fn load(&self, text: &String) -> Result<Vec<u8>, AllocError>;
 }
 
-/// Looks up a text, and loads and inserts its value if it is not there. Returns how many values it loaded.
+/// Looks up a text. If the text is not there, loads and inserts its value. Returns how many values it loaded.
 fn load_at_miss<L: Source>(
     map: &mut LruMap<String, Vec<u8>, ByCost>,
     text: &String,
@@ -33,8 +33,8 @@ fn load_at_miss<L: Source>(
     Ok(1)
 }
 
-/// Looks up each text by `load_at_miss`, and returns how often this loaded a value: exactly as often as a cache with
-/// this limit misses.
+/// Looks up each text by `load_at_miss`, and returns how many values this loaded: one for each miss of a cache with
+/// this limit.
 fn read_through<L: Source>(
     map: &mut LruMap<String, Vec<u8>, ByCost>,
     texts: &[String],
@@ -76,8 +76,8 @@ fn read_both<L: Source>(
     Ok((read_through(small, texts, source)?, read_through(large, texts, source)?))
 }
 
-/// Makes a text the newest, with a value that is made if it is not there. If a text determines how many bytes its value
-/// has, this is a reference.
+/// Makes a text the newest. If the text is not there, makes its value. If each text determines how many bytes its value
+/// has, the call is a reference.
 fn remember<F: FnOnce() -> Vec<u8>>(
     map: &mut LruMap<String, Vec<u8>, ByCost>,
     text: String,
@@ -98,7 +98,8 @@ fn try_to_remember<F: FnOnce() -> Result<Vec<u8>, u64>>(
     Ok(kept)
 }
 
-/// Inserts a text under a number, with a limit of weight. If an entry costs what its key costs, this is a reference.
+/// Inserts a text under a number, with a limit of weight. If the entry costs what its key costs, the call is a
+/// reference.
 fn insert_weighed(map: &mut LruMap<u64, String, ByWeight<16>>, key: u64, text: String) -> Result<bool, AllocError> {
     calls_make_references::<u64, String, RandomState>();
     let kept = map.insert(key, text)?;

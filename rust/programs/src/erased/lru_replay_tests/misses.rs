@@ -15,7 +15,7 @@ fn misses_on_map(alloc: Global, texts: &[String], length: u32) -> Result<u64, Al
 }
 
 /// Counts the misses of a new map, and compares them with any policy with h places. The policy may know the texts in
-/// advance and load them ahead, and pays for each text that it loads.
+/// advance and load them ahead. It pays for each text that it loads.
 fn near_best(alloc: Global, texts: &[String], length: u32) -> Result<u64, AllocError> {
     crate::erased::lru_theory::lru_is_near_min::<String>();
     crate::erased::lru_theory::min_is_best::<String>();

@@ -1,6 +1,5 @@
 // Erased from crates/lru_replay_tests/src/lib.rt: do not edit.
-//! Tests of `lru_replay` through its public calls, for what no contract says: runs that run out of memory, and the
-//! printed texts.
+//! Tests of what no contract of `lru_replay` says: runs that run out of memory, and the printed texts.
 
 #[allow(unused_imports)]
 use crate::rattle_std::prelude::*;

@@ -1,5 +1,5 @@
 // Erased from crates/lru_replay_tests/src/references.rt: do not edit.
-//! Programs with `String` keys that make references, and prove how often they miss.
+//! Programs with `String` keys that make references. Their contracts say how often they miss.
 
 #[allow(unused_imports)]
 use crate::rattle_std::prelude::*;
@@ -10,7 +10,7 @@ use crate::programs::lru_replay::references::{
 };
 use crate::rattle_std::alloc::{AllocError, Global};
 
-/// Looks up a text, and computes and inserts its value if it is not there. Returns how many values it computed.
+/// Looks up a text. If the text is not there, computes and inserts its value. Returns how many values it computed.
 fn compute_at_miss<F: Fn(&String) -> u64>(
     map: &mut LruMap<String, u64>,
     text: &String,
@@ -25,8 +25,7 @@ fn compute_at_miss<F: Fn(&String) -> u64>(
     Ok(1)
 }
 
-/// Looks up each text by `compute_at_miss`, and returns how often this computed a value: once for each miss of the
-/// trace.
+/// Looks up each text by `compute_at_miss`, and returns how many values this computed: one for each miss of the trace.
 pub fn read_through<F: Fn(&String) -> u64>(
     map: &mut LruMap<String, u64>,
     texts: &[String],
@@ -41,9 +40,9 @@ pub fn read_through<F: Fn(&String) -> u64>(
     Ok(count)
 }
 
-/// Computes the values of the texts with two new maps. The larger map computes no more often. No policy with h places
-/// pays less than (length + 1 - h) / length times as often as the smaller map computes, even if the policy knows the
-/// texts in advance and loads them ahead.
+/// Computes the values of the texts with two new maps. The larger map computes at most as many. If the smaller map has
+/// `length` places and computes n values, each policy with h places pays at least (length + 1 - h) / length * n times,
+/// even if it knows the texts in advance and loads them ahead.
 fn compare<F: Fn(&String) -> u64>(
     alloc: Global,
     texts: &[String],

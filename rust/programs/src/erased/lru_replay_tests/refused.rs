@@ -1,5 +1,5 @@
 // Erased from crates/lru_replay_tests/src/refused.rt: do not edit.
-//! Runs of calls, as lists and as lines, in which the first requests for memory succeed and the next one fails.
+//! Runs of calls, as lists and as lines. The first requests for memory succeed, and the next request fails.
 #[allow(unused_imports)]
 use crate::rattle_std::prelude::*;
 
@@ -47,8 +47,8 @@ fn hog_that_meets(alloc: Global, requests: &[usize], met: usize) -> Result<Hog, 
     Ok(hog)
 }
 
-/// Makes three calls on a map of seven entries: an insert that grows a table of 8 buckets, a list, and a drain. The
-/// first `met` requests for memory succeed.
+/// Makes three calls on a map of seven entries: an insert that grows a table of 8 buckets, a list, and a drain. Only
+/// the first `met` requests for memory succeed.
 fn is_as_expected(alloc: Global, met: usize, sums: bool) -> Result<bool, AllocError> {
     let mut map = map_of(alloc, ByCost::new(1000));
     insert_all(&mut map, 1..=7)?;

@@ -52,7 +52,7 @@ fn looks_ahead(alloc: Global) -> Result<bool, TraceError> {
     Ok(curve.best()?.is_some())
 }
 
-/// With too little memory a curve does not look ahead.
+/// If memory runs out, `Curve::best` fails.
 #[test]
 fn looking_ahead_without_memory() {
     let run = |rt: HostRuntime| -> Result<(), Fail> {

@@ -47,7 +47,7 @@ pub(crate) fn main(rt: HostRuntime) -> ExitCode {
         return ExitCode::from(NO_BUFFER);
     };
     let end = replay(rt.alloc(), &mut reader, &mut writer);
-    // After a failed write the buffer still contains bytes. Its drop would write them again.
+    // After a failed write the buffer still contains bytes. Dropping the buffer would write them again.
     let (_output, _unwritten) = writer.into_parts();
     ExitCode::from(status(&end))
 }

@@ -7,13 +7,13 @@ use crate::erased::lru_limits::{ByCost, ByLength, ByMemoryUsage, LinkType, Stori
 use crate::programs::test_helpers::{Alternating, Blanking, LinkedBy};
 use crate::rattle_std::marker::PhantomData;
 
-/// A limiter that is made from a number, which `number_of` finds in the words of the limiter.
+/// A limiter that is made from a number. `number_of` finds the number in the words of the limiter.
 pub trait Numbered: Sized {
     fn of(number: u64) -> Self;
 }
 
-/// Returns the number from which the limiter with these words is made. Some words stand for a number. For other words
-/// it is the number at their end, or 0 if there is none.
+/// Returns the number from which the limiter with these words is made. Some words stand for a number. Otherwise it is
+/// the number at the end of the words, or 0 if there is none.
 pub fn number_of(words: &str) -> u64 {
     match words {
         "no growth at first" | "blank values" => 0,

@@ -1,6 +1,6 @@
 // Erased from crates/rows/src/lines.rt: do not edit.
-//! Rows of program lines. Each row is replayed in one piece, in single bytes, and with each read and each write failing
-//! in turn.
+//! Rows of lines of the program `replay`. Each row is replayed in one piece, in single bytes, and with each read and
+//! each write failing in turn.
 #[allow(unused_imports)]
 use crate::rattle_std::prelude::*;
 
@@ -10,7 +10,7 @@ use crate::programs::rows::streams::{Failure, Narrow, Slow, count_lines, error_a
 use crate::rattle_std::alloc::Global;
 use crate::rattle_std::io::{BufReader, ErrorKind};
 
-/// The longest input for which each read and each write fails in turn.
+/// The longest input for which each read and each write fails in turn. For a longer input only the first three do.
 const LONGEST_CUT: usize = 2000;
 
 type End = Result<ReplayEnd, ReplayError>;
@@ -33,13 +33,13 @@ fn replay_slowly(alloc: Global, slow: Slow, writer: &mut Narrow) -> Option<End> 
     }
 }
 
-/// Returns the first way in which a replay of the row does not end as it must, with the number of the read or write.
+/// Returns the first fault of a replay of the row, with the number of the failed read or write.
 pub fn first_fault(alloc: Global, row: &Row) -> Option<(&'static str, usize)> {
     if !in_pieces(alloc, row) {
         return Some(("single bytes, or by its status", 0));
     }
     let longest = row.input.len().max(row.text.len());
-    // The last read that can fail reaches the end of the input.
+    // Read number `input.len()` is the last read, at the end of the input.
     let tried = if row.input.len() > LONGEST_CUT { 2 } else { longest };
     for at in 0..=tried {
         if !with_failing_flush(alloc, row, at) {
@@ -55,7 +55,7 @@ pub fn first_fault(alloc: Global, row: &Row) -> Option<(&'static str, usize)> {
     None
 }
 
-/// Returns whether the replay ends with the status and the text of the row, however the input is cut, and flushes once.
+/// Returns whether a replay in single bytes ends with the status and the text of the row, and flushes once.
 fn in_pieces(alloc: Global, row: &Row) -> bool {
     let slow = Slow::new(row.input.as_slice(), 1).failing(3, ErrorKind::Interrupted);
     let interrupted = Failure::Error(ErrorKind::Interrupted);
@@ -66,7 +66,7 @@ fn in_pieces(alloc: Global, row: &Row) -> bool {
     status(&end) == row.status && writer.has(row.text.as_slice(), 1)
 }
 
-/// Returns whether a failed flush is reported after the whole text.
+/// Returns whether the replay writes the whole text, and then reports a failed flush.
 fn with_failing_flush(alloc: Global, row: &Row, at: usize) -> bool {
     let mut reader = row.input.as_slice();
     let mut writer = Narrow::new(alloc, 100);
@@ -75,8 +75,8 @@ fn with_failing_flush(alloc: Global, row: &Row, at: usize) -> bool {
     end == Err(ReplayError::Write) && writer.has(row.text.as_slice(), 1)
 }
 
-/// Returns whether the replay ends as it must if read `at` fails. If the first line names no limiter, no later read is
-/// made.
+/// Returns whether the replay ends correctly if read `at` fails. If the first line names no limiter, the replay makes
+/// no later read.
 fn with_failing_read(alloc: Global, row: &Row, at: usize) -> bool {
     let input = row.input.as_slice();
     let slow = Slow::new(input, 1).failing(at, error_at(at));
@@ -90,8 +90,8 @@ fn with_failing_read(alloc: Global, row: &Row, at: usize) -> bool {
     end == Some(Err(ReplayError::Read)) && writer.has(text, 1)
 }
 
-/// Lets a write fail, on a writer that takes single bytes. Returns whether the front of the text is written, no line is
-/// read after the line that was being answered, and nothing is flushed.
+/// Lets write `at` fail, on a writer that takes single bytes. Returns whether the first `at` bytes of the text are
+/// written, no line is read after the line that was being answered, and nothing is flushed.
 fn with_failing_write(alloc: Global, row: &Row, at: usize) -> bool {
     let failure = if at % 4 == 0 { Failure::NoBytes } else { Failure::Error(error_at(at)) };
     let mut reader = row.input.as_slice();

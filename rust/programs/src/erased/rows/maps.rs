@@ -1,5 +1,5 @@
 // Erased from crates/rows/src/maps.rt: do not edit.
-//! Rows of calls on a map under any limiter, which the lines of the program cannot spell.
+//! Rows of calls on a map under any limiter. The program `replay` cannot spell all these limiters and calls.
 #[allow(unused_imports)]
 use crate::rattle_std::prelude::*;
 

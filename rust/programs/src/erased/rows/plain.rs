@@ -15,7 +15,7 @@ pub enum Limit {
     Unlimited,
 }
 
-/// If memory runs out, its entries are wrong, and no trial agrees with them.
+/// If memory runs out, the entries are wrong, and the trial fails.
 
 pub(crate) struct Plain {
     pub(crate) limit: Limit,

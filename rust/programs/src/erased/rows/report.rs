@@ -1,5 +1,4 @@
 // Erased from crates/rows/src/report.rt: do not edit.
-//! What is printed about a row that fails.
 #[allow(unused_imports)]
 use crate::rattle_std::prelude::*;
 

@@ -1,5 +1,5 @@
 // Erased from crates/rows/src/streams.rt: do not edit.
-//! Readers and writers in memory that give and take few bytes in each call, and fail at one call.
+//! Readers and writers in memory that give or take few bytes in each call, and fail at given calls.
 #[allow(unused_imports)]
 use crate::rattle_std::prelude::*;
 
@@ -48,7 +48,7 @@ pub enum Failure {
     NoBytes,
 }
 
-/// Takes at most `most` bytes in each write, fails `times` times from write `fails_at` on, counted from 0, and counts
+/// Takes at most `most` bytes in each write, and fails `times` times from write `fails_at` on, counted from 0. Counts
 /// its flushes.
 
 pub struct Narrow {

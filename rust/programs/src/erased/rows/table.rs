@@ -1,6 +1,6 @@
 // Erased from crates/rows/src/table.rt: do not edit.
-//! The figures of a table of at most 16 buckets, by the rules of `docs/TABLE.md`. Such a table has no deleted buckets,
-//! so its figures follow from the calls.
+//! The figures of a table of at most 16 buckets, by the rules of `docs/TABLE.md`. A table of this size has no deleted
+//! buckets, so the calls determine its figures.
 #[allow(unused_imports)]
 use crate::rattle_std::prelude::*;
 
@@ -17,7 +17,8 @@ pub(crate) struct Table {
     pub(crate) shrunk: u64,
 }
 
-/// Returns the number of buckets for `pairs` pairs: 0 for none, and otherwise 4, doubled until it holds the pairs.
+/// Returns the number of buckets for `pairs` pairs: 0 for none, and otherwise the first of 4, 8, 16, .. that can hold
+/// the pairs.
 fn buckets_for(pairs: u64) -> u64 {
     match pairs {
         0 => 0,

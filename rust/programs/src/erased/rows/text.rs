@@ -1,12 +1,11 @@
 // Erased from crates/rows/src/text.rt: do not edit.
-//! A text to which parts are added.
 #[allow(unused_imports)]
 use crate::rattle_std::prelude::*;
 
 use crate::rattle_std::alloc::Global;
 use crate::rattle_std::fmt::{Debug, Write};
 
-/// A text. If memory runs out, the text lacks what was added, and differs from the text that it is compared with.
+/// A text. If memory runs out, the text lacks a part, and so its row fails.
 
 pub struct Text(String);
 

@@ -110,7 +110,7 @@ impl Trial {
             }
             ..=27 => self.add_list_or_stats(),
             ..=59 => {
-                // A large table may have buckets to spare or not, so each of the two answers is read as "ok".
+                // The plain list does not know whether a large table gets smaller, so both answers are read as "ok".
                 self.word("shrink");
                 self.plain.shrink();
                 self.text.word("ok");

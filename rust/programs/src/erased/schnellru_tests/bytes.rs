@@ -1,5 +1,5 @@
 // Erased from crates/schnellru_tests/src/bytes.rt: do not edit.
-//! A cache of texts of at most 200 MiB: a line of code and a theorem.
+//! A cache of texts that takes at most 200 MiB: a line of code and a theorem.
 
 #[allow(unused_imports)]
 use crate::rattle_std::prelude::*;

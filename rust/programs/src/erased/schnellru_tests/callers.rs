@@ -11,7 +11,8 @@ use crate::erased::schnellru::{
 use crate::rattle_std::alloc::{AllocError, Global};
 use crate::rattle_std::hash::Hash;
 
-/// Puts a value under a key, and returns whether the key is there afterwards. If it is, a look-up returns the value.
+/// Puts a value under a key, and returns whether the key is there afterwards. If the key is there, a look-up returns
+/// the value.
 fn put(map: &mut LruMap<u64, u64>, key: u64, value: u64) -> Result<bool, AllocError> {
     let kept = map.insert(key, value)?;
     if kept {
@@ -21,7 +22,7 @@ fn put(map: &mut LruMap<u64, u64>, key: u64, value: u64) -> Result<bool, AllocEr
     Ok(kept)
 }
 
-/// Puts a value as `put` does, for any types, under a limiter that stores each value as it comes.
+/// Does what `put` does, for any types, with a limiter that stores values unchanged.
 fn put_any<K: Eq + Hash, V, L: Insertion<K, V, K>>(
     map: &mut LruMap<K, V, L>,
     key: K,
@@ -34,7 +35,8 @@ fn touch(map: &mut LruMap<u64, u64>, key: u64) -> bool {
     map.promote(&key)
 }
 
-/// Writes a value under a key if the key is there, and returns whether it is. Then a look-up returns the value.
+/// Writes a value under a key, if the key is there, and returns whether the key is there. If so, a look-up returns the
+/// value.
 fn overwrite(map: &mut LruMap<u64, u64>, key: u64, value: u64) -> bool {
     match map.get(&key) {
         Some(place) => {
@@ -72,7 +74,7 @@ fn fetch<F: Fn(&String) -> String>(
     Ok(text)
 }
 
-/// Puts a number under each text into a new map. Growth moved each stored entry at most twice on average.
+/// Puts a number under each text into a new map. On average, growth moved each stored entry at most twice.
 fn count_all(alloc: Global, texts: &[String]) -> Result<MoveReport, AllocError> {
     laws::runs_begin_with_maps::<String, u64, ByLength, RandomState>();
     laws::inserts_pay_for_moves::<String, u64, String, ByLength, RandomState>();
@@ -84,7 +86,7 @@ fn count_all(alloc: Global, texts: &[String]) -> Result<MoveReport, AllocError> 
 }
 
 /// Puts a number under each new text into a new map, and evicts nothing. The table makes at most three insertions for
-/// each text, including those that move entries.
+/// each text, including the insertions of moved entries.
 fn keep_all(alloc: Global, texts: &[String]) -> Result<LruMap<String, u64>, AllocError> {
     laws::runs_begin_with_maps::<String, u64, ByLength, RandomState>();
     laws::try_inserts_pay_for_moves::<String, u64, ByLength, RandomState>();
@@ -101,7 +103,7 @@ fn put_within(map: &mut LruMap<String, u64>, key: String, value: u64) -> Result<
     map.insert(key, value)
 }
 
-/// Puts an entry as `put_within` does, under two limits, by length and by the bytes of the table.
+/// Does what `put_within` does, under two limits: of the length, and of the bytes of the table.
 fn put_within_both(
     map: &mut LruMap<String, u64, Both<ByLength, ByMemoryUsage>>,
     key: String,
@@ -124,8 +126,8 @@ fn exchange(
     map.insert(new, text)
 }
 
-/// Inserts an entry, pops it, and inserts another entry. Each insert evicts only from the old end, both inserts pay for
-/// the entries that they move, and no two keys are equal afterwards.
+/// Inserts an entry, pops it, and inserts another entry. Each insert evicts only the oldest entries, both inserts pay
+/// for the entries that they move, and no two keys are equal afterwards.
 fn put_two(map: &mut LruMap<String, u64>, first: String, second: String, value: u64) -> Result<(), AllocError> {
     laws::runs_keep_maps::<String, u64, String, ByLength, RandomState>();
     laws::each_insert_of_a_run_evicts_the_oldest::<String, u64, String, ByLength, RandomState>();

@@ -184,26 +184,35 @@ fn map_12(map: &mut LruMap<u64, u64>) -> bool {
 fn map_13(map: &mut LruMap<u64, u64>) -> bool {
     let held = all!(fill(map), map.try_insert(4, 40) == Err((4, 40)));
     map.pop_oldest();
-    let held = held
-        & all!(
-            (map.try_insert(4, 40), map.try_insert(4, 41)) == (Ok(()), Err((4, 41))),
-            fill(map),
-            map.update(1, 11) == Updated::Replaced(10),
-            is_pair(map.peek_oldest(), 1, 11) && map.update(9, 90) == Updated::Absent(90),
-            fill(map)
-        );
-    let mut left = None;
-    map.update_with(2, 21, &mut |key, value| left = Some((key, value)));
-    held & all!(left.is_none() && is_value(map.peek(&2), 21))
+    held & all!((map.try_insert(4, 40), map.try_insert(4, 41)) == (Ok(()), Err((4, 41))))
 }
 
-fn map_14(map: &mut LruMap<u64, u64>) -> bool {
-    let held = fill(map);
+fn map_14<S: KeyHasher<u64>>(map: &mut LruMap<u64, u64, ByLength, S>) -> bool {
+    let hash = map.hasher().hash_named(&4);
+    let held = map.try_insert_hashed(hash, 4, 40) == Err((4, 40));
+    map.pop_oldest();
+    held & all!(map.try_insert_hashed(hash, 4, 40) == Ok(()))
+}
+
+fn map_15(map: &mut LruMap<u64, u64>) -> bool {
+    let held = all!(
+        fill(map),
+        map.update(1, 11) == Updated::Replaced(10),
+        is_pair(map.peek_oldest(), 1, 11) && map.update(9, 90) == Updated::Absent(90),
+        fill(map)
+    );
+    let mut left = None;
+    map.update_with(2, 21, &mut |key, value| left = Some((key, value)));
+    let held = held & all!(left.is_none() && is_value(map.peek(&2), 21), fill(map));
     let mut sum = 0u64;
     for (key, value) in map.drain() {
         sum = sum.wrapping_add(key.wrapping_mul(value));
     }
-    let held = held & all!(map.is_empty(), fill(map));
+    held & all!(map.is_empty())
+}
+
+fn map_16(map: &mut LruMap<u64, u64>) -> bool {
+    let held = fill(map);
     let mut walk = map.iter_mut();
     if walk.len() > 0 {
         let (_, value) = walk.lend_next();
@@ -215,11 +224,7 @@ fn map_14(map: &mut LruMap<u64, u64>) -> bool {
         let (_, value) = walk.lend_next_back();
         *value = 100;
     }
-    held
-}
-
-fn map_15(map: &mut LruMap<u64, u64>) -> bool {
-    let held = fill(map);
+    let held = held & all!(fill(map));
     let mut walk = map.iter_mut();
     if let Some((_, value)) = walk.next() {
         *value = 300;
@@ -227,30 +232,29 @@ fn map_15(map: &mut LruMap<u64, u64>) -> bool {
     if let Some((_, value)) = walk.next_back() {
         *value = 100;
     }
-    let held = held & all!(walk.len() == 1, fill(map));
-    map.for_each_mut(|_, value| *value = value.saturating_add(1));
-    let held = held & all!(is_value(map.peek(&1), 11), fill(map));
-    let mut walk = map.iter();
-    held & all!(is_pair(walk.next_back(), 1, 10) && walk.len() == 2)
-}
-
-fn map_16(map: &mut LruMap<u64, u64>) -> bool {
-    let held = fill(map);
-    let mut total = 0u64;
-    for (key, value) in map.iter() {
-        total = total.wrapping_add(key.wrapping_mul(*value));
-    }
-    held & all!(
-        total == 140,
-        is_value(map.keys().next(), 3) && is_value(map.keys().next_back(), 1),
-        is_value(map.values().next(), 30) && map.values().len() == 3,
-        is_pair(map.get_index(0), 3, 30) && map.get_index(3).is_none(),
-        (map.get_index_of(&1), map.get_index_of(&9)) == (Some(2), None)
-    )
+    held & all!(walk.len() == 1)
 }
 
 fn map_17(map: &mut LruMap<u64, u64>) -> bool {
     let held = fill(map);
+    map.for_each_mut(|_, value| *value = value.saturating_add(1));
+    let held = held & all!(is_value(map.peek(&1), 11), fill(map));
+    let mut walk = map.iter();
+    let held = held & all!(is_pair(walk.next_back(), 1, 10) && walk.len() == 2);
+    let mut total = 0u64;
+    for (key, value) in map.iter() {
+        total = total.wrapping_add(key.wrapping_mul(*value));
+    }
+    held & all!(total == 140, is_value(map.keys().next(), 3) && is_value(map.keys().next_back(), 1))
+}
+
+fn map_18(map: &mut LruMap<u64, u64>) -> bool {
+    let held = all!(
+        fill(map),
+        is_value(map.values().next(), 30) && map.values().len() == 3,
+        is_pair(map.get_index(0), 3, 30) && map.get_index(3).is_none(),
+        (map.get_index_of(&1), map.get_index_of(&9)) == (Some(2), None)
+    );
     let answer = map.ensure_newest_fallible(4, || Err(7u8));
     held & all!(answer == Err(GetOrInsertError::Caller(7)))
 }
@@ -275,10 +279,12 @@ fn on_a_map() {
             map_11(&mut map),
             map_12(&mut map),
             map_13(&mut map),
+            fill(&mut map),
             map_14(&mut map),
             map_15(&mut map),
             map_16(&mut map),
-            map_17(&mut map)
+            map_17(&mut map),
+            map_18(&mut map)
         );
         check!(rt; held);
     };

@@ -7,7 +7,7 @@ use crate::rattle_std::prelude::*;
 
 use crate::rattle_std::alloc::{AllocError, Global};
 
-// The sizes that are tried: `LARGEST`, again and again halved, and from `SMALL` down each multiple of `STEP`.
+// The sizes that are tried: `LARGEST`, halved again and again, and from `SMALL` down each multiple of `STEP`.
 const LARGEST: usize = 1 << 46;
 
 const SMALL: usize = 2048;

@@ -18,7 +18,7 @@ impl LookupKey<String> for InsertKey<'_> {
     }
 }
 
-/// Limits nothing, takes texts, and counts them.
+/// A limiter that limits nothing, accepts texts, and counts them.
 #[derive(Clone, Copy, Default)]
 pub struct Counting {
     pub inserts: u32,

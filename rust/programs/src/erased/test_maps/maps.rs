@@ -12,7 +12,7 @@ pub fn map_of<L: Limiter<u64, u64>>(alloc: Global, limiter: L) -> LruMap<u64, u6
     LruMap::new(alloc, limiter, [1, 2, 3, 4], 16)
 }
 
-/// Leaves the entries (1, 10), (2, 20) and (3, 30), and a limit of three entries.
+/// Gives the map the entries (1, 10), (2, 20) and (3, 30), and a limit of three entries.
 pub fn fill(map: &mut LruMap<u64, u64>) -> bool {
     map.clear();
     *map.limiter_mut() = ByLength::new(3);

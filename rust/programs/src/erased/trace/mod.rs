@@ -1,6 +1,6 @@
 // Erased from crates/trace/src/main.rt: do not edit.
-//! Prints how often LRU caches of each size miss at a trace, which it reads from standard input. If standard error is a
-//! terminal, it shows the progress there.
+//! Reads a trace from standard input, and prints how often LRU caches of each size miss. If standard error is a
+//! terminal, shows the progress there.
 
 #[allow(unused_imports)]
 use crate::rattle_std::prelude::*;
@@ -103,7 +103,7 @@ impl Asked {
         true
     }
 
-    /// Returns nothing if the best possible policies are to have a warm-up.
+    /// Returns `None` if the arguments ask for the best possible policies and a warm-up.
     fn policies(&self) -> Option<Policies> {
         match (self.best, self.warm_up) {
             (true, None) => Some(Policies::Best),
@@ -163,7 +163,7 @@ fn run(rt: &HostRuntime, options: Options) -> ExitCode {
     let waiting = if errors.is_terminal() { Some(errors) } else { None };
     let mut progress = Progress::new(rt.alloc(), waiting);
     let end = trace(rt.alloc(), options, &mut reader, &mut writer, &mut progress);
-    // After a failed write the buffer still contains bytes. Its drop would write them again.
+    // After a failed write the buffer still contains bytes. Dropping the buffer would write them again.
     let (_output, _unwritten) = writer.into_parts();
     ExitCode::from(status(&end))
 }

@@ -44,7 +44,7 @@ returns-in_err-bring-clause-failed g c =
       c.loop-n.self,
       h.reads,
       subst (λ m. UsesPage d {A = Unit {0}} m c.loop-n.self (Err c.in_err-bring.field-0.0) c.bring.new.self) (sym at)
-      c.in_err-bring.ensures.uses,
+          c.in_err-bring.ensures.uses,
     )
 
 pub returns-clause-reads : goal.returns-clause-reads

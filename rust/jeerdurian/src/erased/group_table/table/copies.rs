@@ -10,16 +10,16 @@ use crate::erased::group_table::table::Table;
 use crate::rattle_std::alloc::AllocError;
 
 impl<T> Table<T> {
-    /// Makes a table of the same buckets, with what `f` returns for each entry.
+    /// Makes a table of the same buckets, with the entry that `f` returns for each entry.
     ///
     /// `f` is called in rising order of the buckets, once for each entry, until it returns an error. Deleted buckets
-    /// stay deleted, so the growth left is the same. The counts of insertions are copied. It takes time O(buckets), and
-    /// two requests for memory.
+    /// stay deleted, so the growth left is the same. The counts of insertions are copied. Takes time O(buckets), and
+    /// two allocations.
     ///
     /// # Errors
     ///
-    /// Out of memory, or the error of `f`. The entries copied so far are dropped. A table without buckets asks for no
-    /// memory, and its copy never fails.
+    /// Out of memory, or the error of `f`. The entries copied so far are dropped. For a table without buckets, the call
+    /// allocates nothing and never fails.
     pub fn clone_with<F: Fn(&T) -> Result<T, AllocError>>(&self, f: F) -> Result<Self, AllocError> {
         let alloc = self.entries.allocator();
         if self.control.is_empty() {

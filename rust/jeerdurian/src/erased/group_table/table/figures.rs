@@ -9,13 +9,13 @@ use crate::erased::group_table::cells::bytes_of;
 use crate::erased::group_table::control::DELETED;
 
 impl<T> Table<T> {
-    /// Returns the number of buckets: none, or a power of two from 4 on.
+    /// Returns the number of buckets: 0, or a power of two from 4 on.
     #[inline]
     pub fn buckets(&self) -> usize {
         self.control.buckets()
     }
 
-    /// Returns whether a table with buckets has a bucket of this number.
+    /// Returns whether the table has bucket b. The table must have buckets.
     ///
     /// ```text
     /// let table: Table<u64> = Table::with_buckets(alloc, 8)?;
@@ -32,13 +32,13 @@ impl<T> Table<T> {
         self.len
     }
 
-    /// Returns the growth left: how many more entries are sure to find an empty bucket.
+    /// Returns the growth left: how many empty buckets may still be filled.
     #[inline]
     pub fn growth_left(&self) -> usize {
         self.growth_left
     }
 
-    /// Returns how many insertions the table has made. A moved entry counts as one insertion. Each count stops at
+    /// Returns how many insertions the table has made. A moved entry counts as one insertion. The count stops at
     /// `u64::MAX`.
     #[inline]
     pub fn insertion_count(&self) -> u64 {

@@ -8,7 +8,7 @@ use crate::erased::group_table::fields::put;
 use crate::erased::group_table::link::LinkType;
 use crate::erased::group_table::probe::{first_free, is_read_first};
 
-// Inserts every entry again, over cleared control bytes, and writes to `links` where each is now.
+// Inserts every entry again into cleared control bytes, and writes the new bucket of each entry to `links`.
 pub(crate) fn place_again<T, N: LinkType, H: Fn(&T) -> u64>(
     before: &Control,
     control: &mut Control,
@@ -17,7 +17,7 @@ pub(crate) fn place_again<T, N: LinkType, H: Fn(&T) -> u64>(
     hash_of: &H,
 ) {
     for b in 0..before.buckets() {
-        // Another entry was moved here, or none was here before.
+        // Bucket b already has its new entry, or had no entry before.
         if control.byte(b) < DELETED || before.byte(b) >= DELETED {
             continue;
         }
@@ -31,7 +31,7 @@ pub(crate) fn place_again<T, N: LinkType, H: Fn(&T) -> u64>(
         let mut next = Some(entries.read(b));
         'turns: while let Some(entry) = next {
             let place = first_free(control, hash);
-            // No entry in a place up to `b` waits.
+            // No entry that waits for its insertion is in a place up to b.
             let byte = if place <= b { EMPTY } else { before.byte(place) };
             next = put(control, entries, place, byte, tag_of(hash), entry);
             (*at_mut!(links, old)) = N::from_usize(place);

@@ -10,7 +10,7 @@ use crate::erased::group_table::probe::first_free;
 use crate::erased::group_table::table::Table;
 
 impl<T> Table<T> {
-    // Inserts an entry without counting it.
+    // Inserts an entry, but does not count the insertion.
     #[inline]
     pub(crate) fn place_fresh(&mut self, hash: u64, entry: T) -> usize {
         let b = first_free(&self.control, hash);
@@ -21,7 +21,7 @@ impl<T> Table<T> {
     }
 }
 
-// The old control bytes say which places hold an entry; afterwards no place does.
+// Moves each entry from `old` to `fresh`. `control` says which places of `old` hold an entry.
 pub(crate) fn move_entries<T, N: LinkType, H: Fn(&T) -> u64>(
     control: &Control,
     old: &mut Entries<T>,

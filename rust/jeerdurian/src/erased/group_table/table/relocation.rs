@@ -1,6 +1,6 @@
 // Erased from crates/group_table/src/table/relocation.rt: do not edit.
-//! The calls of `Table` that move every entry. They do not require `T: Drop`, so a body that forgets an entry or a
-//! table does not compile.
+//! The calls of `Table` that move every entry. They do not require `T: Drop`, so code that forgets an entry or a table
+//! does not compile.
 
 #[allow(unused_imports)]
 use crate::rattle_std::prelude::*;
@@ -18,17 +18,17 @@ use crate::rattle_std::mem;
 impl<T> Table<T> {
     /// Moves all entries, in rising order of their buckets, into a fresh table of `buckets` buckets.
     ///
-    /// A table without entries may move to 0 buckets, which gives its memory back.
+    /// A table without entries may move to 0 buckets, which frees its memory.
     ///
-    /// The result contains a link for each old bucket: the number of its entry's bucket now, or `MAX` if the old bucket
+    /// The result contains a link for each old bucket: the number of its entry's new bucket, or `MAX` if the old bucket
     /// was free. The result is empty for a table without entries. `hash_of` is called once for each entry. The count
-    /// `moved` rises by the number of entries, and `placed` stays. Afterwards no bucket is in the state *deleted*. It
-    /// takes time O(old buckets + new buckets).
+    /// `moved` rises by the number of entries, and `placed` stays. Afterwards no bucket is in the state *deleted*.
+    /// Takes time O(old buckets + new buckets).
     ///
     /// # Errors
     ///
-    /// Out of memory, which changes nothing: all memory is taken before the first entry moves. With 0 buckets it takes
-    /// no memory, and never fails.
+    /// Out of memory. Nothing has changed, because all memory is allocated before the first entry moves. With 0 buckets
+    /// the call never fails.
     pub fn relocate<N: LinkType, H: Fn(&T) -> u64>(
         &mut self,
         buckets: usize,
@@ -63,12 +63,12 @@ impl<T> Table<T> {
     /// `relocate` returns.
     ///
     /// `hash_of` is called once for each entry. The count `moved` rises by the number of entries, and `placed` stays.
-    /// It takes time O(buckets).
+    /// Takes time O(buckets).
     ///
     /// # Errors
     ///
-    /// Out of memory, which changes nothing: all memory is taken before the first entry moves. A table without entries
-    /// takes no memory and never fails: its buckets are emptied in place.
+    /// Out of memory. Nothing has changed, because all memory is allocated before the first entry moves. For a table
+    /// without entries the call never fails, because it only empties the buckets.
     pub fn rehash<N: LinkType, H: Fn(&T) -> u64>(&mut self, hash_of: H) -> Result<Vec<N>, AllocError> {
         let alloc = self.entries.allocator();
         if self.len == 0 {

@@ -6,19 +6,19 @@ use crate::rattle_std::fs::File;
 use crate::rattle_std::io;
 use crate::rattle_std::io::Cursor;
 
-/// A file whose written bytes can be made to survive a crash. A file device assumes that `make_durable` does so. It
-/// calls `make_durable` when it syncs, and not again after an error.
+/// A file that can make its bytes survive a crash. A file device calls `make_durable` when it syncs, and assumes that
+/// the bytes then survive. After an error, it makes no more calls.
 ///
 /// ```text
 /// assert!(rt; Cursor::new([0u8; 4]).make_durable().is_ok());
 /// ```
 pub trait Durable {
-    /// Asks the system to make durable all bytes that were written and flushed before. Returns when they are.
+    /// Makes all bytes durable that were written and flushed before. Returns when they are durable.
     ///
     /// # Errors
     ///
-    /// The system reported an error. It may have dropped bytes that were written since the last `Ok`, and a later call
-    /// may return `Ok` without them.
+    /// The system reported an error. It may have lost bytes that were written since the last `Ok`, even if a later call
+    /// returns `Ok`.
     fn make_durable(&mut self) -> io::Result<()>;
 }
 

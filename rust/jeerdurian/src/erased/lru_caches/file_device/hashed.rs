@@ -8,14 +8,14 @@ use crate::erased::lru_caches::device::BlockDevice;
 use crate::erased::lru_caches::file_device::FileError;
 use crate::erased::lru_caches::file_device::checksum::with_checksum;
 use crate::erased::lru_caches::file_device::durable::Durable;
-use crate::erased::lru_caches::file_device::recorded::RecordedFile;
+use crate::erased::lru_caches::file_device::recorded::{RecordedFile, blocks_of};
 use crate::rattle_std::io::{Read, Seek, Write};
 
 /// A device of the blocks of a file, of `N` bytes each, with a checksum in the last 8 bytes of each block.
 ///
-/// A write replaces the last 8 bytes by the hash of the other bytes and of the block's number. So contracts see all
-/// bytes of a block except the last 8. A read returns `Ok` only if the block has its checksum. So a read finds blocks
-/// that are torn, damaged or of another number, also after a restart.
+/// A write replaces the last 8 bytes by the hash of the other bytes and of the block's number. So contracts see the
+/// bytes of a block without the last 8. A read returns `Ok` only if the block has its checksum. So a read detects
+/// blocks that are torn, damaged or of another number, if their hash differs, also after a restart.
 ///
 /// [`FileDevice`]: crate::FileDevice
 ///
@@ -34,7 +34,7 @@ pub struct HashedFileDevice<F, const N: usize> {
 }
 
 impl<F: Read + Write + Seek, const N: usize> HashedFileDevice<F, N> {
-    /// Makes a device of the first `count` blocks of a file, as `FileDevice::new` does.
+    /// Makes a device of the first `count` blocks of a file, which may be shorter (see `FileDevice::new`).
     ///
     /// ```text
     /// let mut hashed: HashedFileDevice<_, 16> = HashedFileDevice::new(file, 3);
@@ -43,6 +43,18 @@ impl<F: Read + Write + Seek, const N: usize> HashedFileDevice<F, N> {
     /// Cost: `O(1)`, and no call of the file.
     pub fn new(file: F, count: u64) -> Self {
         HashedFileDevice { file: RecordedFile::new(file), count, is_usable: true }
+    }
+
+    /// Makes a device of all blocks that the file has whole, as `FileDevice::open` does.
+    ///
+    /// ```text
+    /// assert_eq!(rt; HashedFileDevice::<_, 16>::open(Cursor::new([0u8; 48]))?.len(), 3);
+    /// ```
+    ///
+    /// Cost and `# Errors`: as `FileDevice::open`.
+    pub fn open(mut file: F) -> Result<Self, FileError> {
+        let count = blocks_of(&mut file, N)?;
+        Ok(HashedFileDevice::new(file, count))
     }
 
     /// Returns the number of blocks.
@@ -56,7 +68,7 @@ impl<F: Read + Write + Seek, const N: usize> HashedFileDevice<F, N> {
         self.count
     }
 
-    /// Lends the file, such as to read its metadata.
+    /// Lends the file.
     ///
     /// ```text
     /// assert_eq!(rt; hashed.file().position(), 48);
@@ -67,7 +79,7 @@ impl<F: Read + Write + Seek, const N: usize> HashedFileDevice<F, N> {
         &self.file.file
     }
 
-    /// Returns the file, as `FileDevice::into_file` does.
+    /// Returns the file. Call `sync` first.
     ///
     /// ```text
     /// let bytes = hashed.into_file().into_inner();

@@ -94,6 +94,14 @@ fn seek_to<F: Seek>(file: &mut F, n: u64, size: usize) -> io::Result<()> {
     }
 }
 
+// Returns how many blocks of this size the file has whole.
+pub(super) fn blocks_of<F: Seek>(file: &mut F, size: usize) -> Result<u64, FileError> {
+    match file.seek(SeekFrom::End(0)) {
+        Ok(len) => len.checked_div(size as u64).ok_or(FileError::File),
+        Err(_) => Err(FileError::File),
+    }
+}
+
 fn read_at<F: Read + Seek, const N: usize>(file: &mut F, n: u64) -> Result<[u8; N], FileError> {
     let mut block = [0u8; N];
     match seek_to(file, n, N) {

@@ -8,11 +8,11 @@ use crate::erased::schnellru::{Insertion, KeyHasher, LruMap, RandomState, laws};
 use crate::rattle_std::alloc::Global;
 use crate::rattle_std::hash::Hash;
 
-/// A memo of a function that may fail, such as a read of a file. It stores no failures, only the newest values that
-/// were loaded, up to a limit.
+/// A memo of a function that may fail, such as a read of a file. It stores the newest values that were loaded, up to a
+/// limit, and no failures.
 ///
-/// Each value is right. A failure changes nothing. Any other call is a step of a map, as for a `Memo` (`step` of
-/// `load`).
+/// Each call returns a value of the function (`value`), or its failure, which changes nothing. A successful call is a
+/// step of a map: the stored value becomes the newest, or the new value is inserted (`step`).
 ///
 /// ```text
 /// let disk = [10, 11, 12];
@@ -40,8 +40,7 @@ impl<K: Eq + Hash, V, E, F: Fn(&K) -> Result<V, E>, L: Insertion<K, V, K>> Loade
 }
 
 impl<K: Eq + Hash, V, E, F: Fn(&K) -> Result<V, E>, L: Insertion<K, V, K>, S: KeyHasher<K>> Loader<K, V, F, L, S> {
-    /// Makes a loader of a function as `new` does, with this hasher of keys, and `entry_bytes` as for
-    /// `LruMap::with_hasher`.
+    /// Makes a loader of a function, with a hasher of keys. `LruMap::with_hasher` explains `entry_bytes`.
     ///
     /// ```text
     /// let seeded = RandomState::with_seeds([5, 6, 7, 8]);
@@ -82,10 +81,9 @@ impl<K: Eq + Hash, V, E, F: Fn(&K) -> Result<V, E>, L: Insertion<K, V, K>, S: Ke
 impl<K: Eq + Hash, V: Copy, E, F: Fn(&K) -> Result<V, E>, L: Insertion<K, V, K>, S: KeyHasher<K>>
     Loader<K, V, F, L, S>
 {
-    /// Returns the stored value of a key, or else the result of a call of the function. A value that was loaded is
-    /// stored.
+    /// Returns the stored value of a key. If no value is stored, calls the function, and stores its value.
     ///
-    /// If the loader runs out of memory or its limiter rejects the value, the value is returned without being stored.
+    /// If the loader runs out of memory or its limiter rejects the value, the value is not stored, but still returned.
     ///
     /// ```text
     /// assert_eq!(rt; (blocks.load(1), blocks.len()), (Ok(11), 1));
@@ -102,7 +100,8 @@ impl<K: Eq + Hash, V: Copy, E, F: Fn(&K) -> Result<V, E>, L: Insertion<K, V, K>,
 }
 
 impl<K: Eq + Hash, V, E, F: Fn(&K) -> Result<V, E>, L: Insertion<K, V, K>, S: KeyHasher<K>> Loader<K, V, F, L, S> {
-    /// Lends a closure what `load` would return, and returns what the closure returns. The values need not be `Copy`.
+    /// Lends a closure the value that `load` would return, and returns what the closure returns. The values need not be
+    /// `Copy`.
     ///
     /// ```text
     /// let mut texts = Loader::new(alloc, ByLength::new(9), |n: &usize| vec![in alloc; 7u8; *n].map_err(|_| *n));

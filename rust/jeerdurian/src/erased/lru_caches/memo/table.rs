@@ -8,7 +8,7 @@ use crate::erased::schnellru::{Insertion, KeyHasher, LruMap, RandomState, laws};
 use crate::rattle_std::alloc::Global;
 use crate::rattle_std::hash::Hash;
 
-/// Says which values answer a key, for a [`MemoTable`].
+/// Defines which values answer a key of a [`MemoTable`].
 ///
 /// ```text
 /// #[derive(Drop)]
@@ -20,9 +20,10 @@ use crate::rattle_std::hash::Hash;
 /// ```
 pub trait Question<K, V> {}
 
-/// A table of the newest answers to a question, up to a limit, for a function that calls itself.
+/// A table of the newest answers to a question, up to a limit. A function that calls itself can store its results in
+/// it.
 ///
-/// Each value that `get` returns is an answer. A caller proves that each value that it stores is an answer.
+/// The caller of `store` proves that the value is an answer. So each value that `get` returns is an answer.
 ///
 /// ```text
 /// let mut squares = MemoTable::new(alloc, ByLength::new(9), Squares);
@@ -49,7 +50,7 @@ impl<K: Eq + Hash, V, Q: Question<K, V>, L: Insertion<K, V, K>> MemoTable<K, V, 
 }
 
 impl<K: Eq + Hash, V, Q: Question<K, V>, L: Insertion<K, V, K>, S: KeyHasher<K>> MemoTable<K, V, Q, L, S> {
-    /// Makes an empty table as `new` does, with this hasher of keys, and `entry_bytes` as for `LruMap::with_hasher`.
+    /// Makes an empty table, with a hasher of keys. `LruMap::with_hasher` explains `entry_bytes`.
     ///
     /// ```text
     /// let seeded = RandomState::with_seeds([5, 6, 7, 8]);
@@ -88,7 +89,7 @@ impl<K: Eq + Hash, V, Q: Question<K, V>, L: Insertion<K, V, K>, S: KeyHasher<K>>
 }
 
 impl<K: Eq + Hash, V, Q: Question<K, V>, L: Insertion<K, V, K>, S: KeyHasher<K>> MemoTable<K, V, Q, L, S> {
-    /// Returns the stored answer at a key, or at a key that equals it, and makes it the newest.
+    /// Returns the stored answer at a key or at an equal key, and makes the answer the newest.
     ///
     /// ```text
     /// assert_eq!(rt; (squares.get(&3), squares.get(&4), squares.len()), (Some(9), None, 1));
@@ -102,7 +103,8 @@ impl<K: Eq + Hash, V, Q: Question<K, V>, L: Insertion<K, V, K>, S: KeyHasher<K>>
         self.get_with(key, |value| *value)
     }
 
-    /// Lends a closure what `get` would return, and returns what the closure returns. The answers need not be `Copy`.
+    /// Lends a closure the answer that `get` would return, and returns what the closure returns. The answers need not
+    /// be `Copy`.
     ///
     /// ```text
     /// assert_eq!(rt; squares.get_with(&3, |square| square.wrapping_add(1)), Some(10));
@@ -113,8 +115,8 @@ impl<K: Eq + Hash, V, Q: Question<K, V>, L: Insertion<K, V, K>, S: KeyHasher<K>>
         read_stored::<K, V, Q, L, S, R, U>(&mut self.map, key, read)
     }
 
-    /// Stores an answer at a key, as the newest, and returns whether it is stored. If memory runs out or the limiter
-    /// rejects the answer, no answer is stored at the key.
+    /// Stores an answer at a key as the newest, and returns true. If memory runs out or the limiter rejects the answer,
+    /// returns false, and no answer is stored at the key.
     ///
     /// ```text
     /// squares.store(3, 9);

@@ -13,9 +13,9 @@ use crate::rattle_std::hash::Hash;
 /// assert!(rt; map == map && map != OrderedMap::new(alloc));
 /// ```
 ///
-/// `O(1)` if the lengths differ, else `O(n)` for n entries.
+/// Cost: `O(1)` if the lengths differ, else `O(n)` for n entries.
 ///
-/// After std's `Vec`; indexmap's maps are equal in any order.
+/// After std's `Vec`. Maps of indexmap are equal if they have the same entries in any order.
 impl<K: Eq + Hash, V: PartialEq, S: KeyHasher<K>> PartialEq for OrderedMap<K, V, S> {
     fn eq(&self, other: &Self) -> bool {
         self.map == other.map

@@ -34,7 +34,7 @@ impl<'a, K, V> Iterator for Entries<'a, K, V> {
         self.newest_first.next_back()
     }
 
-    /// Returns exactly how many entries are left, as `len` does.
+    /// Returns `len` as both bounds.
     fn size_hint(&self) -> (usize, Option<usize>) {
         self.newest_first.size_hint()
     }

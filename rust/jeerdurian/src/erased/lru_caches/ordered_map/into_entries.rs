@@ -7,8 +7,8 @@ use crate::erased::schnellru::KeyHasher;
 use crate::rattle_std::hash::Hash;
 use crate::rattle_std::iter::FusedIterator;
 
-/// An iterator that owns an ordered map and takes its entries out, oldest first, from both ends. Dropping it drops the
-/// entries that are left.
+/// An iterator that owns an ordered map and takes its entries out, oldest first, from both ends. If it is dropped, it
+/// drops the remaining entries.
 ///
 /// ```text
 /// let mut entries = map.into_iter();
@@ -26,7 +26,7 @@ impl<K: Eq + Hash, V, S: KeyHasher<K>> Iterator for IntoEntries<K, V, S> {
         self.map.pop_first()
     }
 
-    /// Returns exactly how many entries are left, as `len` does.
+    /// Returns `len` as both bounds.
     fn size_hint(&self) -> (usize, Option<usize>) {
         let len = self.map.len();
         (len, Some(len))

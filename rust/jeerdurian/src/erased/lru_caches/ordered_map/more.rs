@@ -10,7 +10,7 @@ use crate::rattle_std::hash::Hash;
 impl<K: Eq + Hash, V, S: KeyHasher<K>> OrderedMap<K, V, S> {
     /// Returns the entry of a key.
     ///
-    /// The returned key is the stored key, which may differ from the equal key that is looked up.
+    /// The returned key is the stored key. It equals the key that is looked up, but may differ from it.
     ///
     /// ```text
     /// assert!(rt; map.get_key_value(&1) == Some((&1, &11)) && map.get_key_value(&9).is_none());
@@ -49,14 +49,15 @@ impl<K: Eq + Hash, V, S: KeyHasher<K>> OrderedMap<K, V, S> {
     ///
     /// # Errors
     ///
-    /// As schnellru's `LruMap::try_reserve`.
+    /// The errors of `LruMap::try_reserve`.
     ///
     /// After indexmap's `IndexMap::try_reserve`.
     pub fn try_reserve(&mut self, n: usize) -> Result<(), ReserveError> {
         self.map.try_reserve(n)
     }
 
-    /// Shrinks the table to the least number of buckets that holds the entries. Returns whether it had more buckets.
+    /// Shrinks the table to the smallest number of buckets that can hold the entries. Returns whether it had more
+    /// buckets.
     ///
     /// ```text
     /// assert_eq!(rt; map.try_reserve(100), Ok(()));

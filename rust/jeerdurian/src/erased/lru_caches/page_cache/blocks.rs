@@ -13,7 +13,7 @@ use crate::erased::schnellru::KeyHasher;
 use crate::rattle_std::ops::Range;
 
 impl<B: Copy, D: BlockDevice<B>, S: KeyHasher<u64>> PageCache<B, D, S> {
-    /// Makes a page the newest. If it is not cached, it is read first.
+    /// Makes a page the newest. If the page is not cached, reads it first.
     pub(super) fn bring(&mut self, n: u64) -> Result<(), PageError<D::Error>> {
         let hash = self.map.hasher().hash_named(&n);
         if promote(&mut self.map, &mut self.counts, hash, n) {
@@ -27,22 +27,22 @@ impl<B: Copy, D: BlockDevice<B>, S: KeyHasher<u64>> PageCache<B, D, S> {
 
     /// Returns a block, and makes its page the newest.
     ///
-    /// If the page is not cached and the cache is full, the oldest page that may go is evicted. If the evicted page is
-    /// dirty, it is written to the device first. A pinned page may not go, and a dirty page may not go if the cache
-    /// [keeps dirty pages](Self::set_keeps_dirty).
+    /// If the page is not cached and the cache is full, the oldest page that may be evicted is evicted. If this page is
+    /// dirty, it is written to the device first. A pinned page may not be evicted. If the cache [keeps dirty
+    /// pages](Self::set_keeps_dirty), a dirty page may not be evicted either.
     ///
     /// ```text
     /// assert_eq!(rt; (cache.read(1), cache.len()), (Ok(20), 1));
     /// ```
     ///
-    /// Cost: `O(1)` expected, amortised over the growth of the table, and at most one read and one write of the device;
-    /// if a page is evicted, also `O(k)` for k older pages that may not go.
+    /// Cost: `O(1)` expected, amortised over the growth of the table, and at most one read and one write of the device.
+    /// If a page is evicted, also `O(k)` for k older pages that may not be evicted.
     ///
     /// # Errors
     ///
     /// No error if the page is cached. `Broken`: a `sync` has failed. `NoBlock`: the device has no such number. `Full`:
-    /// no page may go. `Device`: the read failed, or a page could not be written back; all pages stay. `Memory`: out of
-    /// memory for one page more; a page may have been evicted.
+    /// no page may be evicted. `Device`: the read failed, or a page could not be written back; no page was evicted.
+    /// `Memory`: out of memory for one more page; a page may have been evicted.
     pub fn read(&mut self, n: u64) -> Result<B, PageError<D::Error>> {
         self.read_with(n, |block| *block)
     }
@@ -63,7 +63,7 @@ impl<B: Copy, D: BlockDevice<B>, S: KeyHasher<u64>> PageCache<B, D, S> {
         Ok(read_newest(&self.map, read))
     }
 
-    /// Reads the blocks of these numbers into the cache, in their order, each as `read` does.
+    /// Brings the blocks of these numbers into the cache, by a `read` of each, in order.
     ///
     /// If there are more blocks than the capacity, only the last of them stay cached.
     ///
@@ -75,7 +75,7 @@ impl<B: Copy, D: BlockDevice<B>, S: KeyHasher<u64>> PageCache<B, D, S> {
     ///
     /// # Errors
     ///
-    /// As the first `read` that fails. The blocks before it were read.
+    /// The error of the first `read` that fails. The blocks before it were read.
     pub fn prefetch(&mut self, blocks: Range<u64>) -> Result<(), PageError<D::Error>> {
         for n in blocks.start..blocks.end {
             self.bring(n)?;
@@ -85,7 +85,7 @@ impl<B: Copy, D: BlockDevice<B>, S: KeyHasher<u64>> PageCache<B, D, S> {
 
     /// Replaces a block in the cache, and makes its page the newest. The device gets the block later.
     ///
-    /// If the page is not cached and the cache is full, a page is evicted for it, as by `read`. A pin stays.
+    /// If the page is not cached and the cache is full, evicts a page (see `read`). A pin stays.
     ///
     /// ```text
     /// assert_eq!(rt; cache.write(1, 20), Ok(()));
@@ -109,10 +109,10 @@ impl<B: Copy, D: BlockDevice<B>, S: KeyHasher<u64>> PageCache<B, D, S> {
         replace(&mut self.map, &mut self.device, &mut self.counts, gone, hash, n, page)
     }
 
-    /// Lends a closure a block for writing in place, makes its page dirty and the newest, and returns what the closure
-    /// returns.
+    /// Lends a closure a block for writing in place, and returns what the closure returns. The page becomes dirty and
+    /// the newest.
     ///
-    /// The block is read first if its page is not cached. A pin stays.
+    /// If the page is not cached, reads the block first. A pin stays.
     ///
     /// ```text
     /// assert_eq!(rt; (cache.write_with(1, |block| *block = 21), cache.read(1)), (Ok(()), Ok(21)));
@@ -122,7 +122,7 @@ impl<B: Copy, D: BlockDevice<B>, S: KeyHasher<u64>> PageCache<B, D, S> {
     ///
     /// # Errors
     ///
-    /// `Broken`: a `sync` has failed. Otherwise as `read`. The closure is not called then.
+    /// `Broken`: a `sync` has failed. The other errors are those of `read`. After an error the closure is not called.
     pub fn write_with<R, U: FnOnce(&mut B) -> R>(&mut self, n: u64, write: U) -> Result<R, PageError<D::Error>> {
         if !self.device.is_usable() {
             return Err(PageError::Broken);

@@ -1,5 +1,5 @@
 // Erased from crates/lru_caches/src/page_cache/evict.rt: do not edit.
-//! Which page is evicted if the cache is full, and its eviction.
+//! Which page is evicted if the cache is full, and how.
 
 #[allow(unused_imports)]
 use crate::rattle_std::prelude::*;
@@ -49,7 +49,7 @@ fn evict<B: Copy, D: BlockDevice<B>, S: KeyHasher<u64>>(
     Ok(())
 }
 
-/// Makes this page the newest, in place of the page `gone`.
+/// Evicts the page `gone`, if there is one, and makes this page the newest.
 pub(super) fn replace<B: Copy, D: BlockDevice<B>, S: KeyHasher<u64>>(
     map: &mut Pages<B, S>,
     device: &mut D,

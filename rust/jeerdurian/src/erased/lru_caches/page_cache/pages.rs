@@ -52,7 +52,7 @@ fn read_block<B: Copy, D: BlockDevice<B>>(device: &mut D, n: u64) -> Result<B, P
     device.read(n).map_err(PageError::Device)
 }
 
-/// Reads a block, and makes it the newest page in place of the page `gone`.
+/// Reads a block, evicts the page `gone`, if there is one, and makes the read page the newest.
 pub(super) fn load<B: Copy, D: BlockDevice<B>, S: KeyHasher<u64>>(
     map: &mut Pages<B, S>,
     device: &mut D,
@@ -73,10 +73,20 @@ pub(super) fn promote<B: Copy, S: KeyHasher<u64>>(
     hash: u64,
     n: u64,
 ) -> bool {
-    let _len = map.len();
-    let there = map.get_by_hash(hash, |other, _| *other == n).is_some();
+    let there = promote_hashed(map, hash, n);
     counts.count_hit_if(there);
     there
+}
+
+fn promote_hashed<B: Copy, S: KeyHasher<u64>>(map: &mut Pages<B, S>, hash: u64, n: u64) -> bool {
+    let _len = map.len();
+    match map.get_by_hash(hash, |other, _| *other == n) {
+        Some(page) => {
+            let _dirty = page.is_dirty;
+            true
+        }
+        None => false,
+    }
 }
 
 /// Replaces the block of a page, makes the page dirty and the newest, and returns whether it is cached.

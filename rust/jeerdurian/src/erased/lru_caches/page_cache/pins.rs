@@ -1,5 +1,5 @@
 // Erased from crates/lru_caches/src/page_cache/pins.rt: do not edit.
-//! Pages that may not be evicted: pinned ones and, if the cache keeps them, dirty ones.
+//! Pages that may not be evicted: pinned pages and, if the cache keeps them, dirty pages.
 
 #[allow(unused_imports)]
 use crate::rattle_std::prelude::*;
@@ -10,7 +10,8 @@ use crate::erased::lru_caches::page_cache::{PageCache, PageError};
 use crate::erased::schnellru::KeyHasher;
 
 impl<B: Copy, D: BlockDevice<B>, S: KeyHasher<u64>> PageCache<B, D, S> {
-    /// Pins a page and makes it the newest. If it is not cached, it is read first. It is not evicted until `unpin`.
+    /// Pins a page and makes it the newest. If the page is not cached, reads it first. The page is not evicted until
+    /// `unpin`.
     ///
     /// One `unpin` ends any number of pins of a page. A flush writes pinned pages, too.
     ///
@@ -26,7 +27,7 @@ impl<B: Copy, D: BlockDevice<B>, S: KeyHasher<u64>> PageCache<B, D, S> {
         Ok(())
     }
 
-    /// Ends the pin of a page, and returns whether there was one. The order of use stays.
+    /// Ends the pin of a page, and returns whether there was a pin. Does not change the order of use.
     ///
     /// ```text
     /// assert!(rt; cache.is_pinned(0) && cache.unpin(0) && !cache.is_pinned(0));
@@ -37,7 +38,7 @@ impl<B: Copy, D: BlockDevice<B>, S: KeyHasher<u64>> PageCache<B, D, S> {
         unpin_page(&mut self.map, n)
     }
 
-    /// Returns whether a page is pinned. The order of use stays.
+    /// Returns whether a page is pinned. Does not change the order of use.
     ///
     /// ```text
     /// assert!(rt; cache.is_pinned(0) && cache.unpin(0) && !cache.is_pinned(0));
@@ -59,10 +60,10 @@ impl<B: Copy, D: BlockDevice<B>, S: KeyHasher<u64>> PageCache<B, D, S> {
         self.keeps_dirty
     }
 
-    /// Sets whether dirty pages are kept until a flush. If they are, reads, writes and pins write nothing to the
+    /// Sets whether dirty pages are kept until a flush. If they are kept, reads, writes and pins write nothing to the
     /// device.
     ///
-    /// A call that needs room for a page then returns `Full` if each page is dirty or pinned.
+    /// If each page of a full cache is then dirty or pinned, a call that needs one more page returns `Full`.
     ///
     /// ```text
     /// cache.set_keeps_dirty(true);

@@ -21,6 +21,6 @@ pub trait Budgeted<K, V>: Summing<K, V> {
     /// Sets the budget. The running total stays, so a map may be over the new limit.
     fn set_budget(&mut self, budget: u64);
 
-    /// Returns whether the limiter accepts the entry of a new key, as `on_insert` would.
+    /// Returns whether `on_insert` would accept this entry of a new key.
     fn has_room_for(&self, key: &K, value: &V) -> bool;
 }

@@ -6,16 +6,16 @@ use crate::erased::lru_limits::accounts::{OwnedBytes, Summing, sum_with};
 use crate::erased::lru_limits::admission::Admission;
 use crate::erased::lru_limits::limiter::Limiter;
 
-/// Limits the bytes of the table and of what the entries own, together: `ByBytes::new(200 << 20)` is 200 MiB. A
-/// contract sees it as its limit, the bytes that the entries own, and the bytes of the table.
+/// Limits the sum of the bytes of the table and the bytes that the entries own. `ByBytes::new(200 << 20)` limits it to
+/// 200 MiB. A contract sees the limiter as its limit, the bytes that the entries own, and the bytes of the table.
 ///
-/// It permits a table if the table and what the entries own are within the limit. It rejects an entry if the table and
-/// this entry alone pass the limit, and a new value if the table and its entry alone would. So after each call of the
-/// map, `memory_usage` and what the entries own are together at most the limit. The premises are in
-/// `calls_keep_the_bytes` of `lru_model`. While the table grows, the old table also exists, and is not counted.
+/// `ByBytes` permits a table if the sum with this table is within the limit. It rejects an entry, or an entry's new
+/// value, if this entry alone owns more than the limit minus the bytes of the table, or if the owned bytes would pass
+/// `u64::MAX`. So after each call of the map, the sum is at most the limit. The premises are in `calls_keep_the_bytes`
+/// of `lru_model`. While the table grows, the old table also exists, and is not counted.
 ///
 /// `shrink_to_fit` does not notify the limiter. `map.set_limiter(map.limiter().with_table(map.memory_usage() as u64))`
-/// makes it count the smaller table.
+/// makes the limiter count the smaller table.
 ///
 /// ```text
 /// let mut limiter = ByBytes::new(200);
@@ -26,7 +26,7 @@ use crate::erased::lru_limits::limiter::Limiter;
 /// assert_eq!(rt; (limiter.owned(), limiter.table()), (48, 152));
 /// ```
 ///
-/// Cost: each callback reads the owned bytes of each of its keys and values once, and takes no memory.
+/// Cost: each callback reads the owned bytes of its keys and values at most twice, and takes no memory.
 #[derive(Clone, Copy, Debug)]
 pub struct ByBytes {
     limit: u64,
@@ -35,7 +35,7 @@ pub struct ByBytes {
 }
 
 impl ByBytes {
-    /// Makes a limiter of a map without a table and without entries.
+    /// Makes a limiter for an empty map without a table.
     ///
     /// ```text
     /// let mut limiter = ByBytes::new(200);
@@ -53,7 +53,7 @@ impl ByBytes {
         ByBytes { limit, owned: self.owned, table: self.table }
     }
 
-    /// Returns the same limiter for a table of this number of bytes.
+    /// Returns the same limiter with another number of bytes for the table.
     ///
     /// ```text
     /// assert_eq!(rt; limiter.with_table(0).table(), 0);

@@ -6,10 +6,10 @@ use crate::erased::lru_limits::accounts::{Budgeted, Costed, Summing, sum_with};
 use crate::erased::lru_limits::admission::Admission;
 use crate::erased::lru_limits::limiter::Limiter;
 
-/// Limits the sum of the costs of the values. A contract sees it as its limit and this sum.
+/// Limits the sum of the costs of the values. A contract sees the limiter as its limit and this sum.
 ///
-/// It rejects an entry or a new value if its cost alone is above the limit, or if the sum would pass `u64::MAX`. After
-/// it accepts an entry or a value, the map evicts its oldest entries until the sum is within the limit.
+/// `ByCost` rejects an entry or a new value if the cost of the value alone is above the limit, or if the sum would pass
+/// `u64::MAX`. After `ByCost` accepts, the map evicts its oldest entries until the sum is within the limit.
 ///
 /// ```text
 /// let mut limiter = ByCost::new(3);
@@ -55,7 +55,7 @@ impl ByCost {
         self.limit
     }
 
-    /// Returns the sum of the costs so far.
+    /// Returns the sum of the costs.
     ///
     /// ```text
     /// assert_eq!(rt; limiter.cost(), 2);

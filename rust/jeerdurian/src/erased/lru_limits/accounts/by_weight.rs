@@ -6,10 +6,11 @@ use crate::erased::lru_limits::accounts::{Budgeted, Costed, Summing, sum_with};
 use crate::erased::lru_limits::admission::Admission;
 use crate::erased::lru_limits::limiter::Limiter;
 
-/// Limits the sum of the costs of the entries: the cost of the key, the cost of the value, and `OVERHEAD`. A contract
-/// sees it as its limit and this sum.
+/// Limits the sum of the costs of the entries. A contract sees the limiter as its limit and this sum. An entry costs
+/// the cost of its key, plus the cost of its value, plus `OVERHEAD`, but at most `u64::MAX`.
 ///
-/// It rejects what [`crate::ByCost`] rejects. An entry costs at most `u64::MAX`.
+/// `ByWeight` rejects an entry, or its new value, if the entry alone costs more than the limit, or if the sum would
+/// pass `u64::MAX`.
 ///
 /// ```text
 /// let mut limiter: ByWeight<16> = ByWeight::new(100);
@@ -17,7 +18,7 @@ use crate::erased::lru_limits::limiter::Limiter;
 /// assert_eq!(rt; limiter.cost(), 19);
 /// ```
 ///
-/// Cost: each callback reads the cost of each of its keys and values once, and takes no memory.
+/// Cost: each callback reads the cost of its keys and values at most twice, and takes no memory.
 #[derive(Clone, Copy, Debug)]
 pub struct ByWeight<const OVERHEAD: u64> {
     limit: u64,
@@ -53,7 +54,7 @@ impl<const OVERHEAD: u64> ByWeight<OVERHEAD> {
         self.limit
     }
 
-    /// Returns the sum of the costs so far.
+    /// Returns the sum of the costs.
     ///
     /// ```text
     /// assert_eq!(rt; limiter.cost(), 19);

@@ -7,8 +7,8 @@ use crate::rattle_std::mem::size_of;
 /// A value that reports how many bytes it owns outside of itself: all blocks that it allocated, and what the values in
 /// these blocks own.
 ///
-/// A block counts as its bytes rounded up to a multiple of 16, plus 16 for the allocator. The GNU allocator takes no
-/// more, unless a block is so large that it is mapped page by page.
+/// A block counts as its bytes rounded up to a multiple of 16, plus 16 for the allocator. The GNU allocator takes at
+/// most this number, except for very large blocks, which it maps page by page.
 ///
 /// ```text
 /// let block: Vec<u8> = Vec::with_capacity(alloc, 17)?;

@@ -8,12 +8,12 @@ use crate::erased::lru_limits::limiter::Limiter;
 
 /// Limits a map by two limiters.
 ///
-/// A map is over the limit if it is over either limit, and its table may grow if both permit it. An entry is stored,
-/// and a value replaced, if both accept it. If either rejects it, neither changes. Both are notified of each entry that
-/// is evicted or removed; the second sees what the first wrote to it.
+/// A map is over the limit if either limiter says so. Its table may grow if both limiters permit it. An entry or a new
+/// value is accepted if both limiters accept it. If either rejects it, neither limiter changes. Both limiters are
+/// notified of each evicted or removed entry. The second limiter sees what the first one wrote to the entry.
 ///
-/// `Both` uses the links of the first limiter, and its running total, if it has one. So put a limiter by cost first.
-/// `map.limiter().0` is the first limiter.
+/// `Both` uses the links and the running total of the first limiter. So put a limiter by cost first. `map.limiter().0`
+/// is the first limiter.
 ///
 /// ```text
 /// let mut limiter = Both(ByCost::new(9), ByLength::new(3));

@@ -5,11 +5,11 @@ use crate::rattle_std::prelude::*;
 use crate::erased::lru_limits::admission::Admission;
 use crate::erased::lru_limits::limiter::Limiter;
 
-/// Limits the number of entries. A contract sees it as that number.
+/// Limits the number of entries. A contract sees the limiter as this limit.
 ///
-/// A map under it has at most `max_length` entries after each call. After the limit is lowered through `limiter_mut`,
-/// the map may have more entries. This ends with a `trim`, or when an insert or an update stores an entry or replaces a
-/// value. `ByLength` rejects an entry only if `max_length` is 0.
+/// A map with this limiter has at most `max_length` entries after each call. But if the limit is lowered through
+/// `limiter_mut`, the map may have more entries until a `trim`, or until an insert or an update stores an entry or
+/// replaces a value. `ByLength` rejects an entry only if `max_length` is 0.
 ///
 /// ```text
 /// let limiter = ByLength::new(3);

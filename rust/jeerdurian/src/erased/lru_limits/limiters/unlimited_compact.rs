@@ -5,7 +5,7 @@ use crate::rattle_std::prelude::*;
 use crate::erased::lru_limits::admission::Admission;
 use crate::erased::lru_limits::limiter::Limiter;
 
-/// Limits nothing except by its links of 32 bits: at most 1,879,048,192 entries. Its buckets are smaller than under
+/// Sets no limit, but its links of 32 bits permit at most 1,879,048,192 entries. Buckets are smaller than under
 /// `Unlimited`.
 ///
 /// ```text

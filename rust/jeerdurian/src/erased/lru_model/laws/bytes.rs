@@ -5,17 +5,17 @@ use crate::rattle_std::prelude::*;
 use crate::erased::lru_limits::{Admission, ByBytes, Insertion, KeyHasher, Limiter, OwnedBytes, Summing};
 use crate::rattle_std::hash::Hash;
 
-/// With `ByBytes`, the table and what the entries own take at most the limit together after each call, if they did
-/// before it (`kept`, `memory`). So they do after a `try_insert` (`tried`). Each call leaves the limit as it is
-/// (`limit`). The limiter permits a growth only if the new table and what the entries own are within the limit
-/// (`grown`). The old table is not counted. So while both tables exist, the map takes at most the limit, plus the bytes
-/// of the old table.
+/// `ByBytes` limits the bytes of the table plus the bytes that the entries own. If a map keeps to its limit
+/// (`KeepsBytes`), these bytes are at most the limit (`memory`). The map then keeps to its limit after each `Step`
+/// (`kept`) and each `try_insert` (`tried`). No `Step` changes the limit (`limit`). The limiter permits a growth only
+/// if the new table plus what the entries own is within the limit (`grown`). The old table is not counted. So while
+/// both tables exist, the map takes at most the limit, plus the bytes of the old table.
 ///
-/// A new map is within its limit (`begins`). A limiter that `set_limiter` sets may have another limit, or count other
-/// bytes for the table. If the bytes that it counts for the table are within its limit, the trim of `set_limiter`
-/// brings the map within this limit (`trimmed`).
+/// A new map is within its limit (`begins`). `set_limiter` may set a limiter with another limit. Suppose that this
+/// limiter counts the bytes of the map (`CountsBytes`), and that its bytes for the table are within its limit. Then the
+/// trim of `set_limiter` brings the map within this limit (`trimmed`).
 pub fn calls_keep_the_bytes<K: OwnedBytes + Eq + Hash, V: OwnedBytes, S: KeyHasher<K>>() {}
 
-/// What `calls_keep_the_bytes` says of each call (`kept`, `limit`) holds of any calls one after another. Values may be
-/// written, too, if they own as many bytes as the old values.
+/// Any `Step`s, one after another, keep a map within its limit (`kept`), and keep the limit (`limit`). Values may be
+/// written between the steps, if each entry still owns as many bytes as before.
 pub fn runs_keep_the_bytes<K: OwnedBytes + Eq + Hash, V: OwnedBytes, S: KeyHasher<K>>() {}

@@ -1,6 +1,6 @@
 // Erased from crates/lru_model/src/laws/calls.rt: do not edit.
-//! What is proved of every call. A step is the change that one call makes to a map (`specs/Runs`). `Step` is for calls
-//! that write nothing through a reference, and `AnyStep` also for writes to a value or to the limiter.
+//! What is proved of every call. A step is the change that one call makes to a map (`specs/Runs`). `Step` describes a
+//! call that does not set the limiter. `AnyStep` also describes a change of the limiter, and a write to a value.
 
 #[allow(unused_imports)]
 use crate::rattle_std::prelude::*;
@@ -8,34 +8,37 @@ use crate::rattle_std::prelude::*;
 use crate::erased::lru_limits::{Budgeted, Insertion, KeyHasher, LookupKey};
 use crate::rattle_std::hash::Hash;
 
-/// After each call no two keys are equal (`keys`). If the table is sound after the call, inserts moved at most two
-/// entries for each entry that they stored, plus one for each entry that a shrink rehashed (`map`). The clause `map` of
-/// each call says that the table is sound.
+/// If no two keys are equal before a call, no two are equal after it (`keys`). If `IsMap` holds before a call, and the
+/// table is sound after the call, `IsMap` holds after it (`map`). So inserts moved at most two entries for each entry
+/// that they stored, plus one for each entry that a shrink rehashed. The clause `map` of each call ensures that the
+/// table is sound.
 pub fn calls_keep_maps<K: Eq + Hash, V, I: LookupKey<K>, L: Insertion<K, V, I>, S: KeyHasher<K>>() {}
 
-/// If a limiter's running total is the sum of the costs of the entries, it stays so after each call that writes nothing
-/// through a reference. Each `Summing` has such a running total (`IsAccount`).
+/// Suppose that the running total of the limiter is the sum of the costs of the entries. After each `Step` it is still
+/// this sum. Each `Summing` has such a running total (`IsAccount`).
 pub fn calls_keep_sums<K: Eq + Hash, V, I: LookupKey<K>, L: Insertion<K, V, I>, S: KeyHasher<K>>() {}
 
-/// Suppose that the limiter limits the length to `most` entries (`LimitsLength`), as `ByLength` does. Each call leaves
-/// this limit as it is. If there were at most `most` entries before a call, there are at most `most` after it.
+/// Suppose that the limiter limits the length to `most` entries (`LimitsLength`), as `ByLength` does. No `Step` changes
+/// this limit (`limit`). If there are at most `most` entries before a `Step`, there are at most `most` after it
+/// (`length`).
 pub fn calls_keep_the_length<K: Eq + Hash, V, L: Insertion<K, V, K>, S: KeyHasher<K>>() {}
 
-/// Suppose that the limiter permits tables of at most `most` bytes (`LimitsMemory`), as `ByMemoryUsage` does, alone, in
-/// `Storing` or in `Both`. Each call leaves this limit as it is. If the table had at most `most` bytes before a call,
-/// it has at most `most` after it.
+/// Suppose that the limiter permits only tables of at most `most` bytes (`LimitsMemory`). `ByMemoryUsage` does so,
+/// alone or in `Storing` or `Both`. No `Step` changes this limit (`limit`). If the table takes at most `most` bytes
+/// before a `Step`, it takes at most `most` bytes after it (`usage`).
 pub fn calls_keep_the_memory_usage<K: Eq + Hash, V, L: Insertion<K, V, K>, S: KeyHasher<K>>() {}
 
-/// With any limiter that has a budget, as `ByCost` and `ByWeight` have, each call leaves the budget as it is. If the
-/// running total was the sum of the costs of the entries, and at most the budget, it stays at most the budget.
+/// Suppose that the limiter has a budget, as `ByCost` and `ByWeight` have. No `Step` changes the budget (`budget`).
+/// Suppose that the running total is the sum of the costs of the entries, and at most the budget. Then it is at most
+/// the budget after each `Step` (`total`).
 pub fn calls_keep_the_budget<K: Eq + Hash, V, L: Budgeted<K, V>, S: KeyHasher<K>>() {}
 
-/// No call adds more than one entry.
+/// Each `AnyStep` adds at most one entry.
 pub fn calls_add_one_pair<K: Eq + Hash, V, I: LookupKey<K>, L: Insertion<K, V, I>, S: KeyHasher<K>>() {}
 
-/// A call evicts only from the old end. Take the entries whose keys the call does not name: those that stay are the
-/// newest of them, in the same order. This excludes `pop_newest`, which removes the newest entry.
+/// A call evicts only the oldest of the entries whose keys it does not name. The newest of these entries stay, in their
+/// order. The law excludes `pop_newest`, which removes the newest entry.
 ///
-/// A call names the key that it inserts, looks up or removes, or whose value it writes. A retain names the keys that
-/// its closure rejects.
+/// A call names the key that it inserts, updates, looks up or removes, and the key whose value it writes. A retain
+/// names the keys that its closure rejects.
 pub fn calls_evict_the_oldest<K: Eq + Hash, V, I: LookupKey<K>, L: Insertion<K, V, I>, S: KeyHasher<K>>() {}

@@ -5,12 +5,13 @@ use crate::rattle_std::prelude::*;
 use crate::erased::lru_limits::{KeyHasher, Limiter};
 use crate::rattle_std::hash::Hash;
 
-/// A shrink keeps the entries, the limiter and the counts of inserts.
+/// A shrink keeps the entries, the limiter, and the counts of entries that inserts moved and stored.
 pub fn shrinks_keep_the_list<K: Eq + Hash, V, L: Limiter<K, V>, S: KeyHasher<K>>() {}
 
-/// If a shrink makes the table smaller, it rehashes and counts each entry. Then the potential is at most the number of
-/// entries. If the table is not made smaller, nothing changes.
+/// If a shrink makes the table smaller, it rehashes and counts each entry, and the potential is then at most the number
+/// of entries (`shrunk`). Otherwise the shrink changes nothing (`kept`).
 pub fn shrinks_pay_for_moves<K: Eq + Hash, V, L: Limiter<K, V>, S: KeyHasher<K>>() {}
 
-/// A shrink adds no buckets to the table, and no bytes. A second shrink finds nothing to do.
+/// After a shrink the table has no more buckets (`fewer`) and takes no more bytes (`usage`) than before. If a shrink
+/// made the table smaller, a second shrink finds nothing to do (`again`).
 pub fn shrinks_leave_a_tight_table<K: Eq + Hash, V, L: Limiter<K, V>, S: KeyHasher<K>>() {}

@@ -10,10 +10,11 @@ use crate::erased::schnellru::{KeyHasher, LookupKey};
 use crate::rattle_std::hash::Hash;
 
 impl<N: Eq + Hash, K: Eq + Hash, V, L: Budgeted<K, V>, S: KeyHasher<K> + Copy> TenantCache<N, K, V, L, S> {
-    /// Returns a tenant's value of a key. If the key is not there, puts it with the value that the closure returns.
+    /// Returns a tenant's value of a key. If the key is not there, first puts the key with the value that the closure
+    /// returns.
     ///
-    /// If the key is there, the closure is not called, and its entry becomes the tenant's newest. `None` means, as
-    /// `false` does for `put`, that the new entry is not there.
+    /// If the key is there, its entry becomes the tenant's newest, and the closure is not called. `None` means that the
+    /// tenant does not keep the new entry.
     ///
     /// ```text
     /// assert_eq!(rt; cache.get_or_put(&1, 7, || 3), Ok(Some(&2)));

@@ -46,8 +46,8 @@ impl<N: Eq + Hash, K: Eq + Hash, V, L: Budgeted<K, V>, S: KeyHasher<K> + Copy> T
     /// returns the rejected value of a new key: then `kept` is false, the tenant stays as it is, the callback gets
     /// nothing, and the key is dropped.
     ///
-    /// If a key was there and is not kept, the callback got its entry: with the new value if it was evicted, and with
-    /// the old value if the limiter rejected the new one.
+    /// If a key was there and is not kept, the callback got its entry: with the new value if the entry was evicted, and
+    /// with the old value if the limiter rejected the new value.
     ///
     /// ```text
     /// let replaced = cache.put_full(&1, 7, 3, &mut |_, _| {})?;

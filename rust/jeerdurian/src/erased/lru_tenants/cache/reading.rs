@@ -142,7 +142,7 @@ impl<N: Eq + Hash, K: Eq + Hash, V, L: Budgeted<K, V>, S: KeyHasher<K> + Copy> T
         Ok(map.limiter().account())
     }
 
-    /// Returns the names of the open tenants, in an order that means nothing.
+    /// Returns the names of the open tenants, in no particular order.
     ///
     /// ```text
     /// assert_eq!(rt; cache.names().next(), Some(&1));

@@ -11,7 +11,7 @@ use crate::erased::schnellru::KeyHasher;
 use crate::rattle_std::hash::Hash;
 
 impl<N: Eq + Hash, K: Eq + Hash, V, L: Budgeted<K, V>, S: KeyHasher<K> + Copy> TenantCache<N, K, V, L, S> {
-    /// Sets the greatest sum that the budgets of all tenants may have, or that nothing limits their sum.
+    /// Sets the limit of the sum of all tenants' budgets. `None` means that there is no limit.
     ///
     /// ```text
     /// assert_eq!(rt; cache.set_total_limit(Some(5)), Ok(()));
@@ -22,7 +22,7 @@ impl<N: Eq + Hash, K: Eq + Hash, V, L: Budgeted<K, V>, S: KeyHasher<K> + Copy> T
     ///
     /// # Errors
     ///
-    /// `OverTotal`: the sum is above the limit.
+    /// `OverTotal`: the sum is above the limit, and nothing has changed.
     pub fn set_total_limit(&mut self, limit: Option<u64>) -> Result<(), TenantError> {
         if is_above(limit, self.budgets) {
             return Err(TenantError::OverTotal);
@@ -31,7 +31,7 @@ impl<N: Eq + Hash, K: Eq + Hash, V, L: Budgeted<K, V>, S: KeyHasher<K> + Copy> T
         Ok(())
     }
 
-    /// Returns the greatest sum that the budgets of all tenants may have, if there is a limit.
+    /// Returns the limit of the sum of all tenants' budgets, if there is one.
     ///
     /// ```text
     /// assert_eq!(rt; cache.set_total_limit(Some(5)), Ok(()));

@@ -1,5 +1,5 @@
 // Erased from crates/ordered_table/src/linked/chain.rt: do not edit.
-//! `Chain`: a table whose entries have links to their neighbours. Each change of the order changes a few entries.
+//! `Chain`: a table whose entries have links to their neighbours. Reordering writes at most four entries.
 
 #[allow(unused_imports)]
 use crate::rattle_std::prelude::*;
@@ -7,8 +7,7 @@ use crate::rattle_std::prelude::*;
 use crate::erased::group_table::{LinkType, Table};
 use crate::erased::ordered_table::linked::Entry;
 
-// A table with links to its newest and its oldest entry, which are `MAX` if it has none. Only the contracts know the
-// order.
+// A table with links to its newest and its oldest entry. Both links are `MAX` if there are no entries.
 
 pub(crate) struct Chain<K, V, N> {
     pub(crate) table: Table<Entry<K, V, N>>,
@@ -36,7 +35,8 @@ impl<K, V, N: LinkType> Chain<K, V, N> {
         }
     }
 
-    // Compares the link with the number of buckets instead of `MAX`, which saves an instruction.
+    // Returns whether the link leads to a bucket. Compares the link with the number of buckets instead of `MAX`, which
+    // saves an instruction.
     #[inline]
     pub(crate) fn leads(&self, link: N) -> bool {
         self.table.has_bucket(link.into_usize())
@@ -59,8 +59,8 @@ impl<K, V, N: LinkType> Chain<K, V, N> {
         self.oldest = link;
     }
 
-    // Puts a bucket that is in no chain in front of this chain. Its entry already has the links of a newest entry: the
-    // older link leads to `first`, the newest entry so far.
+    // Puts a bucket in front of this chain. Its entry already has the links of a newest entry: the older link leads to
+    // `first`, the newest entry so far.
     #[inline]
     pub(crate) fn link_placed(&mut self, b: usize, first: N) {
         let link = N::from_usize(b);
@@ -86,7 +86,7 @@ impl<K, V, N: LinkType> Chain<K, V, N> {
         }
     }
 
-    // Rewrites the links of entries that moved, and the ends: `links` contains the new number of each old bucket.
+    // Rewrites the links of the moved entries, and the two ends. `links` contains the new bucket for each old bucket.
     pub(crate) fn rewrite(&mut self, links: &[N]) {
         for old in 0..links.len() {
             let moved = (*at!(links, old));

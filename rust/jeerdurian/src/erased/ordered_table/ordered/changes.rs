@@ -1,6 +1,6 @@
 // Erased from crates/ordered_table/src/ordered/changes.rt: do not edit.
-//! The calls that change the order of an `OrderedTable`, or its buckets. Each call first lets the links show the last
-//! promotion.
+//! The calls that change the order of an `OrderedTable`, or its buckets. Most of them first write the last promotion
+//! into the links.
 
 #[allow(unused_imports)]
 use crate::rattle_std::prelude::*;
@@ -13,7 +13,7 @@ use crate::rattle_std::alloc::AllocError;
 use crate::rattle_std::hash::Hash;
 
 impl<K, V, N: LinkType> OrderedTable<K, V, N> {
-    /// Lets the links show the last promotion. Then the compiler knows that the calls after it need not do this.
+    /// Writes the last promotion into the links. Then the compiler can omit this step in the next calls.
     #[inline(always)]
     pub fn settle(&mut self) {
         settle(&mut self.linked, &mut self.promoted);
@@ -28,7 +28,7 @@ impl<K, V, N: LinkType> OrderedTable<K, V, N> {
         self.linked.place(hash, pair);
     }
 
-    /// Does what `place` does, for any table.
+    /// Does what `place` does. If no growth is left, only a deleted bucket may take the pair.
     ///
     /// # Errors
     ///
@@ -48,8 +48,8 @@ impl<K, V, N: LinkType> OrderedTable<K, V, N> {
                 self.linked.promote(*last);
                 *last = b;
             }
-            // Lets the links show the promotion at once, which writes to the next oldest pair. If pairs are promoted in
-            // the order of their last promotions, the next call reads that pair.
+            // Writes this promotion into the links at once, and so writes to the second-oldest pair. If pairs are
+            // promoted in the order of their last promotions, the next call reads this pair.
             None if self.linked.oldest() == b => self.linked.promote(b),
             None => self.promoted = Some(b),
         }
@@ -72,7 +72,7 @@ impl<K, V, N: LinkType> OrderedTable<K, V, N> {
         self.linked.take(b, false)
     }
 
-    /// Takes the oldest pair out of a table that is not empty. The older link of this pair is not read.
+    /// Takes the oldest pair out of a table that is not empty. Does not read the older link of this pair.
     ///
     /// Cost: `O(1)`.
     #[inline(always)]
@@ -94,15 +94,15 @@ impl<K, V, N: LinkType> OrderedTable<K, V, N> {
 }
 
 impl<K: Eq + Hash, V, N: LinkType> OrderedTable<K, V, N> {
-    /// Moves all pairs into a table of `buckets` buckets, in the same order. If the table has this number already, the
-    /// pairs are rehashed in place.
+    /// Moves all pairs into a table of `buckets` buckets, in the same order. If the table already has `buckets`
+    /// buckets, the pairs are rehashed in place.
     ///
-    /// Cost: `O(buckets)` of both tables, and a hash for each pair.
+    /// Cost: `O(old buckets + new buckets)`, and a hash for each pair.
     ///
     /// # Errors
     ///
-    /// Out of memory; then nothing has changed. It never fails if `buckets` is 0, or if a table without pairs keeps its
-    /// number of buckets.
+    /// Out of memory. Nothing has changed. The call never fails if `buckets` is 0, or if a table without pairs keeps
+    /// its number of buckets.
     pub fn move_to<S: KeyHasher<K>>(&mut self, buckets: usize, hasher: &S) -> Result<(), AllocError> {
         settle(&mut self.linked, &mut self.promoted);
         self.linked.move_to(buckets, hasher)
@@ -116,7 +116,7 @@ impl<K, V, N: LinkType> OrderedTable<K, V, N> {
     ///
     /// # Errors
     ///
-    /// Out of memory, unless there are no buckets.
+    /// Out of memory, or a clone failed. Without buckets the call never fails.
     pub fn copy(&self) -> Result<Self, AllocError>
     where
         K: TryClone,

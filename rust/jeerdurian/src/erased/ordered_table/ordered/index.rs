@@ -6,7 +6,7 @@ use crate::erased::group_table::LinkType;
 use crate::erased::ordered_table::ordered::OrderedTable;
 
 impl<K, V, N: LinkType> OrderedTable<K, V, N> {
-    /// Returns the bucket at this index in the order, if there is one. The newest has index 0.
+    /// Returns the bucket at this index in the order, if there is one. The newest bucket has index 0.
     ///
     /// Cost: `O(index)`, and `O(1)` if there is none.
     pub fn at_index(&self, index: usize) -> Option<usize> {
@@ -20,7 +20,7 @@ impl<K, V, N: LinkType> OrderedTable<K, V, N> {
         Some(at)
     }
 
-    /// Returns the index of a full bucket in the order. The newest has index 0.
+    /// Returns the index of a full bucket in the order. The newest bucket has index 0.
     ///
     /// Cost: `O(index)`.
     pub fn index_of(&self, b: usize) -> usize {

@@ -1,6 +1,6 @@
 // Erased from crates/ordered_table/src/ordered/promoted.rt: do not edit.
-//! The order of a table whose newest bucket is `promoted`, if there is one. The links may still show this bucket
-//! elsewhere.
+//! The order of a table in which `promoted`, if there is one, is the newest bucket. The links may still have this
+//! bucket elsewhere.
 
 #[allow(unused_imports)]
 use crate::rattle_std::prelude::*;
@@ -20,7 +20,7 @@ pub(crate) fn newest<K, V, N: LinkType>(table: &LinkedTable<K, V, N>, promoted: 
 pub(crate) fn oldest<K, V, N: LinkType>(table: &LinkedTable<K, V, N>, promoted: Option<usize>) -> usize {
     let b = table.oldest();
     match promoted {
-        // The links show the promoted bucket last. So the bucket before it is the oldest, if there is one.
+        // In the links, the promoted bucket is the last. So the bucket before it is the oldest, if there is one.
         Some(p) if p == b => {
             if table.newest() == p {
                 p
@@ -65,7 +65,7 @@ pub(crate) fn newer_unless_first<K, V, N: LinkType>(
     }
 }
 
-// Makes the promoted bucket, if there is one, the newest by the links, too.
+// Writes the promotion, if there is one, into the links.
 #[inline(always)]
 pub(crate) fn settle<K, V, N: LinkType>(table: &mut LinkedTable<K, V, N>, promoted: &mut Option<usize>) {
     if let Some(b) = *promoted {

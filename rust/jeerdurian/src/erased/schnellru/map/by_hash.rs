@@ -11,12 +11,12 @@ use crate::rattle_std::hash::Hash;
 impl<K: Eq + Hash, V, L: Limiter<K, V>, S: KeyHasher<K>> LruMap<K, V, L, S> {
     /// Searches for an entry that `is_eq` accepts, lends its value for writing, and makes the entry the newest.
     ///
-    /// `is_eq` gets only entries whose hashes agree with `hash` in the top 7 bits. Only tests show that it gets each of
-    /// these entries at most once, and no entry after it accepted one. It may get an entry of another hash, so let it
-    /// compare keys. `None` means that `is_eq` rejected each entry of this hash, and that nothing has changed.
-    /// `map.hasher().hash_named(&key)` returns the hash of a key.
+    /// The map calls `is_eq` only with entries whose hashes agree with `hash` in the top 7 bits. Such an entry may have
+    /// another hash, so `is_eq` has to compare keys. Only tests show that `is_eq` gets each entry at most once, and is
+    /// not called again after it returned true. If the result is `None`, `is_eq` rejected each entry of this hash, and
+    /// nothing has changed. `map.hasher().hash_named(&key)` returns the hash of a key.
     ///
-    /// Cost: `O(1)` expected, with one call of `is_eq` for each entry that it gets.
+    /// Cost: `O(1)` expected, including the calls of `is_eq`.
     ///
     /// ```text
     /// let hash = RandomState::default().hash_one(&1u64);
@@ -32,7 +32,8 @@ impl<K: Eq + Hash, V, L: Limiter<K, V>, S: KeyHasher<K>> LruMap<K, V, L, S> {
         Some(self.value_in_mut(b))
     }
 
-    /// Returns the value of an entry that `is_eq` accepts. The order stays. `is_eq` is called as in `get_by_hash`.
+    /// Returns the value of an entry that `is_eq` accepts. The order stays. For the calls of `is_eq`, see
+    /// `get_by_hash`.
     ///
     /// ```text
     /// let hash = RandomState::default().hash_one(&1u64);
@@ -48,8 +49,8 @@ impl<K: Eq + Hash, V, L: Limiter<K, V>, S: KeyHasher<K>> LruMap<K, V, L, S> {
         Some(&self.pair_in(b).value)
     }
 
-    /// Searches for an entry that `is_eq` accepts, and lends its value for writing. The order stays. `is_eq` is called
-    /// as in `get_by_hash`.
+    /// Searches for an entry that `is_eq` accepts, and lends its value for writing. The order stays. For the calls of
+    /// `is_eq`, see `get_by_hash`.
     ///
     /// ```text
     /// let hash = RandomState::default().hash_one(&1u64);

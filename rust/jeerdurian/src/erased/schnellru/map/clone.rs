@@ -8,8 +8,7 @@ use crate::rattle_std::alloc::AllocError;
 use crate::rattle_std::hash::Hash;
 
 impl<K: TryClone, V: TryClone, L: Limiter<K, V> + TryClone, S: TryClone> LruMap<K, V, L, S> {
-    /// Clones the entries, in order, the limiter and the hasher. The table of the clone has the same buckets and
-    /// counts.
+    /// Clones the entries in their order, the limiter and the hasher. The clone has the same bucket states and counts.
     ///
     /// ```text
     /// let mut copy = map.clone()?;
@@ -17,9 +16,9 @@ impl<K: TryClone, V: TryClone, L: Limiter<K, V> + TryClone, S: TryClone> LruMap<
     /// assert_eq!(rt; (copy.len(), map.len()), (2, 3));
     /// ```
     ///
-    /// A clone of a key must equal the key, and a clone of the hasher must hash alike. So this is no impl of `Clone`.
-    /// Cost: `O(buckets)`, two requests for memory if the map has buckets, and what the clones of keys, values, limiter
-    /// and hasher request.
+    /// A clone of a key must equal the key, and a clone of the hasher must return the same hashes. `Clone` cannot
+    /// require this, so `LruMap` does not implement it. Cost: `O(buckets)`, two requests for memory if the map has
+    /// buckets, and what the clones of keys, values, limiter and hasher request.
     ///
     /// # Errors
     ///

@@ -8,7 +8,7 @@ use crate::rattle_std::alloc::AllocError;
 use crate::rattle_std::hash::Hash;
 
 impl<K: Eq + Hash, V, L: Insertion<K, V, K>, S: KeyHasher<K>> LruMap<K, V, L, S> {
-    /// Inserts entries one after another, as `insert` does, so the last entry becomes the newest.
+    /// Inserts entries one after another, as `insert` does. The last entry that is stored is the newest.
     ///
     /// ```text
     /// map.try_extend([(4, 40), (5, 50)])?;
@@ -20,7 +20,7 @@ impl<K: Eq + Hash, V, L: Insertion<K, V, K>, S: KeyHasher<K>> LruMap<K, V, L, S>
     /// # Errors
     ///
     /// The insert of an entry ran out of memory. The entries before it were inserted, and the others were not. No
-    /// contract says whether the iterator yielded entries after this one.
+    /// contract says whether the iterator yielded entries after the failed one.
     ///
     /// Follows std's `Extend::extend`.
     pub fn try_extend<T: IntoIterator<Item = (K, V)>>(&mut self, entries: T) -> Result<(), AllocError>

@@ -1,5 +1,5 @@
 // Erased from crates/schnellru/src/map/figures.rt: do not edit.
-//! The length, the capacity, the memory and the limiter of a map.
+//! The length, the capacity, the memory, the limiter and the hasher of a map.
 
 #[allow(unused_imports)]
 use crate::rattle_std::prelude::*;
@@ -37,7 +37,7 @@ impl<K: Eq + Hash, V, L: Limiter<K, V>, S: KeyHasher<K>> LruMap<K, V, L, S> {
         self.entries.len() == 0
     }
 
-    /// Returns how many entries the table is sure to hold without growing: its entries and its growth left.
+    /// Returns how many entries the table can surely hold without growing: `len` plus the growth left.
     ///
     /// The number may fall when an entry is removed from a table of more than 16 buckets. Cost: `O(1)`.
     ///
@@ -52,8 +52,8 @@ impl<K: Eq + Hash, V, L: Limiter<K, V>, S: KeyHasher<K>> LruMap<K, V, L, S> {
         self.entries.len() + self.entries.growth_left()
     }
 
-    /// Returns the bytes of the table, or 0 if there are no buckets. The `entry_bytes` of all buckets, full or not, are
-    /// together rounded up to a multiple of 16. Each bucket takes one byte more, and the table 16 more.
+    /// Returns the number of bytes of the table, or 0 if it has no buckets. For n buckets, the number is
+    /// `n * entry_bytes` rounded up to a multiple of 16, plus n, plus 16.
     ///
     /// Cost: `O(1)`.
     ///
@@ -114,10 +114,10 @@ impl<K: Eq + Hash, V, L: Limiter<K, V>, S: KeyHasher<K>> LruMap<K, V, L, S> {
     }
 
     /// Lends the limiter for writing. A lower limit takes effect at the next `trim`, or at the next insert or update
-    /// that stores an entry or replaces a value. A lower limit of `ByMemoryUsage` takes effect at the next growth. If
-    /// the limiter rejects the entry or the value of a call, this call evicts nothing.
+    /// that stores an entry or replaces a value. A lower limit of `ByMemoryUsage` takes effect at the next growth. An
+    /// insert or update evicts nothing if the limiter rejects its entry or value.
     ///
-    /// Do not write a limiter with another running total: `*map.limiter_mut() = ByCost::new(n)` would count the stored
+    /// Do not write a limiter with another running total. `*map.limiter_mut() = ByCost::new(n)` would count the stored
     /// entries as 0. Call `set_limiter` with `map.limiter().with_limit(n)`.
     ///
     /// ```text

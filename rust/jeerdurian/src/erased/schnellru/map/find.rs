@@ -36,7 +36,7 @@ impl<K: Eq + Hash, V, L: Limiter<K, V>, S: KeyHasher<K>> LruMap<K, V, L, S> {
         self.entries.promote(b);
     }
 
-    // Lets the links show the last promotion, so that the code after it need not test for one.
+    // Writes the last promotion into the links. The code after this call then need not test for a promotion.
     #[inline(always)]
     pub(crate) fn settle(&mut self) {
         self.entries.settle();

@@ -36,7 +36,7 @@ impl<K: Eq + Hash, V, L: Limiter<K, V>, S: KeyHasher<K>> LruMap<K, V, L, S> {
     /// Makes the entry of a key the newest. If the key is not there, inserts it with the value that the closure
     /// returns, as `insert` does. Returns whether the key is in the map afterwards.
     ///
-    /// Afterwards `newest_mut` lends the value.
+    /// If the result is true, `newest_mut` lends the value.
     ///
     /// ```text
     /// if map.ensure_newest(1, || 0)? {
@@ -75,7 +75,7 @@ impl<K: Eq + Hash, V, L: Limiter<K, V>, S: KeyHasher<K>> LruMap<K, V, L, S> {
         }
     }
 
-    // Lends the newest value, if `kept` says that the key is there.
+    // Lends the newest value if `kept` is `Ok(true)`.
     #[inline]
     fn lend_if_kept<E>(&mut self, kept: Result<bool, E>) -> Result<&mut V, NotLent<E>> {
         let _ = &self.entries;
@@ -101,9 +101,9 @@ impl<K: Eq + Hash, V, L: Limiter<K, V>, S: KeyHasher<K>> LruMap<K, V, L, S> {
     /// Lends the value of a key for writing. If the key is not there, inserts it with the value that the closure
     /// returns.
     ///
-    /// If the key is there, the closure is not called, and the entry of the key becomes the newest. `None` means that
-    /// the new entry is not in the map, as `false` does for `insert`. A caller's proof cannot use `writes_back`: call
-    /// `ensure_newest` and `newest_mut` instead.
+    /// If the key is there, the closure is not called, and the entry of the key becomes the newest. The result is
+    /// `None` if the new entry is not in the map. A caller's proof cannot use the clause `writes_back`, so proved code
+    /// calls `ensure_newest` and `newest_mut` instead.
     ///
     /// ```text
     /// assert_eq!(rt; map.get_or_insert(1, || 10)?.copied(), Some(10));
@@ -141,8 +141,8 @@ impl<K: Eq + Hash, V, L: Limiter<K, V>, S: KeyHasher<K>> LruMap<K, V, L, S> {
     ///
     /// # Errors
     ///
-    /// `Caller` contains the error of the closure. `Memory` means that the closure was called, and the insert failed as
-    /// `insert` does. The oldest entries may have been evicted.
+    /// `Caller` contains the error of the closure. `Memory` means that the closure succeeded, and then the insert ran
+    /// out of memory. Then some of the oldest entries may have been evicted.
     pub fn ensure_newest_fallible<I: LookupKey<K>, E, F: FnOnce() -> Result<V, E>>(
         &mut self,
         key: I,

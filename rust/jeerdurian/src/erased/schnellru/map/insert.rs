@@ -12,16 +12,19 @@ use crate::rattle_std::hash::Hash;
 impl<K: Eq + Hash, V, L: Limiter<K, V>, S: KeyHasher<K>> LruMap<K, V, L, S> {
     /// Inserts a key with a value, as the newest entry. Returns whether the key is in the map afterwards.
     ///
-    /// If the key is there, the stored key stays; if the limiter rejects the new value, the entry is removed and the
-    /// result is false. A new key is offered to the limiter, which returns the entry to store, or none. If the map
-    /// would be over the limit with one more entry, the oldest is evicted first.
+    /// If the key is there, the stored key stays and gets the new value. If the limiter rejects the new value, the
+    /// entry is removed, and the result is false. If the key is new, the limiter returns the entry to store. If it
+    /// returns `None`, nothing is stored, and the result is false. If the limiter would be over its limit with one more
+    /// entry, the oldest entry is evicted first.
     ///
-    /// If no bucket takes the entry, a table with fewer than half of the entries that it may hold is rehashed, and any
-    /// other table grows. If there is no larger table, or the limiter refuses it, the oldest entries are evicted until
-    /// a bucket is free, or until the table has fewer than half of the entries that it may hold; then it is rehashed.
-    /// If there is no entry to evict, the new entry is not stored, and the result is false. At the end, if the key is
-    /// in the map, the oldest entries are evicted while the limiter is over its limit. A replaced value is dropped
-    /// before anything is evicted.
+    /// If no bucket can take the new entry, the table grows. A table with fewer than half of the entries that it may
+    /// hold is rehashed instead. If no larger table exists, or if the limiter refuses it, the oldest entries are
+    /// evicted until a bucket can take the new entry. If the evictions leave fewer than half of the entries that the
+    /// table may hold, the table is rehashed. If there is no entry to evict, the new entry is not stored, and the
+    /// result is false.
+    ///
+    /// At the end, if the key is in the map, the oldest entries are evicted while the limiter is over its limit. A
+    /// replaced value is dropped before anything is evicted.
     ///
     /// ```text
     /// assert!(rt; map.insert(1, 10)?);
@@ -34,12 +37,12 @@ impl<K: Eq + Hash, V, L: Limiter<K, V>, S: KeyHasher<K>> LruMap<K, V, L, S> {
     ///
     /// # Errors
     ///
-    /// Out of memory for a new key, which is then not in the map. If `on_insert` ran out of memory, nothing has
-    /// changed. Otherwise the table had no growth left, and the allocation for a rehash or a larger table failed. Then
-    /// some of the oldest entries may have been evicted. The limiter was notified of each of them, and of the new
-    /// entry.
+    /// The insert of a new key ran out of memory. The key is not in the map. If `on_insert` ran out of memory, nothing
+    /// has changed. Otherwise the table had no growth left, and the allocation for a rehash or a larger table failed.
+    /// Then some of the oldest entries may have been evicted. The limiter was notified of each evicted entry, and of
+    /// the new entry.
     ///
-    /// If growth is left, only `on_insert` takes memory.
+    /// If growth is left, only `on_insert` allocates memory.
     ///
     /// Follows schnellru's `LruMap::insert`.
     #[inline(always)]
@@ -52,12 +55,12 @@ impl<K: Eq + Hash, V, L: Limiter<K, V>, S: KeyHasher<K>> LruMap<K, V, L, S> {
 }
 
 impl<K: Eq + Hash, V, L: Limiter<K, V>, S: KeyHasher<K>> LruMap<K, V, L, S> {
-    /// Inserts as `insert` does, and passes these entries to the callback, as `on_removed` left them: the evicted
-    /// entries, oldest first; an entry that is removed because its new value is rejected; and an entry that `on_insert`
-    /// returned but the map could not store.
+    /// Does what `insert` does, and passes these entries to the callback: the evicted entries, oldest first; an entry
+    /// that is removed because its new value is rejected; and an entry that `on_insert` returned but the map could not
+    /// store. Before each call of the callback, `on_removed` may write to the entry.
     ///
-    /// Each of these entries is passed on once, even if the result is an `Err`. Only tests show that an entry is passed
-    /// on before the limiter is called again. A replaced value is not passed on.
+    /// The callback gets each of these entries once, even if the result is an `Err`. Only tests show that the callback
+    /// gets an entry before the limiter is called again. The callback does not get a replaced value.
     ///
     /// ```text
     /// let mut left = None;
@@ -69,7 +72,7 @@ impl<K: Eq + Hash, V, L: Limiter<K, V>, S: KeyHasher<K>> LruMap<K, V, L, S> {
     ///
     /// # Errors
     ///
-    /// Fails as `insert` does. The new entry was passed to the callback, unless `on_insert` ran out of memory.
+    /// Fails as `insert` does. If an allocation for the table failed, the callback also got the new entry.
     #[inline(always)]
     pub fn insert_with<I: LookupKey<K>, F: FnMut(K, V)>(
         &mut self,
@@ -87,7 +90,7 @@ impl<K: Eq + Hash, V, L: Limiter<K, V>, S: KeyHasher<K>> LruMap<K, V, L, S> {
         kept
     }
 
-    // Drops the value that the map does not keep before anything is evicted, so that a limiter that learns of drops no
+    // Before anything is evicted, drops the value that the map does not keep. So a limiter that learns of drops no
     // longer counts this value.
     #[inline(always)]
     fn insert_or_drop<I: LookupKey<K>, F: FnMut(K, V)>(
@@ -116,8 +119,8 @@ impl<K: Eq + Hash, V, L: Limiter<K, V>, S: KeyHasher<K>> LruMap<K, V, L, S> {
 }
 
 impl<K: Eq + Hash, V, L: Limiter<K, V>, S: KeyHasher<K>> LruMap<K, V, L, S> {
-    /// Inserts as `insert_with` does. If the key is there, also returns the value that the map does not keep, with what
-    /// `on_replace` wrote to it: the old value, or the new value if the limiter rejects it.
+    /// Does what `insert_with` does. If the key is there, also returns the value that the map does not keep: the old
+    /// value, or the new value if the limiter rejects it. `on_replace` may have written to the returned value.
     ///
     /// If the key is there, the limiter drops the offered key. If `on_insert` rejects the entry or runs out of memory,
     /// the limiter drops the key and the value.
@@ -148,9 +151,9 @@ impl<K: Eq + Hash, V, L: Limiter<K, V>, S: KeyHasher<K>> LruMap<K, V, L, S> {
         self.insert_hashed(hash, key, value, sink)
     }
 
-    /// Inserts as `insert_full` does, by the known hash of the key.
+    /// Does what `insert_full` does, but gets the hash of the key from the caller.
     ///
-    /// The hash must be what `map.hasher().hash_named(&key)` returns, which the prover checks.
+    /// The hash must be the result of `map.hasher().hash_named(&key)`. The prover checks this.
     ///
     /// ```text
     /// let hash = map.hasher().hash_named(&5);
@@ -182,7 +185,7 @@ impl<K: Eq + Hash, V, L: Limiter<K, V>, S: KeyHasher<K>> LruMap<K, V, L, S> {
         inserted
     }
 
-    // Returns the value that the map does not keep.
+    // Does not drop the value that the map does not keep, but returns this value.
     #[inline(always)]
     fn insert_or_replace<I: LookupKey<K>, F: FnMut(K, V)>(
         &mut self,

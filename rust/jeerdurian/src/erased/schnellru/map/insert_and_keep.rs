@@ -9,20 +9,20 @@ use crate::rattle_std::alloc::AllocError;
 use crate::rattle_std::hash::Hash;
 
 impl<K: Eq + Hash, V, L: Limiter<K, V>, S: KeyHasher<K>> LruMap<K, V, L, S> {
-    /// Inserts as `insert` does. Returns its result, and the entries that `insert_with` would pass to its callback. It
-    /// allocates the memory for these entries before the map changes.
+    /// Calls `insert_with`. Returns its result, and the entries that it passes to its callback. The memory for these
+    /// entries is allocated before the map changes.
     ///
     /// ```text
     /// let (done, left) = map.insert_and_keep(4, 40)?;
     /// assert!(rt; done == Ok(true) && left.as_slice() == [(1, 10)].as_slice());
     /// ```
     ///
-    /// Cost: as `insert`, and memory for one entry more than the map contains, even if nothing is evicted. If the map
-    /// is large, call `insert_with`.
+    /// Cost: as `insert`, and memory for n + 1 entries if the map contains n, even if nothing is evicted. If the map is
+    /// large, call `insert_with`.
     ///
     /// # Errors
     ///
-    /// Out of memory for the returned entries: nothing has changed, and the key and the value are dropped.
+    /// The allocation for the returned entries failed. The map has not changed, and the key and the value are dropped.
     pub fn insert_and_keep<I: LookupKey<K>>(
         &mut self,
         key: I,

@@ -8,9 +8,9 @@ use crate::erased::schnellru::map::LruMap;
 use crate::rattle_std::alloc::AllocError;
 use crate::rattle_std::hash::Hash;
 
-// The most bytes of a small entry, with its links. A larger entry is inserted inline, because a call would copy its key
-// and its value once more. A small entry is inserted by a call, because inline code would take registers from the loop
-// around it.
+// A small entry has at most this number of bytes, including its links. A larger entry is inserted inline, because a
+// call would copy its key and its value once more. A small entry is inserted by a call, because inline code would take
+// registers from the caller's loop.
 const SMALL: usize = 32;
 
 impl<K: Eq + Hash, V, L: Limiter<K, V>, S: KeyHasher<K>> LruMap<K, V, L, S> {
@@ -32,7 +32,7 @@ impl<K: Eq + Hash, V, L: Limiter<K, V>, S: KeyHasher<K>> LruMap<K, V, L, S> {
         }
     }
 
-    // The hash is the third argument, because its multiplication ends in that register.
+    // The hash is the third argument, because the multiplication that makes it ends in the register of this argument.
     #[inline(never)]
     fn insert_by_call<I: LookupKey<K>, F: FnMut(K, V)>(
         &mut self,
@@ -58,7 +58,7 @@ impl<K: Eq + Hash, V, L: Limiter<K, V>, S: KeyHasher<K>> LruMap<K, V, L, S> {
     where
         L: Insertion<K, V, I>,
     {
-        // One match, because a `?` would copy the pair once more.
+        // This is one match, because a `?` would copy the pair once more.
         match self.limiter.on_insert(self.alloc, self.entries.len(), key, value) {
             Ok(Some(pair)) => self.insert_pair(hash, pair, sink),
             Ok(None) => Ok(false),
@@ -70,8 +70,8 @@ impl<K: Eq + Hash, V, L: Limiter<K, V>, S: KeyHasher<K>> LruMap<K, V, L, S> {
     fn insert_pair<F: FnMut(K, V)>(&mut self, hash: u64, pair: (K, V), sink: &mut F) -> Result<bool, AllocError> {
         self.settle();
         self.make_room(sink);
-        // `insert_without_growth` takes the key and the value as two arguments, because a pair would lie in memory that
-        // each insert clears first.
+        // `insert_without_growth` takes the key and the value as two arguments. If it took a pair, each insert would
+        // first clear memory for a pair.
         let (key, value) = pair;
         if self.growth_left() == 0 {
             return self.insert_without_growth(hash, key, value, sink);
@@ -80,8 +80,7 @@ impl<K: Eq + Hash, V, L: Limiter<K, V>, S: KeyHasher<K>> LruMap<K, V, L, S> {
         Ok(self.evict_over_limit(sink))
     }
 
-    // No growth is left, so this tests whether a deleted bucket takes the pair. Out of line, so that other inserts need
-    // no such test.
+    // Tries a deleted bucket first. The function is out of line, because only inserts without growth left call it.
     #[cold]
     #[inline(never)]
     fn insert_without_growth<F: FnMut(K, V)>(
@@ -100,7 +99,8 @@ impl<K: Eq + Hash, V, L: Limiter<K, V>, S: KeyHasher<K>> LruMap<K, V, L, S> {
         }
     }
 
-    // Under `ByMemoryUsage` each new pair may come here. Out of line, so that the code of other inserts stays short.
+    // Under `ByMemoryUsage`, each insert of a new pair may call this function. It is out of line, so that the code of
+    // other inserts stays short.
     #[inline(never)]
     fn insert_without_bucket<F: FnMut(K, V)>(
         &mut self,

@@ -7,10 +7,10 @@ use crate::erased::schnellru::map::LruMap;
 use crate::rattle_std::hash::Hash;
 
 impl<K: Eq + Hash, V, L: Limiter<K, V>, S: KeyHasher<K>> LruMap<K, V, L, S> {
-    /// Lends the value of a key for writing, and makes its entry the newest. `None` means that the key is not there.
+    /// Lends the value of a key for writing, and makes its entry the newest. Returns `None` if the key is not there.
     /// The limiter is not notified of writes.
     ///
-    /// `String` keys are looked up by a `&str`, as `map.get(&"a")`.
+    /// A `&str` looks up a `String` key: `map.get(&"a")`.
     ///
     /// ```text
     /// if let Some(value) = map.get(&1) {
@@ -31,7 +31,7 @@ impl<K: Eq + Hash, V, L: Limiter<K, V>, S: KeyHasher<K>> LruMap<K, V, L, S> {
 
     /// Returns the entry of a key, and makes it the newest.
     ///
-    /// The returned key is the stored key, which may differ from the equal key that is looked up.
+    /// The returned key is the stored key, not the equal key that is looked up.
     ///
     /// ```text
     /// assert!(rt; map.get_key_value(&1) == Some((&1, &10)));
@@ -92,8 +92,8 @@ impl<K: Eq + Hash, V, L: Limiter<K, V>, S: KeyHasher<K>> LruMap<K, V, L, S> {
 
     /// Lends the value of the newest entry for writing.
     ///
-    /// `None` means that the map is empty. After `ensure_newest` returned true, the newest value is the value of its
-    /// key. Cost: `O(1)`.
+    /// Returns `None` if the map is empty. If `ensure_newest` has just returned true, the newest value is the value of
+    /// its key. Cost: `O(1)`.
     ///
     /// ```text
     /// if let Some(count) = map.newest_mut() {

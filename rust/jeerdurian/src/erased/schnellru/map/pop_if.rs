@@ -7,8 +7,8 @@ use crate::erased::schnellru::map::LruMap;
 use crate::rattle_std::hash::Hash;
 
 impl<K: Eq + Hash, V, L: Limiter<K, V>, S: KeyHasher<K>> LruMap<K, V, L, S> {
-    /// Removes and returns the oldest entry, if there is one and the closure returns true for it. Otherwise nothing
-    /// changes.
+    /// Removes and returns the oldest entry if the closure returns true for it. Otherwise nothing changes. Returns
+    /// `None` if the map is empty.
     ///
     /// If each use writes the time into the value, `while map.pop_oldest_if(..).is_some() {}` removes the entries that
     /// were not used since a given time.
@@ -30,7 +30,7 @@ impl<K: Eq + Hash, V, L: Limiter<K, V>, S: KeyHasher<K>> LruMap<K, V, L, S> {
         self.pop_oldest()
     }
 
-    /// Removes and returns the oldest entry, if there is one and the closure succeeds for it.
+    /// Removes and returns the oldest entry if the closure succeeds for it. Returns `Ok(None)` if the map is empty.
     ///
     /// ```text
     /// assert_eq!(rt; map.try_pop_oldest(|_, _| Err(7u8)), Err(7));

@@ -81,8 +81,8 @@ impl<K: Eq + Hash, V, L: Limiter<K, V>, S: KeyHasher<K>> LruMap<K, V, L, S> {
 }
 
 impl<K: Eq + Hash, V, L: Limiter<K, V>, S: KeyHasher<K>> LruMap<K, V, L, S> {
-    /// Drops all entries. The limiter is notified of the clear, even if the map is empty, but not of each entry. The
-    /// table keeps its buckets.
+    /// Drops all entries. Notifies the limiter of the clear, even if the map is empty, but not of each entry. The table
+    /// keeps its buckets.
     ///
     /// ```text
     /// map.clear();
@@ -158,8 +158,8 @@ pub(super) fn notify<K, V, L: Limiter<K, V>>(limiter: &mut L, pair: (K, V)) -> (
     (key, value)
 }
 
-// The callback of the calls that pass nothing on. It drops what they evict, remove or do not store: first the key, then
-// the value. Parameters without a name would be dropped in the opposite order.
+// The callback of the calls that take no callback. It drops each entry that a call evicts, removes or cannot store:
+// first the key, then the value. Parameters without a name would be dropped in the opposite order.
 pub(crate) fn discard<K, V>(key: K, value: V) {
     drop(key);
     drop(value);

@@ -8,7 +8,7 @@ use crate::erased::schnellru::map::LruMap;
 use crate::rattle_std::hash::Hash;
 
 impl<K: Eq + Hash, V, L: Limiter<K, V>, S: KeyHasher<K>> LruMap<K, V, L, S> {
-    /// Returns how many entries inserts have moved and stored since the map was made, and how many `shrink_to_fit` has
+    /// Returns how many entries the inserts have moved, how many they have stored, and how many `shrink_to_fit` has
     /// rehashed. Each count stops at `u64::MAX`.
     ///
     /// `moved` is at most twice `placed`, plus `shrunk`. Cost: `O(1)`.

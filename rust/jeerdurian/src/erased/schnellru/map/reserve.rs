@@ -11,9 +11,9 @@ use crate::rattle_std::hash::Hash;
 impl<K: Eq + Hash, V, L: Limiter<K, V>, S: KeyHasher<K>> LruMap<K, V, L, S> {
     /// Reserves growth for n more entries: afterwards `guaranteed_capacity` is at least `len` + n.
     ///
-    /// The entries stay, and so do the counts of moves. If there is enough growth left, nothing happens. If `len` + n
-    /// is at most half of the entries that the table may hold, the table is rehashed at its size, and the limiter is
-    /// not queried. Otherwise the limiter is queried for a larger table.
+    /// The entries and the counts of moves stay. If there is enough growth left, nothing happens. If `len` + n is at
+    /// most half of the entries that the table may hold, the table is rehashed at its size, and the limiter is not
+    /// queried. Otherwise the limiter is queried for a larger table.
     ///
     /// ```text
     /// let mut map: LruMap<u64, u64, UnlimitedCompact> = LruMap::default(alloc);
@@ -21,19 +21,18 @@ impl<K: Eq + Hash, V, L: Limiter<K, V>, S: KeyHasher<K>> LruMap<K, V, L, S> {
     /// assert_eq!(rt; (map.guaranteed_capacity(), map.len()), (7, 0));
     /// ```
     ///
-    /// Cost: `O(1)` if there is enough growth left, else `O(buckets)` of both tables.
+    /// Cost: `O(1)` if there is enough growth left, else `O(old buckets + new buckets)`.
     ///
     /// # Errors
     ///
-    /// Each error leaves the entries and the table as they are.
+    /// After an error, the entries and the table are unchanged.
     ///
-    /// - `TooLarge`: `len` + n overflows, or the map needs a table of more buckets than its links can number, or of
-    ///   more than `isize::MAX - 15` bytes. The table was not rehashed, even if it would hold the entries after a
-    ///   rehash.
+    /// - `TooLarge`: `len` + n overflows, or the table would need more buckets than the links can number, or more than
+    ///   `isize::MAX - 15` bytes. The map does not rehash its table instead, even if the entries would then fit.
     /// - `Refused`: the limiter refused the larger table.
     /// - `Memory`: the map ran out of memory.
     ///
-    /// After `Refused` and `Memory` the limiter keeps what it noted when it was queried.
+    /// Before `Refused` or `Memory`, `on_grow` may have changed the limiter. The change stays.
     ///
     /// Follows schnellru's `LruMap::try_reserve`.
     pub fn try_reserve(&mut self, n: usize) -> Result<(), ReserveError> {

@@ -8,7 +8,7 @@ use crate::erased::schnellru::map::remove::{discard, take_out};
 use crate::rattle_std::hash::Hash;
 
 impl<K: Eq + Hash, V, L: Limiter<K, V>, S: KeyHasher<K>> LruMap<K, V, L, S> {
-    /// Removes the entries for which the closure returns false. The others keep their order.
+    /// Removes the entries for which the closure returns false. The other entries keep their order.
     ///
     /// The closure is called with each entry, oldest first. The limiter is notified of each removal.
     ///

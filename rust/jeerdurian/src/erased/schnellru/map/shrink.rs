@@ -10,9 +10,9 @@ use crate::rattle_std::hash::Hash;
 
 impl<K: Eq + Hash, V, L: Limiter<K, V>, S: KeyHasher<K>> LruMap<K, V, L, S> {
     /// Shrinks the table to the least number of buckets that holds the entries, and returns true. Returns false if the
-    /// table is that small already.
+    /// table is already that small.
     ///
-    /// The entries and their order stay. The limiter is not called. An empty map gives its table back.
+    /// The entries and their order stay. The limiter is not called. An empty map frees its table.
     ///
     /// ```text
     /// let mut map: LruMap<u64, u64, UnlimitedCompact> = LruMap::default(alloc);
@@ -23,11 +23,11 @@ impl<K: Eq + Hash, V, L: Limiter<K, V>, S: KeyHasher<K>> LruMap<K, V, L, S> {
     /// assert_eq!(rt; map.shrink_to_fit(), Ok(false));
     /// ```
     ///
-    /// Cost: `O(1)` if the table stays, else `O(buckets)`, with three requests for memory; an empty map makes none.
+    /// Cost: `O(1)` if the table stays, else `O(buckets)` and three allocations. An empty map allocates nothing.
     ///
     /// # Errors
     ///
-    /// Out of memory; then nothing has changed.
+    /// The map ran out of memory. Nothing has changed.
     pub fn shrink_to_fit(&mut self) -> Result<bool, AllocError> {
         let len = self.entries.len();
         let count = match buckets_for_capacity(len, L::LinkType::MAX.into_usize()) {

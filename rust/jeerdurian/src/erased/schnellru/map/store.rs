@@ -1,5 +1,6 @@
 // Erased from crates/schnellru/src/map/store.rt: do not edit.
-//! Stores a new pair, in a free bucket, or after a rehash, a growth, or evictions of the oldest pairs.
+//! Stores a new pair in a free bucket. If no bucket can take the pair, first rehashes or grows the table, or evicts the
+//! oldest pairs.
 
 #[allow(unused_imports)]
 use crate::rattle_std::prelude::*;
@@ -55,7 +56,7 @@ impl<K: Eq + Hash, V, L: Limiter<K, V>, S: KeyHasher<K>> LruMap<K, V, L, S> {
         }
     }
 
-    // Stores the pair after it evicted the oldest pairs.
+    // Evicts the oldest pairs until the new pair can be stored. An empty map does not store the pair.
     fn store_without_growth<F: FnMut(K, V)>(
         &mut self,
         hash: u64,

@@ -11,7 +11,7 @@ use crate::rattle_std::mem;
 impl<K: Eq + Hash, V, L: Limiter<K, V>, S: KeyHasher<K>> LruMap<K, V, L, S> {
     /// Evicts the oldest entries while the limiter is over its limit.
     ///
-    /// `ByMemoryUsage` is never over its limit.
+    /// Evicts nothing under `ByMemoryUsage`, which is never over its limit.
     ///
     /// ```text
     /// *map.limiter_mut() = ByLength::new(1);
@@ -26,10 +26,11 @@ impl<K: Eq + Hash, V, L: Limiter<K, V>, S: KeyHasher<K>> LruMap<K, V, L, S> {
         self.trim_with(&mut discard);
     }
 
-    /// Sets another limiter, and evicts the oldest entries while it is over its limit. Returns the old limiter.
+    /// Sets another limiter, and evicts the oldest entries while the new limiter is over its limit. Returns the old
+    /// limiter.
     ///
-    /// The new limiter is not notified of the entries that are there. A limiter with a running total, such as `ByCost`,
-    /// must begin with the sum of their costs, as `map.limiter().with_limit(n)` does.
+    /// The new limiter is not notified of the stored entries. So a limiter with a running total, such as `ByCost`, must
+    /// begin with the sum of their costs. `map.limiter().with_limit(n)` returns such a limiter.
     ///
     /// ```text
     /// let old = map.set_limiter(ByLength::new(1));

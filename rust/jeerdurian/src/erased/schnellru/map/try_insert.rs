@@ -8,11 +8,11 @@ use crate::erased::schnellru::map::remove::discard;
 use crate::rattle_std::hash::Hash;
 
 impl<K: Eq + Hash, V, L: Admission<K, V> + Copy, S: KeyHasher<K>> LruMap<K, V, L, S> {
-    /// Inserts a new key with its value, as the newest entry, if nothing has to be evicted for it. Otherwise returns
-    /// the key and the value.
+    /// Inserts a new key with its value, as the newest entry, if nothing has to be evicted. Otherwise returns the key
+    /// and the value.
     ///
     /// If no growth is left, `try_insert` reserves growth instead of filling a deleted bucket. So if the limiter
-    /// refuses a larger table, it may return an entry that `insert` would store without an eviction.
+    /// refuses a larger table, `try_insert` may return an entry that `insert` would store without an eviction.
     ///
     /// ```text
     /// assert_eq!(rt; map.try_insert(4, 40), Err((4, 40)));
@@ -20,12 +20,12 @@ impl<K: Eq + Hash, V, L: Admission<K, V> + Copy, S: KeyHasher<K>> LruMap<K, V, L
     /// assert_eq!(rt; (map.try_insert(4, 40), map.try_insert(4, 41)), (Ok(()), Err((4, 41))));
     /// ```
     ///
-    /// Cost: `O(1)` expected, amortised over the inserts, with one search for the key. If no growth is left, it costs
-    /// what `try_reserve(1)` costs, too. `move_report` does not count the entries that this reservation moves.
+    /// Cost: `O(1)` expected, amortised over the inserts, with one search for the key. If no growth is left, add the
+    /// cost of `try_reserve(1)`. `move_report` does not count the entries that this reservation moves.
     ///
     /// # Errors
     ///
-    /// Returns the key and the value for one of five reasons. The `Err` does not say which; `contains` recognises only
+    /// Returns the key and the value for one of five reasons. The `Err` does not say which. `contains` recognises only
     /// the first:
     ///
     /// - The key is there.
@@ -34,8 +34,8 @@ impl<K: Eq + Hash, V, L: Admission<K, V> + Copy, S: KeyHasher<K>> LruMap<K, V, L
     /// - No growth is left, and there is no larger table, or the limiter refuses it.
     /// - No growth is left, and the allocation of the table fails.
     ///
-    /// If there was growth left, nothing has changed. If there was none, the table may have more buckets, and the
-    /// limiter keeps what it noted when it was queried for them.
+    /// If growth was left, nothing has changed. Otherwise the table may be larger or rehashed, and `on_grow` may have
+    /// changed the limiter.
     ///
     /// Follows std's `HashMap::try_insert`.
     pub fn try_insert(&mut self, key: K, value: V) -> Result<(), (K, V)> {
@@ -43,9 +43,9 @@ impl<K: Eq + Hash, V, L: Admission<K, V> + Copy, S: KeyHasher<K>> LruMap<K, V, L
         self.try_insert_hashed(hash, key, value)
     }
 
-    /// Does what `try_insert` does, by the known hash of the key.
+    /// Does what `try_insert` does, but gets the hash of the key from the caller.
     ///
-    /// The hash must be what `map.hasher().hash_named(&key)` returns, which the prover checks.
+    /// The hash must be the result of `map.hasher().hash_named(&key)`. The prover checks this.
     ///
     /// ```text
     /// let hash = map.hasher().hash_named(&4);
@@ -58,10 +58,11 @@ impl<K: Eq + Hash, V, L: Admission<K, V> + Copy, S: KeyHasher<K>> LruMap<K, V, L
     ///
     /// # Errors
     ///
-    /// As `try_insert`.
+    /// Fails as `try_insert` does.
     ///
     /// Follows `RawEntryMut::insert_hashed_nocheck` of the crate `hashlink`.
     pub fn try_insert_hashed(&mut self, hash: u64, key: K, value: V) -> Result<(), (K, V)> {
+        let _ = &self.entries;
         let inserted = self.try_insert_if_absent(hash, key, value);
         let _ = &self.entries;
         inserted
@@ -85,7 +86,7 @@ impl<K: Eq + Hash, V, L: Admission<K, V> + Copy, S: KeyHasher<K>> LruMap<K, V, L
         Ok(())
     }
 
-    // Reserves growth if none is left. Returns whether there is growth, and the limiter can store the entry.
+    // Reserves growth if none is left. Returns false if the reservation fails, or if `can_store` is false afterwards.
     fn get_ready_for(&mut self, key: &K, value: &V) -> bool {
         if self.growth_left() > 0 {
             return true;

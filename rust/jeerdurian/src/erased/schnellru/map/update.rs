@@ -9,10 +9,10 @@ use crate::erased::schnellru::map::remove::discard;
 use crate::rattle_std::hash::Hash;
 
 impl<K: Eq + Hash, V, L: Limiter<K, V>, S: KeyHasher<K>> LruMap<K, V, L, S> {
-    /// Offers the limiter a new value for a key that is there. The entry keeps its place in the order of use.
+    /// Offers the limiter a new value for a stored key. The entry keeps its place in the order of use.
     ///
     /// If the limiter accepts the value, the oldest entries are evicted while the limiter is over its limit. The
-    /// updated entry may be one of them. If the limiter rejects the value, the entry is removed. If the key is not
+    /// updated entry may be evicted, too. If the limiter rejects the value, the entry is removed. If the key is not
     /// there, nothing changes.
     ///
     /// ```text
@@ -33,7 +33,7 @@ impl<K: Eq + Hash, V, L: Limiter<K, V>, S: KeyHasher<K>> LruMap<K, V, L, S> {
 
 impl<K: Eq + Hash, V, L: Limiter<K, V>, S: KeyHasher<K>> LruMap<K, V, L, S> {
     /// Does what `update` does, and passes entries to the callback: the evicted entries, oldest first, or the entry
-    /// whose new value is rejected.
+    /// that is removed because its new value is rejected.
     ///
     /// ```text
     /// let mut left = None;

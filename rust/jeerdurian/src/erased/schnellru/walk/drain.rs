@@ -7,8 +7,8 @@ use crate::erased::schnellru::map::LruMap;
 use crate::rattle_std::hash::Hash;
 use crate::rattle_std::iter::FusedIterator;
 
-/// An iterator that takes the entries out of a map, from both ends. Dropping it clears the map; forgetting it leaves
-/// the other entries in the map.
+/// An iterator that takes the entries out of a map, from both ends. Dropping the iterator clears the map. `mem::forget`
+/// of the iterator leaves the remaining entries in the map.
 ///
 /// The limiter is notified of the clear, but not of each entry that the clear drops.
 ///
@@ -69,7 +69,7 @@ impl<'a, K: Eq + Hash, V, L: Limiter<K, V>, S: KeyHasher<K>> ExactSizeIterator f
 impl<'a, K: Eq + Hash, V, L: Limiter<K, V>, S: KeyHasher<K>> FusedIterator for Drain<'a, K, V, L, S> {}
 
 impl<K: Eq + Hash, V, L: Limiter<K, V>, S: KeyHasher<K>> LruMap<K, V, L, S> {
-    /// Takes out the entries, newest first. When the iterator is dropped, the map is cleared.
+    /// Returns an iterator that takes out the entries, newest first. Dropping the iterator clears the map.
     ///
     /// ```text
     /// let mut sum = 0u64;

@@ -7,9 +7,9 @@ use crate::erased::schnellru::map::LruMap;
 use crate::rattle_std::hash::Hash;
 use crate::rattle_std::iter::FusedIterator;
 
-/// An iterator that owns a map and takes the entries out of it from both ends: `next` takes the newest.
+/// An iterator that owns a map, and takes its entries out from both ends. `next` takes the newest entry.
 ///
-/// Dropping the iterator drops the other entries, and does not notify the limiter.
+/// Dropping the iterator drops the remaining entries without notifying the limiter.
 ///
 /// ```text
 /// assert_eq!(rt; map.into_iter().next_back(), Some((1, 10)));

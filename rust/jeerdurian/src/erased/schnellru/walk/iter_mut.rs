@@ -20,8 +20,8 @@ use crate::rattle_std::hash::Hash;
 
 pub struct IterMut<'a, K, V, L: Limiter<K, V>, S> {
     map: &'a mut LruMap<K, V, L, S>,
-    // The entries at the positions from `start` up to `end`, counted from the newest, are left. `front` and `back` are
-    // the buckets of the first and the last of them, so a step reads one entry.
+    // The entries at the positions from `start` to `end` - 1 are left. The newest entry of the map has position 0.
+    // `front` and `back` are the buckets of the first and the last entry that are left, so a step reads one entry.
     start: usize,
     end: usize,
     front: Option<usize>,
@@ -38,10 +38,10 @@ impl<'a, K: Eq + Hash, V, L: Limiter<K, V>, S: KeyHasher<K>> IterMut<'a, K, V, L
         self.end.saturating_sub(self.start)
     }
 
-    /// Lends the newest entry that is left, with its value for writing, until the next call. `None` means that none is
-    /// left.
+    /// Lends the newest entry that is left, with its value for writing, until the next call. Returns `None` if no entry
+    /// is left.
     ///
-    /// A caller's proof cannot use `writes_back`: call `lend_next` instead, if `len` is not 0.
+    /// A caller's proof cannot use the clause `writes_back`. If `len` is not 0, proved code calls `lend_next` instead.
     ///
     /// ```text
     /// if let Some((_, value)) = walk.next() {
@@ -57,7 +57,7 @@ impl<'a, K: Eq + Hash, V, L: Limiter<K, V>, S: KeyHasher<K>> IterMut<'a, K, V, L
         None
     }
 
-    /// Lends the oldest entry that is left, as `next` lends the newest.
+    /// Does what `next` does, with the oldest entry that is left.
     ///
     /// ```text
     /// if let Some((_, value)) = walk.next_back() {
@@ -73,7 +73,7 @@ impl<'a, K: Eq + Hash, V, L: Limiter<K, V>, S: KeyHasher<K>> IterMut<'a, K, V, L
         None
     }
 
-    /// Does what `next` does; an entry must be left.
+    /// Does what `next` does. At least one entry must be left.
     ///
     /// ```text
     /// let mut walk = map.iter_mut();
@@ -96,7 +96,7 @@ impl<'a, K: Eq + Hash, V, L: Limiter<K, V>, S: KeyHasher<K>> IterMut<'a, K, V, L
         }
     }
 
-    /// Does what `next_back` does; an entry must be left.
+    /// Does what `next_back` does. At least one entry must be left.
     ///
     /// ```text
     /// let mut walk = map.iter_mut();
@@ -124,8 +124,8 @@ impl<'a, K: Eq + Hash, V, L: Limiter<K, V>, S: KeyHasher<K>> IterMut<'a, K, V, L
 impl<K: Eq + Hash, V, L: Limiter<K, V>, S: KeyHasher<K>> LruMap<K, V, L, S> {
     /// Returns an iterator over the entries, newest first, that lends each value for writing. The order stays.
     ///
-    /// It is no `Iterator`, so a `for` loop cannot walk it: write `while let Some((key, value)) = walk.next()`, or call
-    /// `for_each_mut`.
+    /// `IterMut` is no `Iterator`, so it cannot be in a `for` loop. Write `while let Some((key, value)) = walk.next()`,
+    /// or call `for_each_mut`.
     ///
     /// ```text
     /// let mut walk = map.iter_mut();
@@ -147,7 +147,8 @@ impl<K: Eq + Hash, V, L: Limiter<K, V>, S: KeyHasher<K>> LruMap<K, V, L, S> {
         IterMut { map: self, start: 0, end, front, back }
     }
 
-    /// Lends the closure each value for writing, with its key, newest first. The order stays.
+    /// Calls the closure with each key and its value, newest first. The closure may write to the value. The order
+    /// stays.
     ///
     /// ```text
     /// map.for_each_mut(|_, value| *value = value.saturating_add(1));
@@ -159,7 +160,7 @@ impl<K: Eq + Hash, V, L: Limiter<K, V>, S: KeyHasher<K>> LruMap<K, V, L, S> {
     /// Follows `Iterator::for_each` over the `iter_mut` of std's `HashMap`.
     pub fn for_each_mut<F: FnMut(&K, &mut V)>(&mut self, mut f: F) {
         self.settle();
-        // Does nothing at run time. It shows the prover that a position fits.
+        // Does nothing at run time. It shows the prover that a position fits a `usize`.
         let _ = self.len();
         let (mut next, _) = self.ends();
         let mut at = 0;

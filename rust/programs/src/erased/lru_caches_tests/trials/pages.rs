@@ -15,7 +15,7 @@ const CAPACITIES: usize = 6;
 
 const MOST: u64 = 80;
 
-/// How many calls of the disk the lists need together, as another program counted them.
+/// How many calls of the disk the lists make together, as another program counted them.
 pub const NEEDED: u64 = 310;
 
 const WORKS: u64 = 1 << 60;
@@ -56,8 +56,8 @@ fn shows(cache: &mut Cache, model: &Blocks) -> bool {
     right
 }
 
-// A sync that fails ends the list. Returns whether the disk failed, and whether all is right: no result is wrong, and a
-// crash after a close that returned `Ok` loses no write.
+// A failed sync ends the list. Returns whether the disk failed, and whether each result is right, and a crash after a
+// successful close loses no write.
 fn run(alloc: Global, capacity: usize, k: u64, stays_broken: bool) -> (bool, bool) {
     let (calls_left, mut model) = (Cell::new(k), [10, 11, 12, 13]);
     let dropped = [k % 2 == 0, k % 3 == 0, k % 5 == 0, true];

@@ -1,5 +1,5 @@
 // Erased from crates/lru_replay/src/calls/pairs.rt: do not edit.
-//! The calls of a run that return pairs. The memory for these pairs is taken before the map changes.
+//! The calls of a run that return pairs. Each requests the memory for the pairs before it changes the map.
 
 #[allow(unused_imports)]
 use crate::rattle_std::prelude::*;
@@ -33,7 +33,7 @@ pub fn insert_with<K: Eq + Hash, V, L: Insertion<K, V, K>, S: KeyHasher<K>>(
     }
 }
 
-/// Takes out `front` of the newest pairs, then `back` of the oldest. The others are dropped.
+/// Takes out the `front` newest pairs and then the `back` oldest pairs, and drops the others.
 pub fn drain_pairs<K: Eq + Hash, V, L: Insertion<K, V, K>, S: KeyHasher<K>>(
     alloc: Global,
     map: &mut LruMap<K, V, L, S>,

@@ -1,6 +1,4 @@
 // Erased from crates/lru_replay/src/calls/runs.rt: do not edit.
-//! Lists of calls on a map.
-
 #[allow(unused_imports)]
 use crate::rattle_std::prelude::*;
 
@@ -15,8 +13,7 @@ use crate::rattle_std::hash::Hash;
 
 /// Carries out the calls on the map, one after another, and returns one answer for each.
 ///
-/// Each answer is what the map's own call returns, and the map is left as these calls leave it. `docs/RUNS.md` explains
-/// how to read a run.
+/// Each answer is what the call on the map returns. `docs/RUNS.md` explains how to read a run.
 ///
 /// ```text
 /// let mut map: LruMap<u64, u64> = LruMap::new(alloc, ByLength::new(3), [1, 2, 3, 4], 16);
@@ -26,8 +23,8 @@ use crate::rattle_std::hash::Hash;
 /// assert!(rt; gives && answers.get(2) == Some(&Answer::Value(None)));
 /// ```
 ///
-/// Cost: as the calls, and one request for memory for the answers. `InsertWith`, `List` and `Drain` each make one more
-/// request.
+/// Cost: the cost of the calls, and one request for memory for the answers. `InsertWith`, `List` and `Drain` each make
+/// one more request.
 ///
 /// # Errors
 ///

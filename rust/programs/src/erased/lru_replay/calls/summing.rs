@@ -1,6 +1,4 @@
 // Erased from crates/lru_replay/src/calls/summing.rt: do not edit.
-//! Lists of calls under a limiter with a running total.
-
 #[allow(unused_imports)]
 use crate::rattle_std::prelude::*;
 
@@ -11,10 +9,10 @@ use crate::programs::lru_replay::{Answer, Call};
 use crate::rattle_std::alloc::{AllocError, Global};
 use crate::rattle_std::hash::Hash;
 
-/// Carries out the calls on the map as `run_calls` does, except for calls that would make the limiter's total wrong.
+/// Carries out the calls on the map like `run_calls`, but makes no call that would make the limiter's total wrong.
 ///
 /// If a write would change the cost of its entry, or if a call would set a limiter with another total, the answer is
-/// `CostDiffers`, and nothing changes. So a total that is the sum of the costs stays their sum.
+/// `CostDiffers`, and nothing changes. So if the total was the sum of the costs, it still is.
 ///
 /// ```text
 /// let mut costs: LruMap<u64, u64, ByCost> = LruMap::new(alloc, ByCost::new(10), [1, 2, 3, 4], 16);

@@ -1,6 +1,4 @@
 // Erased from crates/lru_replay/src/lines/bytes.rt: do not edit.
-//! The position of a byte.
-
 #[allow(unused_imports)]
 use crate::rattle_std::prelude::*;
 

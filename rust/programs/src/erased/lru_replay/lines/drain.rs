@@ -1,5 +1,5 @@
 // Erased from crates/lru_replay/src/lines/drain.rt: do not edit.
-//! The line `drain`: takes pairs out, and writes each at once.
+//! The line `drain`.
 
 #[allow(unused_imports)]
 use crate::rattle_std::prelude::*;
@@ -9,8 +9,8 @@ use crate::programs::lru_replay::ReplayError;
 use crate::programs::lru_replay::lines::taken::{end_of_pairs, write_taken};
 use crate::rattle_std::io::Write;
 
-/// Takes out at most `most` of the newest pairs, and writes each. Then it drops the others. If a write fails, nothing
-/// more is written, and the map ends as if no write had failed.
+/// Takes out the `most` newest pairs, writes each at once, and then drops the others. After a failed write, nothing
+/// more is written, but the map still loses all its pairs.
 pub fn write_drain<L: Insertion<u64, u64, u64>, W: Write>(
     writer: &mut W,
     map: &mut LruMap<u64, u64, L>,

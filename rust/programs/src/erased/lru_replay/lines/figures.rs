@@ -6,7 +6,7 @@ use crate::rattle_std::prelude::*;
 
 use crate::erased::lru_limits::{ByCost, ByLength, ByMemoryUsage, UnlimitedCompact};
 
-/// A limiter of a replay, which may have a running total of costs.
+/// A limiter of a replay. It may have a running total of costs.
 pub trait ReportsCost {
     /// Returns the running total of costs, if there is one.
     fn reported_cost(&self) -> Option<u64>;
@@ -36,7 +36,6 @@ impl ReportsCost for ByCost {
     }
 }
 
-/// The figures of a map.
 #[derive(Clone, Copy)]
 pub struct Figures {
     pub len: usize,

@@ -8,10 +8,10 @@ use crate::programs::lru_replay::lines::bytes::index_of;
 use crate::programs::lru_replay::lines::outcome::ReplayError;
 use crate::rattle_std::io::{BufRead, ErrorKind};
 
-/// The bytes of the longest line with a meaning: `insert` with two numbers of 20 digits.
+/// The length in bytes of the longest line with a meaning: `insert` with two numbers of 20 digits.
 const LONGEST: usize = 48;
 
-/// How many bytes of a line are held: one more than the longest line with a meaning, so that longer lines are noticed.
+/// The most bytes of a line that are held: one more than `LONGEST`, so that a longer line is noticed.
 pub const HELD: usize = LONGEST + 1;
 
 pub struct Line {
@@ -55,7 +55,7 @@ impl Line {
     }
 }
 
-/// The part of a line that one look at the reader's buffer gave.
+/// Which part of a line one look at the reader's buffer gave.
 #[derive(Clone, Copy)]
 pub enum Piece {
     Part,
@@ -86,7 +86,6 @@ fn take_piece<R: BufRead>(reader: &mut R, line: &mut Line) -> Result<Piece, Repl
     Ok(Piece::Last)
 }
 
-/// How a line ended.
 #[derive(Clone, Copy)]
 pub enum Ending {
     Feed,
@@ -94,12 +93,12 @@ pub enum Ending {
     Nothing,
 }
 
-/// Reads the next line, and holds its first bytes. A line of any length is read to its end, in constant memory. An
-/// interrupted look at the reader's buffer is repeated.
+/// Reads the next line to its end, and holds its first `HELD` bytes. If a look at the reader's buffer is interrupted,
+/// `read_line` looks again.
 ///
 /// # Errors
 ///
-/// `ReplayError::Read` if the reader fails.
+/// `ReplayError::Read` if the reader fails, or after `u64::MAX` looks without an end.
 pub fn read_line<R: BufRead>(reader: &mut R, line: &mut Line) -> Result<Ending, ReplayError> {
     line.clear();
     for _ in 0..u64::MAX {

@@ -17,7 +17,7 @@ pub enum ReplayEnd {
     NoLimiter,
 }
 
-/// Why a replay stops early. As a number, a failed read is 1 and a failed write 2.
+/// Why a replay stops early.
 ///
 /// ```text
 /// let (read, write) = (ReplayError::Read, ReplayError::Write);
@@ -27,7 +27,7 @@ pub enum ReplayEnd {
 /// ```
 #[derive(Clone, Copy, Debug, PartialEq, Eq)]
 pub enum ReplayError {
-    /// A read failed, or the reader gave `u64::MAX` reads without an end.
+    /// A read failed, or there was no end after `u64::MAX` reads or lines.
     Read = 1,
     /// A write or the flush failed; a write that takes 0 bytes has failed.
     Write = 2,

@@ -1,5 +1,5 @@
 // Erased from crates/lru_replay/src/lines/replays.rt: do not edit.
-//! A replay, from the lines of a reader to the answer lines of a writer.
+//! Replays: the lines of a reader, and the answer lines that a writer gets.
 
 #[allow(unused_imports)]
 use crate::rattle_std::prelude::*;
@@ -114,8 +114,8 @@ fn answer_all<R: BufRead, W: Write>(alloc: Global, reader: &mut R, writer: &mut 
 }
 
 /// Carries out the lines of the reader on an LRU map, and writes the answer lines. The first line names the limiter and
-/// has no answer; docs/REPLAY.md lists the lines and their answers. The output is flushed once, at the end, unless a
-/// write failed.
+/// has no answer; docs/REPLAY.md lists the lines and their answers. If no write fails, the output is flushed once, at
+/// the end.
 ///
 /// ```text
 /// let mut reader = b"length 1\ninsert 1 10\n".as_slice();
@@ -124,16 +124,16 @@ fn answer_all<R: BufRead, W: Write>(alloc: Global, reader: &mut R, writer: &mut 
 /// assert_eq!(rt; writer.as_slice(), b"true\n".as_slice());
 /// ```
 ///
-/// In the contract, a reader's bytes and a writer's bytes are the whole streams, however reads and writes cut them. If
-/// the type of a reader or a writer says nothing about its bytes, the contract says nothing about them.
+/// The contract is about the whole streams of bytes, however reads and writes cut them. If the type of a reader or a
+/// writer says nothing about its bytes, the contract says nothing about them.
 ///
-/// Cost: as the calls. A line of any length is read in constant memory, and `put` requests memory for the entries that
-/// it writes.
+/// Cost: the cost of the calls. A line of any length is read in constant memory. `put` requests memory for the entries
+/// that it writes.
 ///
 /// # Errors
 ///
 /// `Read`: a read failed. The lines that were read whole are answered, and the output is flushed. `Write`: a write or
-/// the flush failed. After a failed write no more lines are read, and nothing more is written.
+/// the flush failed. After a failed write, no more lines are read and nothing more is written.
 pub fn replay<R: BufRead, W: Write>(alloc: Global, reader: &mut R, writer: &mut W) -> Result<ReplayEnd, ReplayError> {
     let end = answer_all(alloc, reader, writer);
     if let Err(ReplayError::Write) = end {

@@ -1,5 +1,5 @@
 // Erased from crates/lru_replay/src/lines/taken.rt: do not edit.
-//! The pairs that the line `drain` takes out, each written at once.
+//! Writes the pairs that the line `drain` takes out, one at a time.
 
 #[allow(unused_imports)]
 use crate::rattle_std::prelude::*;

@@ -1,6 +1,6 @@
 // Erased from crates/lru_replay/src/lines/words.rt: do not edit.
-//! What a line means: a call on the map, or, for the first line, the limit of the map. A line is a word and at most two
-//! numbers.
+//! What a line means: the first line means the limit of the map, and each other line means a call. A line is a word and
+//! at most two numbers.
 
 #[allow(unused_imports)]
 use crate::rattle_std::prelude::*;
@@ -15,14 +15,13 @@ pub enum Numbers {
     Two(u64, u64),
 }
 
-/// The limit of the map.
 #[derive(Clone, Copy)]
 pub enum Limit {
     /// `length N`: at most N pairs.
     Length(u32),
-    /// `memory N E`: a table of at most N bytes, in which an entry has E bytes.
+    /// `memory N E`: a table of at most N bytes, if an entry counts E bytes.
     Memory(usize, usize),
-    /// `cost N`: values whose sum is at most N.
+    /// `cost N`: the sum of the values is at most N.
     Cost(u64),
     /// `compact`: no limit.
     Compact,
@@ -74,8 +73,8 @@ fn number(word: &[u8]) -> Option<u64> {
     text.parse().ok()
 }
 
-/// Returns false if the word is empty, or begins with a plus, or with a zero before more digits. `parse` rejects all
-/// other words that are no number.
+/// Returns false if the word is empty, begins with a plus, or begins with a zero and has more bytes. `parse` rejects
+/// each other word that is no number.
 fn starts_as_number(word: &[u8]) -> bool {
     if word.is_empty() || word[0] == b'+' {
         return false;

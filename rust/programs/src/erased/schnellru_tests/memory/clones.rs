@@ -39,8 +39,8 @@ impl BuildHasher for Live<'_> {
 
 type Map<'a> = LruMap<Live<'a>, Live<'a>, Storing<Live<'a>>, Live<'a>>;
 
-/// Copies a map of seven entries with at most `allowed` clones. Returns whether the copy clones each key, each value,
-/// the limiter and the hasher, and whether it drops these clones if one fails.
+/// Copies a map of seven entries. Only the first `allowed` clones succeed. Returns whether the copy clones each key,
+/// each value, the limiter and the hasher, and drops these clones if a clone fails.
 fn is_cloned_once(map: &Map, lives: &Lives, allowed: u64) -> bool {
     lives.clones.set(allowed);
     let is_made = map.try_clone().is_ok();

@@ -29,7 +29,7 @@ impl Lives {
     }
 }
 
-/// A number that is counted while it lives.
+/// A number. `lives` counts how many numbers are alive.
 pub struct Live<'a> {
     pub number: u64,
     pub lives: &'a Cell<u64>,

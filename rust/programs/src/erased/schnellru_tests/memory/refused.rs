@@ -1,5 +1,5 @@
 // Erased from crates/schnellru_tests/src/memory/refused.rt: do not edit.
-//! Copies of texts, and keys that the limiter makes. Their requests for memory are refused in turn.
+//! Copies of texts, and keys that the limiter makes. Each request for memory is refused in turn.
 #[allow(unused_imports)]
 use crate::rattle_std::prelude::*;
 
