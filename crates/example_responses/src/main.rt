@@ -4,9 +4,10 @@
 
 mod cache;
 mod line;
+mod metrics;
 
-use cache::ResponseCache;
-use line::Line;
+use cache::{Response, ResponseCache};
+use line::{Expiry, Line};
 use lru_tenants::TenantError;
 use std::io;
 
@@ -49,10 +50,13 @@ fn answer(
             return Ok(());
         }
         Some(Line::Host(host, budget)) => return say_evicted(rt, cache.set_host(host, budget)),
-        Some(Line::Put(host, path, response)) => return say_evicted(
-            rt,
-            cache.put(host, path, response),
-        ),
+        Some(Line::Put(host, path, bytes, expiry)) => {
+            let expires = match expiry {
+                Expiry::At(time) => time,
+                Expiry::MaxAge(age) => now.saturating_add(age),
+            };
+            return say_evicted(rt, cache.put(host, path, Response { bytes, expires }));
+        }
         Some(Line::Get(host, path)) => match cache.look_up(host, path, *now) {
             Ok(Some(it)) => return println!(rt; "hit {} until {}", it.bytes, it.expires),
             Ok(None) => "miss",
@@ -68,6 +72,7 @@ fn answer(
             Err(error) => text_of(error),
         },
         Some(Line::Stats) => return stats(rt, cache),
+        Some(Line::Metrics) => return metrics::write(rt, cache),
         None => "what?",
     };
     println!(rt; "{text}")

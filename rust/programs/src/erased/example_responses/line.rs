@@ -1,18 +1,27 @@
 // Erased from crates/example_responses/src/line.rt: do not edit.
 //! The lines of the program.
+
 #[allow(unused_imports)]
 use crate::rattle_std::prelude::*;
 
-use crate::programs::example_responses::cache::Response;
+/// When a response becomes stale.
+#[derive(Clone, Copy)]
+pub enum Expiry {
+    At(u64),
+    /// After this time, as `max-age` of HTTP's `Cache-Control` says.
+    MaxAge(u64),
+}
 
 pub enum Line<'a> {
     Now(u64),
     Host(&'a str, u64),
-    Put(&'a str, &'a str, Response),
+    /// A response of this many bytes.
+    Put(&'a str, &'a str, u64, Expiry),
     Get(&'a str, &'a str),
     Purge(&'a str, &'a str),
     PurgeBelow(&'a str, &'a str),
     Stats,
+    Metrics,
 }
 
 fn number(word: &str) -> Option<u64> {
@@ -23,10 +32,10 @@ fn two(text: &str) -> (&str, &str) {
     text.split_once(' ').unwrap_or((text, ""))
 }
 
-fn response(bytes: &str, expires: &str) -> Option<Response> {
-    match (number(bytes), number(expires)) {
-        (Some(bytes), Some(expires)) => Some(Response { bytes, expires }),
-        _ => None,
+fn expiry_of(word: &str) -> Option<Expiry> {
+    match word.strip_prefix("max-age=") {
+        Some(age) => Some(Expiry::MaxAge(number(age)?)),
+        None => Some(Expiry::At(number(word)?)),
     }
 }
 
@@ -38,8 +47,8 @@ pub fn parse(text: &str) -> Option<Line<'_>> {
         "now" if path.is_empty() => Some(Line::Now(number(name)?)),
         "host" if path == "budget" => Some(Line::Host(name, number(rest)?)),
         "put" => {
-            let (bytes, expires) = two(rest);
-            Some(Line::Put(name, path, response(bytes, expires)?))
+            let (bytes, word) = two(rest);
+            Some(Line::Put(name, path, number(bytes)?, expiry_of(word)?))
         }
         "get" | "purge" if path.is_empty() || !rest.is_empty() => None,
         "get" => Some(Line::Get(name, path)),
@@ -48,6 +57,7 @@ pub fn parse(text: &str) -> Option<Line<'_>> {
             None => Some(Line::Purge(name, path)),
         },
         "stats" if name.is_empty() => Some(Line::Stats),
+        "metrics" if name.is_empty() => Some(Line::Metrics),
         _ => None,
     }
 }
