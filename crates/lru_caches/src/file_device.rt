@@ -88,6 +88,8 @@ impl<F: Read + Write + Seek, const N: usize> FileDevice<F, N> {
     ///
     /// `File`: the seek failed, or N is 0.
     pub fn open(mut file: F) -> Result<Self, FileError>
+    where
+        F: Drop,
         ensures usable { IfOk result (λ device. IsTrue device.is_usable) }
         ensures fresh { IfOk result (λ device. device.file.log.events ≡ []) }
     {

@@ -65,6 +65,8 @@ impl<F: Read + Write + Seek, const N: usize> HashedFileDevice<F, N> {
     ///
     /// Cost and `# Errors`: as `FileDevice::open`.
     pub fn open(mut file: F) -> Result<Self, FileError>
+    where
+        F: Drop,
         requires { 8 ≤ N }
         ensures usable { IfOk result (λ device. IsTrue device.is_usable) }
         ensures fresh { IfOk result (λ device. device.file.log.events ≡ []) }

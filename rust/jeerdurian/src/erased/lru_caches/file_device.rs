@@ -85,7 +85,8 @@ impl<F: Read + Write + Seek, const N: usize> FileDevice<F, N> {
     /// # Errors
     ///
     /// `File`: the seek failed, or N is 0.
-    pub fn open(mut file: F) -> Result<Self, FileError> {
+    pub fn open(mut file: F) -> Result<Self, FileError>
+where {
         let count = blocks_of(&mut file, N)?;
         Ok(FileDevice::new(file, count))
     }

@@ -52,7 +52,8 @@ impl<F: Read + Write + Seek, const N: usize> HashedFileDevice<F, N> {
     /// ```
     ///
     /// Cost and `# Errors`: as `FileDevice::open`.
-    pub fn open(mut file: F) -> Result<Self, FileError> {
+    pub fn open(mut file: F) -> Result<Self, FileError>
+where {
         let count = blocks_of(&mut file, N)?;
         Ok(HashedFileDevice::new(file, count))
     }
