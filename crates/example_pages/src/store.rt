@@ -238,7 +238,8 @@ impl<'a> Store<'a> {
         Ok(())
     }
 
-    /// Returns the greatest transaction that a page of the log or the file names. Fails if a page of the file is torn.
+    /// Returns the greatest number of a transaction that a page of the log or the file names. Fails if a page of the
+    /// file is torn.
     fn newest(&mut self) -> Result<u64, StoreError> {
         let mut newest = self.log.newest()?;
         for n in 0..self.len {
@@ -248,7 +249,6 @@ impl<'a> Store<'a> {
         Ok(newest)
     }
 
-    /// Lends the cache.
     pub fn cache(&self) -> &Pages<'a> {
         &self.pages
     }

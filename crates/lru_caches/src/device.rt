@@ -37,7 +37,7 @@ pub trait BlockDevice<B> {
     /// What a crash at this moment may leave as the block of this number.
     ghost may_leave: { Self → ℕ → Self.Seen → Type 0 };
 
-    /// No `sync` has failed.
+    /// Whether no `sync` has failed.
     ghost is_usable: { Self → Bool };
 
     /// A number that changes exactly when a call fails, such as the number of failed calls.
@@ -51,11 +51,11 @@ pub trait BlockDevice<B> {
     /// test it.
     ghost IsHonest: { Self → Type 0 } = { λ _. Unit {0} };
 
-    /// A `write` of a block to this number may lead from the first state to the second. By default this holds of any
+    /// A `write` of a block to this number may lead from the first state to the second. By default this holds for any
     /// two states.
     ghost write_gives: { Self → ℕ → Self.Seen → Self → Type 0 } = { λ _ _ _ _. Unit {0} };
 
-    /// A `sync` may lead from the first state to the second. By default this holds of any two states.
+    /// A `sync` may lead from the first state to the second. By default this holds for any two states.
     ghost sync_gives: { Self → Self → Type 0 } = { λ _ _. Unit {0} };
 
     /// Returns whether the device has a block of this number.

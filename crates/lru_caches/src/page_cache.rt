@@ -55,7 +55,7 @@ pub enum PageError<E> {
 /// page.
 ///
 /// After a `flush` that returned `Ok`, a crash leaves each block as the cache showed it then. If a later call wrote the
-/// block, a crash may also leave it as it was written, or torn. `docs/CACHES.md` says what this supposes of a disk.
+/// block, a crash may also leave it as it was written, or torn. `docs/CACHES.md` says what this requires of a disk.
 ///
 /// Call `close` or `discard` in the end. Code that drops or forgets a cache does not compile, because its dirty pages
 /// would be lost.
@@ -239,9 +239,8 @@ impl<B: Copy, D: BlockDevice<B>, S: KeyHasher<u64>> PageCache<B, D, S> {
     ///
     /// # Errors
     ///
-    /// `Device`: a write or the `sync` failed. The same pages are dirty as before. If a write failed, the next flush
-    /// writes them again. If the `sync` failed, the device is not usable from then on. `Broken`: a `sync` had failed
-    /// before.
+    /// `Device`: a write or the `sync` failed. The dirty pages stay dirty. If a write failed, the next flush writes
+    /// them again. If the `sync` failed, the device is not usable from then on. `Broken`: a `sync` had failed before.
     pub fn flush(&mut self) -> Result<(), PageError<D::Error>>
         ensures keeps { ShowsTheSame D.BlockDevice self.old self.new }
         ensures flushed { OnOk result (D.IsHonest self.new.device →
@@ -287,7 +286,7 @@ impl<B: Copy, D: BlockDevice<B>, S: KeyHasher<u64>> PageCache<B, D, S> {
     ///
     /// # Errors
     ///
-    /// The flush failed. The error contains the cache, with the same pages. The same pages are dirty.
+    /// The flush failed. The error contains the cache, whose pages have not changed.
     pub fn close(mut self) -> Result<D, Unclosed<B, D, S>>
     where
         S: Drop,

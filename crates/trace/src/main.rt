@@ -100,7 +100,7 @@ impl Asked {
         true
     }
 
-    /// Returns `None` if the arguments ask for the best possible policies and a warm-up.
+    /// Returns the policies, or `None` if the arguments ask for both the best possible policies and a warm-up.
     fn policies(&self) -> Option<Policies> {
         match (self.best, self.warm_up) {
             (true, None) => Some(Policies::Best),

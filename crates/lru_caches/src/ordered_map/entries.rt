@@ -9,7 +9,7 @@ use std::hash::Hash;
 use std::iter::FusedIterator;
 use std::marker::Model;
 
-/// An iterator over the entries of an ordered map, oldest first, from both ends.
+/// A double-ended iterator over the entries of an ordered map, oldest first.
 ///
 /// ```
 /// let mut entries = map.iter();

@@ -9,7 +9,7 @@ use std::hash::Hash;
 use std::iter::FusedIterator;
 use std::marker::Model;
 
-/// An iterator that owns an ordered map and takes its entries out, oldest first, from both ends. If it is dropped, it
+/// A double-ended iterator that owns an ordered map and takes its entries out, oldest first. A drop of the iterator
 /// drops the remaining entries.
 ///
 /// ```

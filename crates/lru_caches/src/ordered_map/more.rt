@@ -64,8 +64,8 @@ impl<K: Eq + Hash, V, S: KeyHasher<K>> OrderedMap<K, V, S> {
         self.map.try_reserve(n)
     }
 
-    /// Shrinks the table to the smallest number of buckets that can hold the entries. Returns whether it had more
-    /// buckets.
+    /// Shrinks the table to the smallest number of buckets that can hold the entries. Returns whether the table had
+    /// more buckets.
     ///
     /// ```
     /// assert_eq!(rt; map.try_reserve(100), Ok(()));

@@ -80,7 +80,7 @@ impl<B: Copy, D: BlockDevice<B>, S: KeyHasher<u64>> PageCache<B, D, S> {
     ///
     /// # Errors
     ///
-    /// As `read`. The closure is not called then.
+    /// As `read`. After an error the closure is not called.
     pub fn read_with<R, U: FnOnce(&B) -> R>(
         &mut self,
         n: u64,
