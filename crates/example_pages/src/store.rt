@@ -52,7 +52,6 @@ pub struct Sizes {
     pub cache: usize,
 }
 
-/// What a recovery did.
 #[derive(Clone, Copy, Default)]
 pub struct Recovered {
     pub transactions: u64,
@@ -238,8 +237,8 @@ impl<'a> Store<'a> {
         Ok(())
     }
 
-    /// Returns the greatest number of a transaction that a page of the log or the file names. Fails if a page of the
-    /// file is torn.
+    /// Returns the greatest transaction number on the pages of the log and the file. Fails if a page of the file is
+    /// torn.
     fn newest(&mut self) -> Result<u64, StoreError> {
         let mut newest = self.log.newest()?;
         for n in 0..self.len {

@@ -173,7 +173,6 @@ impl ResponseCache {
         Ok(found)
     }
 
-    /// Removes the response of a host for a path.
     pub fn purge(&mut self, host: &str, path: &str) -> Result<bool, TenantError> {
         Ok(self.entries.remove(&host, &path)?.is_some())
     }

@@ -28,7 +28,7 @@ pub trait BlockDevice<B> {
     /// What contracts see of a block.
     ghost seen: { B → Self.Seen };
 
-    /// Whether the device has a block of this number. No call changes it.
+    /// Whether the device has a block of this number. No call changes this.
     ghost has: { Self → ℕ → Bool };
 
     /// The block of each number, if it is known.

@@ -1,4 +1,4 @@
-//! `PageCache`. A contract sees a cache as its pages, newest first, and its device.
+//! `PageCache`. A contract sees a cache as a `Cached`: its pages (newest first), mode, counts and device.
 ghost use Rattle.std.specs.Prelude.{◌≡◌, ◌≤◌, ℕ, [], Some, true, false, length, max, IsTrue, ◌↔◌, IfOk, IfErr, OnOk, OnErr};
 ghost use Rattle.lru_model.specs.Lists.{is_empty};
 ghost use Rattle.lru_caches.specs.Pages.{shown, cleaned, IsCached, ShowsTheSame, CrashAdds, IsFlushCause, IsFlush, IsCutOff};
@@ -186,8 +186,8 @@ impl<B: Copy, D: BlockDevice<B>, S: KeyHasher<u64>> PageCache<B, D, S> {
         self.map.contains(&n)
     }
 
-    /// Returns how many calls that read, write or pin a page found it cached. A call that fails counts nothing. The
-    /// count stops at `u64::MAX`.
+    /// Returns how many calls that read, write or pin a page found the page cached. A call that fails counts nothing.
+    /// The count stops at `u64::MAX`.
     ///
     /// Cost: `O(1)`.
     ///
@@ -201,7 +201,7 @@ impl<B: Copy, D: BlockDevice<B>, S: KeyHasher<u64>> PageCache<B, D, S> {
         self.counts.hits
     }
 
-    /// Returns how many calls that read, write or pin a page did not find it cached (see `hits`).
+    /// Returns how many calls that read, write or pin a page did not find the page cached (see `hits`).
     ///
     /// Cost: `O(1)`.
     ///

@@ -65,7 +65,6 @@ module _ {K V S : Type 0} (eq : K → K → Bool) (cost : K → V → ℕ) (acco
 
 module _ {K V S H : Type 0} (rules : Rules K V S) (offers : Offers K V S K) (eq : K → K → Bool)
     (hash_of : H → K → ℕ) where
-  -- either a step of a map, or there is no memory for the returned pairs
   abbrev pub CallStep : State K V S H → Call K V S → Reply K V → State K V S H → Type 0
   CallStep = StepIfMemory (ReplyStep rules offers eq hash_of)
 

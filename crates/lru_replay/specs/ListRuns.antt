@@ -78,7 +78,7 @@ module _ {K V S : Type 0} (rules : Rules K V S) (offers : Offers K V S K) (eq : 
   determined c call = None
 
   -- The call may turn the contents c into d and give this reply. The table determines the results of a reservation and
-  -- of a shrink, and all figures except the number of pairs. So the step permits any of these.
+  -- of a shrink, and all figures except the number of pairs. So the step permits any.
   module _ (hash_of : K → ℕ) where
     abbrev pub ListStep : Contents K V S → Call K V S → Reply K V → Contents K V S → Type 0
     ListStep c (calls.Insert key v) reply d = (result : Result Bool AllocError)
@@ -102,6 +102,5 @@ module _ {K V S : Type 0} (rules : Rules K V S) (offers : Offers K V S K) (eq : 
         (figures : Figures) × (figures.len ≡ length c.pairs) × (reply ≡ stats figures) × (d ≡ c)
     ListStep c call reply d = determined c call ≡ Some (reply, d)
 
-    -- Either the call makes a `ListStep`, or there is no memory for the returned pairs, and nothing changes.
     abbrev pub ListCallStep : Contents K V S → Call K V S → Reply K V → Contents K V S → Type 0
     ListCallStep = StepIfMemory ListStep

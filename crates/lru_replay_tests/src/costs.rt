@@ -132,8 +132,8 @@ fn read_both<L: Source>(
     ))
 }
 
-/// Makes a text the newest. If the text is not there, makes its value. If each text determines how many bytes its value
-/// has, the call is a reference.
+/// Makes a text the newest. If the text is not there, inserts it with a value from `make`. If each text determines how
+/// many bytes its value has, the call is a reference.
 fn remember<F: FnOnce() -> Vec<u8>>(
     map: &mut LruMap<String, Vec<u8>, ByCost>,
     text: String,

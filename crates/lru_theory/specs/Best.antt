@@ -27,7 +27,7 @@ module _ {K : Type 0} (eq : K → K → Bool) where
   abbrev pub bypass_refer : ℕ → K → List K → List K → List K
   bypass_refer n key trace keys = take n (put trace key (remove_key (eq key) keys))
 
-  -- how many references of the trace do not find their key, if `refer` changes the keys
+  -- how many references of the trace do not find their key, if `refer` changes the keys at each reference
   abbrev pub faults_ahead : (K → List K → List K → List K) → List K → List K → ℕ
   faults_ahead refer keys [] = 0
   faults_ahead refer keys (key ∷ trace) = fault eq key keys + faults_ahead refer (refer key trace keys) trace

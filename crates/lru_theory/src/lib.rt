@@ -95,9 +95,10 @@ pub fn min_is_best<K: Eq>()
         (left : List K) × Served (Bypasses K.eq n) left [] trace (bypass_misses K.eq n trace) }
 {}
 
-/// LRU is near MIN. MIN begins with no keys, and LRU with k ≥ h places with any keys. LRU misses at most `k / (k + 1 -
-/// h)` times as often as MIN with h places (`min`), and at most `k / (k - h)` times as often as MIN with bypass and h
-/// places (`bypass`). If LRU begins with no keys, and has n places, like MIN, it misses at least as often (`least`).
+/// LRU is near MIN. MIN begins with no keys. LRU has k ≥ h places, and begins with any keys. LRU misses at most
+/// `k / (k + 1 - h)` times as often as MIN with h places (`min`), and at most `k / (k - h)` times as often as MIN with
+/// bypass and h places (`bypass`). If LRU begins with no keys, and has n places, like MIN, it misses at least as often
+/// (`least`).
 pub fn lru_is_near_min<K: Eq>()
     ensures min { (k h : ℕ) (past trace : List K) → 0 < h → h ≤ k →
         (k + 1 - h) * misses K.eq k past trace ≤ k * min_misses K.eq h trace }

@@ -67,8 +67,8 @@ impl Curve {
         Curve::make(alloc, None)
     }
 
-    /// Makes a curve that also keeps the references, with 8 bytes for each. From these `best` counts how often the best
-    /// possible policies miss.
+    /// Makes a curve that also keeps the references, with 8 bytes for each. From these, the `Best` that `best` returns
+    /// counts how often the best possible policies miss.
     ///
     /// ```
     /// let mut curve = Curve::keeping_references(alloc)?;
