@@ -66,7 +66,8 @@ pub fn calls_make_references<K: Eq + Hash + Drop, V: Drop, S: KeyHasher<K>>()
         Reference (of_cost K.eq weight cost) key old new }
 {}
 
-/// `ensure_newest` and `get_or_insert`, whose closure is `make`, make references, too.
+/// Like inserts (see `calls_make_references`), `ensure_newest` and `get_or_insert` make a reference if they return
+/// `Ok`.
 pub fn gets_that_insert_make_references<
     K: Eq + Hash + Drop,
     V: Drop,
@@ -80,7 +81,8 @@ pub fn gets_that_insert_make_references<
         Reference (of_cost K.eq weight cost) key old new }
 {}
 
-/// The fallible forms of `ensure_newest` and `get_or_insert` make references, too.
+/// Like inserts (see `calls_make_references`), the fallible forms of `ensure_newest` and `get_or_insert` make a
+/// reference if they return `Ok`.
 pub fn gets_that_insert_if_made_make_references<
     K: Eq + Hash + Drop,
     V: Drop,

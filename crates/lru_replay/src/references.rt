@@ -59,7 +59,7 @@ pub fn calls_make_references<K: Eq + Hash + Drop, V: Drop, S: KeyHasher<K>>()
     laws::calls_keep_the_length::<K, V, ByLength, S>();
 }
 
-/// `ensure_newest` and `get_or_insert`, whose closure is `make`, make references, too.
+/// If `ensure_newest` or `get_or_insert`, with the closure `make`, returns `Ok`, it makes a reference.
 pub fn gets_that_insert_make_references<
     K: Eq + Hash + Drop,
     V: Drop,
@@ -76,7 +76,7 @@ pub fn gets_that_insert_make_references<
     laws::calls_keep_the_length::<K, V, ByLength, S>();
 }
 
-/// The fallible forms of `ensure_newest` and `get_or_insert` make references, too.
+/// If the fallible form of `ensure_newest` or `get_or_insert` returns `Ok`, it makes a reference.
 pub fn gets_that_insert_if_made_make_references<
     K: Eq + Hash + Drop,
     V: Drop,
