@@ -92,7 +92,7 @@ impl<'a> Store<'a> {
         self.checkpoint()
     }
 
-    /// Writes all pages to their file. Then the log begins at its front again.
+    /// Writes all changed pages to their file. Then the log begins at its front again.
     pub fn checkpoint(&mut self) -> Result<(), StoreError> {
         self.admit()?;
         self.pages.flush()?;

@@ -54,8 +54,8 @@ pub enum PageError<E> {
 /// only the cached page, which is dirty then. The cache writes a dirty page to the device when it evicts or flushes the
 /// page.
 ///
-/// After a `flush` that returned `Ok`, a crash leaves each block as the cache showed it then. If a later call wrote the
-/// block, a crash may also leave it as it was written, or torn. `docs/CACHES.md` says what this requires of a disk.
+/// After a `flush` that returned `Ok`, a crash leaves each block as the cache showed it then. If a later call wrote a
+/// block, a crash may also leave the written block or a torn block. `docs/CACHES.md` says what this requires of a disk.
 ///
 /// Call `close` or `discard` in the end. Code that drops or forgets a cache does not compile, because its dirty pages
 /// would be lost.

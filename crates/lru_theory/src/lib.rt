@@ -10,7 +10,7 @@ ghost use Rattle.lru_theory.specs.Policies.{Loads, Demands, Bypasses, Served};
 ghost use Rattle.lru_theory.specs.Best.{min_misses, bypass_misses};
 ghost use Rattle.lru_theory.specs.Inclusion.{KeyCall, after_calls, IsIncluded, IsSubsequence};
 
-/// If an LRU cache of n places contains the n keys that were referenced last, it does so after any trace, too (`keys`).
+/// If an LRU cache of n places contains the n keys that were referenced last, it still does after any trace (`keys`).
 /// It misses exactly at the references whose reuse distance is at least n, and at the first reference to each key
 /// (`misses`).
 pub fn a_cache_is_the_newest<K: Eq>()

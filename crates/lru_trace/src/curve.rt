@@ -18,8 +18,8 @@ use std::marker::Model;
 /// The misses of a trace in LRU caches of every size, counted in one pass.
 ///
 /// A reference misses in a cache of n places if it is the first reference to its key, or if its reuse distance is at
-/// least n. So the curve counts how many references had each reuse distance. If it does not keep the references, its
-/// memory is in proportion to the number of keys.
+/// least n. So the curve counts how many references had each reuse distance. If the curve does not keep the references,
+/// its memory is in proportion to the number of keys.
 ///
 /// ```
 /// let mut curve = Curve::new(alloc)?;

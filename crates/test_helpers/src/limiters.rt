@@ -90,7 +90,7 @@ impl Limiter<u64, u64> for Alternating {
     }
 }
 
-/// Limits nothing. Writes 0 into each removed value, and into its key if a flag is set. Keeps the last removed entry as
+/// Limits nothing. Writes 0 into each removed value, and into its key if `keys` is set. Keeps the last removed entry as
 /// it was.
 #[derive(Clone, Copy, Debug, Default)]
 pub struct Blanking {
