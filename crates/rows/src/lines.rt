@@ -6,7 +6,7 @@ use lru_replay::{ReplayEnd, ReplayError, replay, status};
 use std::alloc::Global;
 use std::io::{BufReader, ErrorKind};
 
-/// The longest input for which each read and each write fails in turn. For a longer input only the first three do.
+/// The longest input for which each read and each write fails in turn. For a longer input only the first three fail.
 const LONGEST_CUT: usize = 2000;
 
 type End = Result<ReplayEnd, ReplayError>;

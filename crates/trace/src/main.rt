@@ -61,7 +61,7 @@ struct Asked {
 }
 
 impl Asked {
-    /// Returns whether the argument is known.
+    /// Takes an argument, and returns whether it is known and valid.
     fn take(&mut self, argument: &str) -> bool {
         match self.next {
             Next::Word => return self.take_word(argument),
