@@ -1,4 +1,4 @@
-//! `PageCache`. A contract sees a cache as a `Cached`: its pages (newest first), mode, counts and device.
+//! `PageCache`. A contract sees a cache as a `Cached`: its pages (newest first), capacity, mode, counts and device.
 ghost use Rattle.std.specs.Prelude.{◌≡◌, ◌≤◌, ℕ, [], Some, true, false, length, max, IsTrue, ◌↔◌, IfOk, IfErr, OnOk, OnErr};
 ghost use Rattle.lru_model.specs.Lists.{is_empty};
 ghost use Rattle.lru_caches.specs.Pages.{shown, cleaned, IsCached, ShowsTheSame, CrashAdds, IsFlushCause, IsFlush, IsCutOff};
