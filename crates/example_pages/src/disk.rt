@@ -51,7 +51,7 @@ impl<'a> CrashFile<'a> {
         })
     }
 
-    /// Leaves each sector as it was made durable, or as it was written afterwards.
+    /// Leaves each sector as it was last made durable, or as it was last written.
     pub fn crash(&mut self, random: &mut Random) {
         let sectors = self
             .now
@@ -130,7 +130,6 @@ impl Durable for CrashFile<'_> {
     }
 }
 
-/// A file of a store.
 #[derive(Drop)]
 pub enum Disk<'a> {
     File(File),
@@ -138,7 +137,6 @@ pub enum Disk<'a> {
 }
 
 impl Disk<'_> {
-    /// Crashes a file in memory.
     pub fn crash(&mut self, random: &mut Random) {
         if let Disk::Crash(file) = self {
             file.crash(random);

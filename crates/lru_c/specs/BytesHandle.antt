@@ -1,4 +1,4 @@
--- The type of a map of byte strings in the logic.
+-- The type of a map of byte strings, as a `RattleType`.
 use Rattle.std.specs.Borrow.{RattleType, u8, usize}
 use Rattle.std.specs.contracts.alloc.Global as global
 use Rattle.std.specs.contracts.impls.GlobalAllocator.TheImpl as heap

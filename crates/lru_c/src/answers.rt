@@ -7,7 +7,7 @@ use std::alloc::AllocError;
 /// What a put returns if the map contains the key with the new value afterwards. A `get_or_insert` that finds the key
 /// returns `STORED`, too.
 pub const STORED: u32 = 0;
-/// What a put returns if the key is not in the map, although no allocation failed.
+/// What a put returns if the key is not in the map afterwards, and no allocation failed.
 pub const REJECTED: u32 = 1;
 /// What a put returns if memory ran out.
 pub const OUT_OF_MEMORY: u32 = 2;

@@ -9,7 +9,7 @@ use std::marker::{Model, PhantomData};
 use std::mem::replace;
 use std::ptr::null_mut;
 
-// Takes the map out of a handle, makes a call on the map, and puts it back. If there is no map, returns the last
+// Takes the map out of a handle, makes a call on the map, and puts the map back. If there is no map, returns the last
 // argument.
 macro_rules! with_map {
     ($lru:ident, $alloc:ident, |$map:ident| $call:expr, $nothing:expr) => {

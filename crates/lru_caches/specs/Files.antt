@@ -47,7 +47,7 @@ abbrev pub known : List Event → ℕ → Option (List ℕ)
 known [] n = None
 known (e ∷ earlier) n = known_after e.0 (nat_eq n e.1) e.2 (known earlier n)
 
--- What a crash leaves of a block after an event, if that is determined. `block` is the block, if it is known.
+-- What a crash after an event leaves of a block, if the events determine it. `block` is the block, if it is known.
 abbrev pub left_after : ℕ → Bool → Option (List ℕ) → Option (List ℕ) → Option (List ℕ)
 left_after zero same block old = old
 left_after (suc zero) same block old = old
@@ -56,7 +56,7 @@ left_after (suc (suc (suc zero))) same block old = if same then None else old
 left_after (suc (suc (suc (suc zero)))) same block old = old
 left_after (suc (suc (suc (suc (suc more))))) same block old = block
 
--- what a crash leaves as block n, if that is determined
+-- what a crash leaves as block n, if the events determine it
 abbrev pub left : List Event → ℕ → Option (List ℕ)
 left [] n = None
 left (e ∷ earlier) n = left_after e.0 (nat_eq n e.1) (known earlier n) (left earlier n)

@@ -18,7 +18,7 @@ pub record Cached (B D : Type 0) : Type 0 where
   -- the cached pages by their numbers, newest first: each has a block, and may be dirty or pinned or both
   pub pages : List (ℕ × Page B)
   pub capacity : ℕ
-  -- whether no dirty page is evicted
+  -- whether dirty pages stay until a flush
   pub keeps_dirty : Bool
   -- how many calls that succeeded found their page cached, and how many did not
   pub counts : Counts
@@ -130,7 +130,7 @@ module _ {B D E S : Type 0} (d : device.Ghosts D B E S) where
   abbrev pub shown : Cached B D → ℕ → Option S
   shown cache n = block_at cache.pages cache.device n
 
-  -- the device is usable, and has returned what it should
+  -- the device is usable and honest (`IsHonest`)
   abbrev pub IsGood : D → Type 0
   IsGood device = IsTrue (d.is_usable device) × d.IsHonest device
 
@@ -138,12 +138,12 @@ module _ {B D E S : Type 0} (d : device.Ghosts D B E S) where
   abbrev pub ShowsTheSame : Cached B D → Cached B D → Type 0
   ShowsTheSame old new = IsGood new.device → (n : ℕ) (block : S) → shown old n ≡ Some block → shown new n ≡ Some block
 
-  -- there was a dirty page, and this is its block or a torn block
+  -- there was a dirty page, and `block` is its block or a torn block
   abbrev pub IsWritten : Option (Page B) → S → Type 0
   IsWritten None block = ⊥
   IsWritten (Some page) block = IsTrue page.is_dirty × ((block ≡ d.seen page.block) ⊎ d.IsTorn block)
 
-  -- a crash may leave no more than before, except for the blocks of pages that were dirty
+  -- a crash may leave only what it might leave before, and the blocks of pages that were dirty, perhaps torn
   abbrev pub CrashAdds : List (ℕ × Page B) → D → D → Type 0
   CrashAdds pages old new = (n : ℕ) (block : S) → d.may_leave new n block
       → d.may_leave old n block ⊎ IsWritten (lookup (nat_eq n) pages) block
@@ -198,11 +198,10 @@ module _ {B D E S : Type 0} (d : device.Ghosts D B E S) where
   IsFault old new Broken = ⊥
   IsFault old new Full = ⊥
 
-  -- why a flush fails
   abbrev pub IsFlushCause : D → D → PageError E → Type 0
   IsFlushCause old new e = IsFault old new e ⊎ ((e ≡ Broken) × (d.is_usable old ≡ false))
 
-  -- The pages after a call that failed. Either all are still there, or memory ran out after an eviction.
+  -- The pages after a call that failed. Either they did not change, or memory ran out after an eviction.
   abbrev pub Leaves : Cached B D → Cached B D → PageError E → Type 0
   Leaves old new e = (new.pages ≡ old.pages)
       ⊎ ((e ≡ Memory) × (new.pages ≡ with_room old.capacity old.keeps_dirty old.pages))
@@ -215,8 +214,8 @@ module _ {B D E S : Type 0} (d : device.Ghosts D B E S) where
   -- what each call that reads, writes or pins page n does
   pub record UsesPage {A : Type 0} (n : ℕ) (old : Cached B D) (result : Result A (PageError E)) (new : Cached B D)
       : Type 0 where
-    -- A crash may leave more only for pages that were dirty. If the cache keeps dirty pages or has page n, nothing is
-    -- written.
+    -- A crash may leave more only for pages that were dirty. If the cache keeps dirty pages or contains page n, nothing
+    -- is written.
     pub crash : CrashAdds old.pages old.device new.device
     pub unwritten : IsTrue old.keeps_dirty → CrashKeeps old.device new.device
     pub untouched : IsCached n old → new.device ≡ old.device
@@ -242,7 +241,7 @@ module _ {B D E S : Type 0} (d : device.Ghosts D B E S) where
   ReadsPages start (suc count) old new =
       (between : Cached B D) × ReadsPages start count old between × ReadsPage (start + count) between new
 
-  -- the pages before some page below `end` were read, and then the read of this page failed
+  -- the pages from `start` on were read, and then a read of a page below `end` failed
   abbrev pub ReadsUntil : ℕ → ℕ → Cached B D → Cached B D → PageError E → Type 0
   ReadsUntil start end old new e = (count : ℕ) × (start + count < end) × (between : Cached B D)
       × ReadsPages start count old between × UsesPage {A = Unit {0}} (start + count) between (Err e) new

@@ -3,9 +3,9 @@ ghost use Rattle.std.specs.Prelude.{◌≡◌, ◌≢◌, ◌⊎◌, ℕ, Bool, 
 
 /// A device of numbered blocks, such as a disk or a file. Any call may fail.
 ///
-/// Between two syncs, a crash may lose and reorder writes. It may leave each block as it was at the last `sync`, as it
-/// was written later, or torn. A write changes only its own block, even if it fails or the machine stops in the middle.
-/// After a failed `sync`, no clause says what the blocks are, and no `read`, `write` or `sync` may be called.
+/// Between two syncs, a crash may lose and reorder writes. A crash may leave each block as it was at the last `sync`,
+/// as it was written later, or torn. A write changes only its own block, even if it fails or the machine stops in the
+/// middle. After a failed `sync`, no clause says what the blocks are, and no `read`, `write` or `sync` may be called.
 ///
 /// For most devices a contract sees the block itself: `ghost seen = { λ block. block };`. If two blocks have the same
 /// `seen`, contracts do not distinguish them.
@@ -28,7 +28,7 @@ pub trait BlockDevice<B> {
     /// What contracts see of a block.
     ghost seen: { B → Self.Seen };
 
-    /// Whether the device has a block of this number. No call changes it.
+    /// Whether the device has a block of this number. No call changes this.
     ghost has: { Self → ℕ → Bool };
 
     /// The block of each number, if it is known.
@@ -37,7 +37,7 @@ pub trait BlockDevice<B> {
     /// What a crash at this moment may leave as the block of this number.
     ghost may_leave: { Self → ℕ → Self.Seen → Type 0 };
 
-    /// No `sync` has failed.
+    /// Whether no `sync` has failed.
     ghost is_usable: { Self → Bool };
 
     /// A number that changes exactly when a call fails, such as the number of failed calls.
@@ -47,15 +47,14 @@ pub trait BlockDevice<B> {
     /// default this is any block. A device that writes blocks whole defines it as `⊥`.
     ghost IsTorn: { Self.Seen → Type 0 } = { λ _. Unit {0} };
 
-    /// If a block was known, each read of it has returned this block. For a file this is a premise, because no code can
-    /// test it.
+    /// Each read of a known block has returned this block. For a file this is a premise, because no code can test it.
     ghost IsHonest: { Self → Type 0 } = { λ _. Unit {0} };
 
-    /// A `write` of a block to this number may lead from the first state to the second. By default this holds of any
+    /// A `write` of a block to this number may lead from the first state to the second. By default this holds for any
     /// two states.
     ghost write_gives: { Self → ℕ → Self.Seen → Self → Type 0 } = { λ _ _ _ _. Unit {0} };
 
-    /// A `sync` may lead from the first state to the second. By default this holds of any two states.
+    /// A `sync` may lead from the first state to the second. By default this holds for any two states.
     ghost sync_gives: { Self → Self → Type 0 } = { λ _ _. Unit {0} };
 
     /// Returns whether the device has a block of this number.

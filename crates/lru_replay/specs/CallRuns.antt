@@ -10,7 +10,7 @@ use Rattle.lru_replay.specs.declared.calls.Call.TheVariants as calls
 use Rattle.lru_replay.specs.Replies.{Reply, no_memory, cost_differs}
 use Rattle.lru_replay.specs.Steps.{ReplyStep}
 
--- Steps one after another, with one call and one reply for each step. `Holds` is true of the state after each step.
+-- Steps one after another, with one call and one reply for each step. `Holds` is true for the state after each step.
 module _ {S C R : Type 0} (IsStep : S → C → R → S → Type 0) (Holds : S → Type 0) where
   abbrev pub IsRun : S → List C → List R → S → Type 0
   IsRun old [] [] new = new ≡ old
@@ -27,14 +27,14 @@ module _ {K V S : Type 0} where
   StoresPairs (calls.Drain front back) = Unit {0}
   StoresPairs call = ⊥
 
-  -- Either the step of the call, or there is no memory for the returned pairs, and nothing changes.
+  -- Either the call makes its step, or there is no memory for the returned pairs, and nothing changes.
   abbrev pub StepIfMemory : {A : Type 0} → (A → Call K V S → Reply K V → A → Type 0) → A → Call K V S → Reply K V → A
       → Type 0
   StepIfMemory IsStep old call reply new = IsStep old call reply new
       ⊎ (StoresPairs call × (reply ≡ no_memory) × (new ≡ old))
 
-  -- If the call may move, write or remove the pair of a key, the key passes the test. The call does not pop the newest
-  -- pair.
+  -- If the call names a key, and may move, write or remove its pair, the key passes the test. The call does not pop the
+  -- newest pair.
   abbrev pub NamesAmong : (K → K → Bool) → (K → Bool) → Call K V S → Type 0
   NamesAmong eq test (calls.Insert key v) = AreAmong (eq key) test
   NamesAmong eq test (calls.InsertWith key v) = AreAmong (eq key) test
@@ -65,12 +65,11 @@ module _ {K V S : Type 0} (eq : K → K → Bool) (cost : K → V → ℕ) (acco
 
 module _ {K V S H : Type 0} (rules : Rules K V S) (offers : Offers K V S K) (eq : K → K → Bool)
     (hash_of : H → K → ℕ) where
-  -- either a step of a map, or there is no memory for the returned pairs
   abbrev pub CallStep : State K V S H → Call K V S → Reply K V → State K V S H → Type 0
   CallStep = StepIfMemory (ReplyStep rules offers eq hash_of)
 
   module _ (cost : K → V → ℕ) (account : S → ℕ) where
-    -- Either a step that keeps the cost, or the reply is `cost_differs`, and nothing changes.
+    -- Either the call makes a step that keeps the cost, or the reply is `cost_differs`, and nothing changes.
     abbrev pub SummingStep : State K V S H → Call K V S → Reply K V → State K V S H → Type 0
     SummingStep old call reply new = (KeepsCost eq cost account (contents old) call × CallStep old call reply new)
         ⊎ ((KeepsCost eq cost account (contents old) call → ⊥) × (reply ≡ cost_differs) × (new ≡ old))

@@ -9,7 +9,7 @@ use Rattle.lru_limits.specs.Budget.{Budget, by_cost, charges}
 abbrev pub cost_rules : Rules ℕ ℕ Budget
 cost_rules = by_cost (λ value. value)
 
--- If its cost alone is within the limit, and the new total has at most 64 bits, a pair is stored unchanged.
+-- A pair is stored, unchanged, if its cost alone is within the limit and the new total has at most 64 bits.
 abbrev pub cost_offers : Offers ℕ ℕ Budget ℕ
 cost_offers = charges (λ value. value)
 

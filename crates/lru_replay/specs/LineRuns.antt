@@ -56,17 +56,17 @@ module _ {S : Type 0} (rules : Rules ℕ ℕ S) (offers : Offers ℕ ℕ S ℕ) 
 -- Below, `IsText` says which texts lines have, and `Wrote` how much of a text was written. A reader had the bytes
 -- `from` left, if they are known, and has `to` left now. A writer's bytes were `old` and are `new`.
 module _ (IsText : List (List ℕ) → List ℕ → Type 0) (from : Option (List ℕ)) where
-  -- `Wrote` holds of some text of all the lines
+  -- `Wrote` holds for a text of all lines
   abbrev pub OfAll : (List ℕ → Type 0) → Type 0
   OfAll Wrote = IfSome from (λ input. (text : List ℕ) × IsText (lines_of input) text × Wrote text)
 
-  -- Some whole lines were read, and a part of the next line. `Wrote` holds of a text of the whole lines.
+  -- Some whole lines were read, and a part of the next line. `Wrote` holds for a text of the whole lines.
   abbrev pub OfRead : Option (List ℕ) → (List ℕ → Type 0) → Type 0
   OfRead to Wrote = (lines : List (List ℕ)) × (text part : List ℕ)
       × IsText lines text × TakesLines from to lines part × Wrote text
 
 module _ (IsText IsTextSoFar : List (List ℕ) → List ℕ → Type 0) (from to old new : Option (List ℕ)) where
-  -- Either all lines were read, or some whole lines were read. A beginning of a text of these lines was written.
+  -- All lines or some whole lines were read, and a beginning of a text of these lines was written.
   abbrev pub BeginsText : Type 0
   BeginsText = (OfAll IsText from (Begins old new) × OnSome from (IsAtEnd to))
       ⊎ OfRead IsTextSoFar from to (Begins old new)

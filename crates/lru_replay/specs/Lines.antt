@@ -11,7 +11,6 @@ use Rattle.lru_replay.specs.declared.lines.line.Ending.TheVariants as endings
 abbrev pub Lacks : ℕ → List ℕ → Type 0
 Lacks byte bytes = AllByRecursion (λ b. b ≢ byte) bytes
 
--- the lines with a byte in front of the first line
 abbrev pub onto_first : ℕ → List (List ℕ) → List (List ℕ)
 onto_first b [] = (b ∷ []) ∷ []
 onto_first b (line ∷ lines) = (b ∷ line) ∷ lines

@@ -49,7 +49,7 @@ abbrev pub beside : {K V S : Type 0} → List (K × V) → Contents K V S → Co
 beside list c = record { pairs = c.pairs; limiter = (c.limiter, list) }
 
 module _ {K V S : Type 0} (rules : Rules K V S) (offers : Offers K V S K) (eq : K → K → Bool) where
-  -- What the call returns and leaves. It is `None` if the list and the limiter do not determine this.
+  -- What the call returns and leaves. It is `None` for a call whose step may depend on the table.
   abbrev pub determined : Contents K V S → Call K V S → Option (Reply K V × Contents K V S)
   determined c (calls.Update key v) =
       let ended = updated_in_list rules offers eq key v c in Some (updated ended.0, ended.1)
@@ -77,8 +77,8 @@ module _ {K V S : Type 0} (rules : Rules K V S) (offers : Offers K V S K) (eq : 
   determined c (calls.SetLimiter s) = Some (done, record c { limiter = s })
   determined c call = None
 
-  -- The call may turn the contents c into d and give this reply. The results of a reservation and of a shrink, and the
-  -- figures except for the number of pairs, depend on the table, so any are permitted.
+  -- The call may turn the contents c into d and give this reply. The table determines the results of a reservation and
+  -- of a shrink, and all figures except the number of pairs. So the step permits any of them.
   module _ (hash_of : K → ℕ) where
     abbrev pub ListStep : Contents K V S → Call K V S → Reply K V → Contents K V S → Type 0
     ListStep c (calls.Insert key v) reply d = (result : Result Bool AllocError)
@@ -102,6 +102,5 @@ module _ {K V S : Type 0} (rules : Rules K V S) (offers : Offers K V S K) (eq : 
         (figures : Figures) × (figures.len ≡ length c.pairs) × (reply ≡ stats figures) × (d ≡ c)
     ListStep c call reply d = determined c call ≡ Some (reply, d)
 
-    -- Either a `ListStep`, or there is no memory for the returned pairs, and nothing changes.
     abbrev pub ListCallStep : Contents K V S → Call K V S → Reply K V → Contents K V S → Type 0
     ListCallStep = StepIfMemory ListStep

@@ -23,10 +23,10 @@ pub record Cache (K V S H : Type 0) : Type 1 where
   pub refer : ℕ → K → List K → List K
   -- if the limit is this number, each missed key is stored
   pub Stores : ℕ → Type 0
-  -- what holds of the map before and after each reference
+  -- what holds for the map before and after each reference
   pub Keeps : State K V S H → Type 0
 
--- equal keys cost the same, alone and in an entry
+-- equal keys have equal costs, and equal weights with each value
 pub record CostsAlike {K V : Type 0} (eq : K → K → Bool) (weight : K → V → ℕ) (cost : K → ℕ) : Type 0 where
   pub keys : (key other : K) → eq key other ≡ true → cost key ≡ cost other
   pub pairs : (key other : K) (value : V) → eq key other ≡ true → weight key value ≡ weight other value
@@ -45,7 +45,7 @@ pub record KeepsToCost {K V H : Type 0} (weight : K → V → ℕ) (cost : K →
   pub sized : IsSized st
 
 module _ {K V H : Type 0} (eq : K → K → Bool) where
-  -- a map with a maximum length, which stores nothing if the length is 0
+  -- a map with a maximum length, which stores nothing if the maximum is 0
   abbrev pub of_length : Cache K V ℕ H
   of_length = record { eq = eq; limit = λ n. n; refer = refer eq; Stores = λ n. 0 < n; Keeps = KeepsToLength }
 

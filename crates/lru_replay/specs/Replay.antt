@@ -48,7 +48,8 @@ NamesNoLimit lines = (limit : Limit) (first : List ℕ) (others : List (List ℕ
 abbrev pub IsOutput : List (List ℕ) → List ℕ → Type 0
 IsOutput lines text = IsReplay lines text ⊎ (NamesNoLimit lines × (text ≡ no_limiter_text))
 
--- What is written for some of the lines. If no line was read, it is nothing, and otherwise `IsText` says what it is.
+-- What is written for the lines that were read. If no line was read, nothing is written. Otherwise `IsText` gives the
+-- text.
 abbrev pub SoFar : (List (List ℕ) → List ℕ → Type 0) → List (List ℕ) → List ℕ → Type 0
 SoFar IsText [] text = text ≡ []
 SoFar IsText (first ∷ others) text = IsText (first ∷ others) text

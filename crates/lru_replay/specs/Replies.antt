@@ -33,7 +33,7 @@ pub data Reply (K V : Type 0) : Type 0 where
 pub data MemoryReport : Type 0 where
   found_all : MemoryReport
   runs_out : MemoryReport
-  -- an insert ran out of memory; the reply also lists the pairs that it passed to its callback
+  -- an insert ran out of memory; the reply also lists the pairs that the insert passed to its callback
   runs_out_with_pairs : MemoryReport
 
 module _ {K V : Type 0} where

@@ -28,7 +28,7 @@ use Rattle.lru_replay.specs.Replies.{insert_reply, made_reply}
 
 module _ {K V : Type 0} (eq : K → K → Bool) (hash_of : K → ℕ) where
   -- What a search by a hash finds for a key. If the stored key's hash has the same tag as this hash, the search may
-  -- find the pair. If the key is not there or has another hash, the search may find nothing.
+  -- find the pair. If no equal key is stored, or the stored key has another hash, the search may find nothing.
   pub data FindsByHash (hash : ℕ) (key : K) (pairs : List (K × V)) (result : Option V) : Type 0 where
     found : (there : K × V) → lookup_entry (eq key) pairs ≡ Some there → hash_tag (hash_of there.0) ≡ hash_tag hash
         → result ≡ Some there.1 → FindsByHash hash key pairs result

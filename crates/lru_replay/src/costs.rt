@@ -30,9 +30,9 @@ pub fn maps_keep_to_their_cost<K: Eq + Hash + Drop, V: Drop, S: KeyHasher<K>>()
         max) }
 {}
 
-/// An insert, a try and a call of a memo make a reference if they return `Ok`. The inserted entry must cost what its
-/// key costs, and at most the limit. A get and a promotion make a reference if the map contains the key. If the program
-/// writes a new value through the get, it must cost as much as the old value.
+/// These calls make a reference if they return `Ok`: an insert, an insert that evicts nothing, and a call of a memo.
+/// The inserted entry must cost what its key costs, and at most the limit. A get and a promotion make a reference if
+/// the map contains the key. A value that is written through the get must cost as much as the old value.
 pub fn calls_make_references<K: Eq + Hash + Drop, V: Drop, S: KeyHasher<K>>()
     ensures inserts { (weight : K → V → ℕ) (cost : K → ℕ) (key : K) (value : V) (kept : Bool)
         (old new : State K V Budget S) →
@@ -66,7 +66,8 @@ pub fn calls_make_references<K: Eq + Hash + Drop, V: Drop, S: KeyHasher<K>>()
         Reference (of_cost K.eq weight cost) key old new }
 {}
 
-/// `ensure_newest` and `get_or_insert`, whose closure is `make`, make references, too.
+/// Like inserts (see `calls_make_references`), `ensure_newest` and `get_or_insert` make a reference if they return
+/// `Ok`.
 pub fn gets_that_insert_make_references<
     K: Eq + Hash + Drop,
     V: Drop,
@@ -80,7 +81,8 @@ pub fn gets_that_insert_make_references<
         Reference (of_cost K.eq weight cost) key old new }
 {}
 
-/// The fallible forms of `ensure_newest` and `get_or_insert` make references, too.
+/// Like inserts (see `calls_make_references`), the fallible forms of `ensure_newest` and `get_or_insert` make a
+/// reference if they return `Ok`.
 pub fn gets_that_insert_if_made_make_references<
     K: Eq + Hash + Drop,
     V: Drop,
@@ -111,8 +113,8 @@ pub fn references_keep_the_newest<K: Eq + Hash + Drop, V: Drop, S: KeyHasher<K>>
 {}
 
 /// More capacity never means more misses. Suppose that the references of one trace are made on two maps, by any calls,
-/// and that the keys of the map with the smaller limit were the newest keys of the other map. Then they are its newest
-/// keys after the trace, too (`front`), and the map with the smaller limit misses at least as often (`misses`).
+/// and that the keys of the map with the smaller limit were the newest keys of the other map. Then they still are after
+/// the trace (`front`), and the map with the smaller limit misses at least as often (`misses`).
 pub fn more_capacity_never_misses_more<K: Eq + Hash + Drop, V: Drop, S: KeyHasher<K>>()
     ensures front { (weight : K → V → ℕ) (cost : K → ℕ) (trace : List K) (missed other_missed : ℕ)
         (old small other large : State K V Budget S) →

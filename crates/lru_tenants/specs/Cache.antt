@@ -12,7 +12,7 @@ use Rattle.lru_model.specs.Theorems.{IsSummed}
 abbrev pub with_limiter : {K V L S : Type 0} → L → State K V L S → State K V L S
 with_limiter limiter map = record map { limiter = limiter }
 
--- what holds of the map of every tenant
+-- what holds for the map of every tenant
 pub record IsTenant {K V L S : Type 0} (eq : K → K → Bool) (cost : K → V → ℕ) (account budget : L → ℕ)
     (own : State K V L S) : Type 0 where
   pub map : IsMap eq own

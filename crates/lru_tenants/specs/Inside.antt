@@ -1,4 +1,4 @@
--- What holds of the fields of a cache. No public contract cites this module.
+-- What holds for the fields of a cache. No public contract cites this module.
 use Rattle.std.specs.Prelude.{◌≡◌, ℕ, Bool, false, List, Option, sum_by}
 use Rattle.std.specs.List.{All}
 use Rattle.std.specs.Map.{values_of}

@@ -19,7 +19,7 @@ module _ {N K V L S : Type 0} where
   CacheRun eq old (did ∷ more) new = (mid : Cache N K V L S) × (did.found ≡ tenant did.names old)
       × Leaves eq did.names did.left old mid × CacheRun eq mid more new
 
-  -- Each call that names this tenant finds it as the previous such call left it. The first finds `old`, and the last
+  -- Each call on this tenant finds what the previous call on this tenant left. The first finds `old`, and the last
   -- leaves `new`.
   abbrev pub Chain : N → Option (State K V L S) → List (Did N K V L S) → Option (State K V L S) → Type 0
   Chain name old [] new = new ≡ old

@@ -29,7 +29,7 @@ module _ (N K V L S M H : RattleType) (name : HashMembers N.Denot) (key : HashMe
     (limits : BudgetMembers K.Denot V.Denot L.Denot)
     (links : link_type.Ghosts M.Denot)
     (hashed : HasherMembers S.Denot K.Denot H.Denot) (hash : hasher.Ghosts H.Denot) where
-  -- the cache's type in the logic
+  -- the type of the cache, as a `RattleType`
   abbrev pub cache_row : RattleType
   cache_row = the_row N K V L S M H (record {}) (record { eq = name.eq }) (record { hash_input = name.hash_input })
       (record { eq = key.eq }) (record { hash_input = key.hash_input })

@@ -33,7 +33,8 @@ put_answer (Err e) = Err Memory
 
 -- What each call may answer, and how it leaves its tenant. `None` is a tenant that is not open.
 module _ {K V L S : Type 0} where
-  -- a tenant that is not open opens with the map `fresh`, unless this is over the total limit or memory runs out
+  -- A tenant that is not open opens with the map `fresh`. If the budgets would be over the total limit, or memory runs
+  -- out, the tenant stays closed.
   abbrev pub Opens : Bool → State K V L S → Option (State K V L S) → Result (Unit {0}) TenantError
       → Option (State K V L S) → Type 0
   Opens over fresh (Some map) answer new = (answer ≡ Err AlreadyOpen) × (new ≡ Some map)

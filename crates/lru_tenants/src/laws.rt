@@ -10,8 +10,8 @@ use lru_limits::Budgeted;
 use schnellru::KeyHasher;
 use std::hash::Hash;
 
-/// In any list of calls, each call finds its tenant as the previous call on this tenant left it, whatever calls on
-/// other tenants come between (`own`). If no call names a tenant, its map stays as it is (`others`).
+/// In any list of calls, each call finds its tenant as the previous call on this tenant left it, even if calls on other
+/// tenants come between (`own`). If no call names a tenant, its map stays as it is (`others`).
 ///
 /// The premise: each call changes only the tenant that it names, as each clause with `On` says.
 ///
@@ -32,8 +32,8 @@ pub fn each_tenant_has_its_own_run<
         tenant (N.eq name) new ≡ tenant (N.eq name) old }
 {}
 
-/// If there is a total limit, the costs of the entries of all tenants add up to at most this limit. This holds of every
-/// cache, so after any list of calls.
+/// If there is a total limit, the costs of the entries of all tenants add up to at most this limit. This holds for
+/// every cache, so after any list of calls.
 ///
 /// ```
 /// costs_are_within_the_total_limit(&cache);

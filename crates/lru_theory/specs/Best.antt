@@ -5,8 +5,7 @@ use Rattle.std.specs.Set.{remove_key}
 use Rattle.lru_theory.specs.Traces.{fault}
 
 module _ {K : Type 0} (eq : K → K → Bool) where
-  -- how many references come before the next reference to the key, or the length of the trace if there is no such
-  -- reference
+  -- how many references come before the next reference to the key, or the length of the trace if there is none
   abbrev pub until : K → List K → ℕ
   until key [] = 0
   until key (other ∷ trace) = if eq key other then 0 else suc (until key trace)
@@ -17,8 +16,9 @@ module _ {K : Type 0} (eq : K → K → Bool) where
   put trace key (other ∷ keys) = if nat_le (until key trace) (until other trace) then key ∷ (other ∷ keys)
       else other ∷ put trace key keys
 
-  -- The keys of MIN with n places after a reference to the key, in the order of their next references. MIN stores the
-  -- key. If there are then more than n keys, MIN evicts the other key whose next reference comes last.
+  -- The keys of MIN with n places after a reference to the key, in the order of their next references. If n is 0, there
+  -- are none. Otherwise MIN stores the key. If there are then more than n keys, MIN evicts the other key whose next
+  -- reference comes last.
   abbrev pub min_refer : ℕ → K → List K → List K → List K
   min_refer zero key trace keys = []
   min_refer (suc n) key trace keys = put trace key (take n (remove_key (eq key) keys))
@@ -27,7 +27,7 @@ module _ {K : Type 0} (eq : K → K → Bool) where
   abbrev pub bypass_refer : ℕ → K → List K → List K → List K
   bypass_refer n key trace keys = take n (put trace key (remove_key (eq key) keys))
 
-  -- how many references of the trace do not find their key, if `refer` changes the keys
+  -- how many references of the trace do not find their key, if `refer` changes the keys at each reference
   abbrev pub faults_ahead : (K → List K → List K → List K) → List K → List K → ℕ
   faults_ahead refer keys [] = 0
   faults_ahead refer keys (key ∷ trace) = fault eq key keys + faults_ahead refer (refer key trace keys) trace

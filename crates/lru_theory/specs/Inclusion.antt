@@ -14,7 +14,7 @@ pub data KeyCall (K : Type 0) : Type 0 where
   looks : KeyCall K
 
 module _ {K : Type 0} (eq : K → K → Bool) (n : ℕ) where
-  -- the keys of an LRU cache of n places after a call, the newest first
+  -- the keys of an LRU cache of n places after a call, newest first
   abbrev pub after_call : KeyCall K → List K → List K
   after_call (refers key) keys = refer eq n key keys
   after_call (promotes key) keys = if is_in eq key keys then key ∷ remove_key (eq key) keys else keys

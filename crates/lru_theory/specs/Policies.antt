@@ -33,7 +33,8 @@ module _ {K : Type 0} (eq : K → K → Bool) (places : ℕ) where
     pub stored : is_in eq key new ≡ true → outside eq old new ≤ paid
     pub bypassed : is_in eq key new ≡ false → outside eq old new + fault eq key old ≤ paid
 
--- A policy with these steps served a trace from the cache `old`, paid this number of times, and left the cache `new`.
+-- A policy with these steps began with the cache `old`, served a trace, paid this number of times, and left the cache
+-- `new`.
 pub data Served {K : Type 0} (IsStep : K → List K → ℕ → List K → Type 0) (new : List K) : List K → List K → ℕ → Type 0
   where
     ends : Served IsStep new new [] 0

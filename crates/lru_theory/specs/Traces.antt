@@ -33,7 +33,7 @@ module _ {K : Type 0} (eq : K → K → Bool) where
   abbrev pub distance : K → List K → ℕ
   distance key past = length (recency (since key past))
 
-  -- a reference to the key misses in n places: it is the first reference to the key, or the reuse distance is at least
+  -- a reference to the key misses in a cache of n places: it is the first reference, or its reuse distance is at least
   -- n
   abbrev pub is_far : ℕ → K → List K → Bool
   is_far n key past = not (is_in key past) || nat_le n (distance key past)

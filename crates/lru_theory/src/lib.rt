@@ -10,7 +10,7 @@ ghost use Rattle.lru_theory.specs.Policies.{Loads, Demands, Bypasses, Served};
 ghost use Rattle.lru_theory.specs.Best.{min_misses, bypass_misses};
 ghost use Rattle.lru_theory.specs.Inclusion.{KeyCall, after_calls, IsIncluded, IsSubsequence};
 
-/// If an LRU cache of n places contains the n keys that were referenced last, it does so after any trace, too (`keys`).
+/// If an LRU cache of n places contains the n keys that were referenced last, it still does after any trace (`keys`).
 /// It misses exactly at the references whose reuse distance is at least n, and at the first reference to each key
 /// (`misses`).
 pub fn a_cache_is_the_newest<K: Eq>()
@@ -25,9 +25,8 @@ pub fn more_places_never_miss_more<K: Eq>()
     ensures { (n m : ℕ) (past trace : List K) → n ≤ m → misses K.eq m past trace ≤ misses K.eq n past trace }
 {}
 
-/// LRU is competitive, whatever both caches contain at first. Take any policy with h places, even one that knows the
-/// whole trace in advance, and an LRU cache of k ≥ h places. The policy begins with the keys `first`, and pays `paid`
-/// times.
+/// LRU is competitive, whatever both caches contain at first. Take any policy with h places, which may know the whole
+/// trace in advance, and an LRU cache of k ≥ h places. The policy begins with the keys `first`, and pays `paid` times.
 ///
 /// - If the policy stores each referenced key, and may load keys ahead, LRU misses at most
 ///   `k / (k + 1 - h) * paid + length first` times (`loads`).
@@ -70,8 +69,7 @@ pub fn a_smaller_cache_is_included<K: Eq>()
 {}
 
 /// A larger budget never means more misses. Suppose that the cache with the smaller budget contains the newest keys of
-/// the other cache. This is so after any trace, too (`front`), and the cache with the smaller budget misses at least as
-/// often (`misses`).
+/// the other cache. Then it still does after any trace (`front`), and misses at least as often (`misses`).
 pub fn a_larger_budget_never_misses_more<K: Eq>()
     ensures front { (cost : K → ℕ) (n m some : ℕ) (keys trace : List K) → n ≤ m →
         let small = cached_within K.eq cost n (take some keys) trace in
@@ -97,10 +95,10 @@ pub fn min_is_best<K: Eq>()
         (left : List K) × Served (Bypasses K.eq n) left [] trace (bypass_misses K.eq n trace) }
 {}
 
-/// How far LRU is from MIN, which begins with no keys. LRU with k ≥ h places begins with any keys. It misses at most
+/// LRU is near MIN. MIN begins with no keys. LRU has k ≥ h places, and begins with any keys. LRU misses at most
 /// `k / (k + 1 - h)` times as often as MIN with h places (`min`), and at most `k / (k - h)` times as often as MIN with
-/// bypass and h places (`bypass`). If LRU begins with no keys, and has as many places as MIN, it misses at least as
-/// often (`least`).
+/// bypass and h places (`bypass`). If LRU begins with no keys, and has n places, like MIN, it misses at least as often
+/// (`least`).
 pub fn lru_is_near_min<K: Eq>()
     ensures min { (k h : ℕ) (past trace : List K) → 0 < h → h ≤ k →
         (k + 1 - h) * misses K.eq k past trace ≤ k * min_misses K.eq h trace }

@@ -8,7 +8,6 @@ use Rattle.lru_trace.specs.declared.options.Column.{Column}
 use Rattle.lru_trace.specs.declared.lines.Ending.{Ending}
 use Rattle.lru_trace.specs.declared.lines.Ending.TheVariants as endings
 
--- the lines with the byte b in front of the first line
 abbrev pub onto_first : ℕ → List (List ℕ) → List (List ℕ)
 onto_first b [] = (b ∷ []) ∷ []
 onto_first b (line ∷ lines) = (b ∷ line) ∷ lines

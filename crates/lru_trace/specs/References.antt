@@ -22,7 +22,6 @@ module _ (options : Options) (lines : List (List ℕ)) where
   abbrev pub keys_read : List (List ℕ)
   keys_read = trace_of (texts_of options.column lines)
 
-  -- the references of the warm-up
   abbrev pub warm_in : List (List ℕ)
   warm_in = sampled (bits_of options) (take (warm_up_of options.policies) keys_read)
 

@@ -13,8 +13,8 @@ use Rattle.lru_trace.specs.declared.svg.Policy.TheVariants as policies
 abbrev pub part : ℕ → ℕ → ℕ → ℕ
 part missed references scale = if references == 0 then 0 else missed * scale / references
 
--- The part of the expected references that miss, in the same units. If more references miss than are expected, all
--- miss.
+-- The part of the expected references that miss, in the same units. If more references miss than are expected, the part
+-- is `scale`.
 abbrev pub missed_part : ℕ → ℕ → ℕ → ℕ
 missed_part missed expected scale = part missed (max missed expected) scale
 

@@ -6,13 +6,13 @@ use Rattle.std.specs.BTreeSet.{insert_key}
 use Rattle.std.specs.Str.{bytes_eq}
 use Rattle.lru_theory.specs.Best.{until}
 
--- The trace begins at time i. The list has, for each reference, the time of the next reference to its key. If there is
--- none, it has the time at which the trace ends.
+-- The trace begins at time i. For each reference, the list has the time of the next reference to the key, or else the
+-- time at which the trace ends.
 abbrev pub next_times : {K : Type 0} (eq : K → K → Bool) → ℕ → List K → List ℕ
 next_times eq i [] = []
 next_times eq i (key ∷ trace) = (suc i + until eq key trace) ∷ next_times eq (suc i) trace
 
--- The times in rising order. If `time` comes before the end, it is among them.
+-- `times` in rising order, and `time` among them if it comes before the end.
 abbrev pub with_time : ℕ → ℕ → List ℕ → List ℕ
 with_time end time times = if nat_lt time end then insert_key nat_cmp times time else times
 

@@ -39,7 +39,7 @@ const FIRST_LINES: [&str; 8] = [
     "map compact hash sum",
 ];
 
-/// How random calls are chosen for the lines of `FIRST_LINES`, in order. Each is used twice.
+/// How random calls are chosen: line n of `FIRST_LINES` uses bounds n % 4.
 const BOUNDS: [Bounds; 4] = [
     Bounds {
         limit: Limit::Length(150),

@@ -8,7 +8,6 @@ use lru_model::Updated;
 use schnellru::{ByBytes, LruMap, RandomState, laws};
 use std::alloc::{AllocError, Global};
 
-/// Makes the cache.
 fn cache_of_texts(alloc: Global) -> LruMap<String, String, ByBytes>
     ensures keeps { KeepsBytes (both_own (λ k. block_bytes (string_capacity k)) (λ v. block_bytes (string_capacity v)))
         result }

@@ -1,4 +1,3 @@
-//! Tests keys and values of 4 KiB.
 use schnellru::{LruMap, UnlimitedCompact};
 use test_helpers::check;
 

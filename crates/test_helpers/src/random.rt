@@ -1,4 +1,3 @@
-//! Random numbers, the same in each run.
 ghost use Rattle.std.specs.Prelude.{◌<◌};
 
 /// A linear congruential generator of random numbers. Equal seeds give equal numbers.

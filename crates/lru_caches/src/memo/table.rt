@@ -1,4 +1,4 @@
-//! `MemoTable`. A contract sees a table as its stored answers, newest first.
+//! `MemoTable`. A contract sees a table as its keys with their answers, newest first.
 ghost use Rattle.std.specs.Prelude.{◌≡◌, [], length, IfSome, MatchOption, Some, None, true, false};
 ghost use Rattle.std.specs.Fn.{FnOnceReturnsAt};
 ghost use Rattle.std.specs.Map.{lookup};
@@ -27,7 +27,7 @@ pub trait Question<K, V> {
 }
 
 /// A table of the newest answers to a question, up to a limit. A function that calls itself can store its results in
-/// it.
+/// the table.
 ///
 /// The caller of `store` proves that the value is an answer. So each value that `get` returns is an answer.
 ///

@@ -9,7 +9,7 @@ use std::hash::Hash;
 use std::iter::FusedIterator;
 use std::marker::Model;
 
-/// An iterator over the entries of an ordered map, oldest first, from both ends.
+/// A double-ended iterator over the entries of an ordered map, oldest first.
 ///
 /// ```
 /// let mut entries = map.iter();
@@ -50,7 +50,7 @@ impl<'a, K, V> Iterator for Entries<'a, K, V> {
         self.newest_first.next_back()
     }
 
-    /// Returns `len` as both bounds.
+    /// Returns the number of remaining entries as both bounds.
     fn size_hint(&self) -> (usize, Option<usize>)
         ensures lower { IsWithinCount result.0 (at_most (length self.now)) }
         ensures upper { IfSome result.1 (UpTo (at_most (length self.now))) }

@@ -9,7 +9,7 @@ use std::hash::Hash;
 use std::iter::FusedIterator;
 use std::marker::Model;
 
-/// An iterator that owns an ordered map and takes its entries out, oldest first, from both ends. If it is dropped, it
+/// A double-ended iterator that owns an ordered map and takes its entries out, oldest first. A drop of the iterator
 /// drops the remaining entries.
 ///
 /// ```
@@ -40,7 +40,7 @@ impl<K: Eq + Hash + Drop, V: Drop, S: KeyHasher<K> + Drop> Iterator for IntoEntr
         self.map.pop_first()
     }
 
-    /// Returns `len` as both bounds.
+    /// Returns the number of remaining entries as both bounds.
     fn size_hint(&self) -> (usize, Option<usize>)
         ensures lower { IsWithinCount result.0 (at_most (length self.now)) }
         ensures upper { IfSome result.1 (UpTo (at_most (length self.now))) }

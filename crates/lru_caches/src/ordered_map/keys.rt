@@ -8,7 +8,7 @@ use crate::ordered_map::entries::Entries;
 use std::iter::FusedIterator;
 use std::marker::Model;
 
-/// An iterator over the keys of an ordered map, oldest first, from both ends.
+/// A double-ended iterator over the keys of an ordered map, oldest first.
 ///
 /// ```
 /// assert!(rt; map.keys().next() == Some(&1) && map.values().next_back() == Some(&20));
@@ -77,7 +77,7 @@ impl<'a, K, V> ExactSizeIterator for Keys<'a, K, V> {
 
 impl<'a, K, V> FusedIterator for Keys<'a, K, V> {}
 
-/// An iterator over the values of an ordered map, oldest first, from both ends.
+/// A double-ended iterator over the values of an ordered map, oldest first.
 ///
 /// ```
 /// assert!(rt; map.keys().next() == Some(&1) && map.values().next_back() == Some(&20));

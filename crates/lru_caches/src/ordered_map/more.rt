@@ -11,7 +11,7 @@ use std::hash::Hash;
 impl<K: Eq + Hash, V, S: KeyHasher<K>> OrderedMap<K, V, S> {
     /// Returns the entry of a key.
     ///
-    /// The returned key is the stored key. It equals the key that is looked up, but may differ from it.
+    /// The returned key is the stored key, which is equal to the looked-up key, but need not be identical.
     ///
     /// ```
     /// assert!(rt; map.get_key_value(&1) == Some((&1, &11)) && map.get_key_value(&9).is_none());
@@ -64,8 +64,8 @@ impl<K: Eq + Hash, V, S: KeyHasher<K>> OrderedMap<K, V, S> {
         self.map.try_reserve(n)
     }
 
-    /// Shrinks the table to the smallest number of buckets that can hold the entries. Returns whether it had more
-    /// buckets.
+    /// Shrinks the table to the smallest number of buckets that can hold the entries. Returns whether the table had
+    /// more buckets.
     ///
     /// ```
     /// assert_eq!(rt; map.try_reserve(100), Ok(()));

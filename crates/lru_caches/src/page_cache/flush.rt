@@ -13,7 +13,7 @@ use crate::page_cache::pages::{Page, Pages};
 use crate::page_cache::{PageCache, PageError};
 use schnellru::KeyHasher;
 
-/// Reserves memory for the number of one more page, so that a flush needs no memory.
+/// Reserves memory for the number of one more page, so that a flush allocates nothing.
 pub(super) fn reserve_number<E>(numbers: &mut Vec<u64>, pages: usize) -> Result<(), PageError<E>>
     ensures reserved { OnOk result (pages < vec_capacity numbers.new) }
     ensures keeps { vec_capacity numbers.old ≤ vec_capacity numbers.new }
