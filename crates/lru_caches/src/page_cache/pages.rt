@@ -152,10 +152,7 @@ fn promote_hashed<B: Copy, S: KeyHasher<u64>>(map: &mut Pages<B, S>, hash: u64, 
 {
     let _len = map.len();
     match map.get_by_hash(hash, |other, _| *other == n) {
-        Some(page) => {
-            let _dirty = page.is_dirty;
-            true
-        }
+        Some(_) => true,
         None => false,
     }
 }

@@ -6,9 +6,9 @@ use crate::rattle_std::prelude::*;
 
 /// A device of numbered blocks, such as a disk or a file. Any call may fail.
 ///
-/// Between two syncs, a crash may lose and reorder writes. It may leave each block as it was at the last `sync`, as it
-/// was written later, or torn. A write changes only its own block, even if it fails or the machine stops in the middle.
-/// After a failed `sync`, no clause says what the blocks are, and no `read`, `write` or `sync` may be called.
+/// Between two syncs, a crash may lose and reorder writes. A crash may leave each block as it was at the last `sync`,
+/// as it was written later, or torn. A write changes only its own block, even if it fails or the machine stops in the
+/// middle. After a failed `sync`, no clause says what the blocks are, and no `read`, `write` or `sync` may be called.
 ///
 /// For most devices a contract sees the block itself: `ghost seen = { λ block. block };`. If two blocks have the same
 /// `seen`, contracts do not distinguish them.

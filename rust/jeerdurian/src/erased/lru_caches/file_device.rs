@@ -39,11 +39,11 @@ impl ::core::fmt::Display for FileError {
 
 /// A device of the blocks of a file, of `N` bytes each.
 ///
-/// Nothing is proved of the bytes that an operating system returns or keeps. So contracts see a record of the calls on
-/// the file (`specs/Files`), which takes no memory. The premise `IsHonest` says that each read returned what was last
-/// written or read there. Under this premise a read returns the known block.
+/// Nothing is proved about the bytes that an operating system returns or keeps. So contracts see a record of the calls
+/// on the file (`specs/Files`), which takes no memory. The premise `IsHonest` says that each read of a known block
+/// returned this block.
 ///
-/// [`HashedFileDevice`] also finds torn and foreign blocks.
+/// [`HashedFileDevice`] also detects torn and damaged blocks.
 ///
 /// [`HashedFileDevice`]: crate::HashedFileDevice
 ///
@@ -61,8 +61,8 @@ pub struct FileDevice<F, const N: usize> {
 }
 
 impl<F: Read + Write + Seek, const N: usize> FileDevice<F, N> {
-    /// Makes a device of the first `count` blocks of a file. The file may be shorter. Then a read of a block past its
-    /// end fails, and a write there makes the file longer.
+    /// Makes a device of the first `count` blocks of a file. The file may be shorter. If a block is past the end of the
+    /// file, a read of the block fails, and a write makes the file longer.
     ///
     /// ```text
     /// let mut device: FileDevice<_, 4> = FileDevice::new(file, 3);

@@ -1,5 +1,5 @@
 // Erased from crates/lru_caches/src/memo.rt: do not edit.
-//! `Memo`. A contract sees a memo as the map of its stored answers, and its function.
+//! `Memo`. A contract sees a memo as the map of its stored results, and its function.
 
 #[allow(unused_imports)]
 use crate::rattle_std::prelude::*;
@@ -11,10 +11,10 @@ use crate::rattle_std::hash::Hash;
 pub(crate) mod loader;
 pub(crate) mod table;
 
-/// A function with its newest results, up to a limit. It is not called for a stored result.
+/// A function with its newest results, up to a limit. If a result is stored, the function is not called.
 ///
-/// Each call returns a result of the function (`answer`). Each call is a step of a map: the stored result becomes the
-/// newest, or the new result is inserted (`step`).
+/// A call of `answer` returns a result of the function (clause `answer`), and is a step of a map: the stored result
+/// becomes the newest, or the new result is inserted (clause `step`).
 ///
 /// ```text
 /// let mut squares = Memo::new(alloc, ByLength::new(9), |n: &u64| n.wrapping_mul(*n));

@@ -1,5 +1,5 @@
 // Erased from crates/lru_caches/src/page_cache.rt: do not edit.
-//! `PageCache`. A contract sees a cache as its pages, newest first, and its device.
+//! `PageCache`. A contract sees a cache as a `Cached`: its pages (newest first), capacity, mode, counts and device.
 
 #[allow(unused_imports)]
 use crate::rattle_std::prelude::*;
@@ -63,8 +63,8 @@ where
 /// only the cached page, which is dirty then. The cache writes a dirty page to the device when it evicts or flushes the
 /// page.
 ///
-/// After a `flush` that returned `Ok`, a crash leaves each block as the cache showed it then. If a later call wrote the
-/// block, a crash may also leave it as it was written, or torn. `docs/CACHES.md` says what this supposes of a disk.
+/// After a `flush` that returned `Ok`, a crash leaves each block as the cache showed it then. If a later call wrote a
+/// block, a crash may also leave the written block or a torn block. `docs/CACHES.md` says what this requires of a disk.
 ///
 /// Call `close` or `discard` in the end. Code that drops or forgets a cache does not compile, because its dirty pages
 /// would be lost.
@@ -156,8 +156,8 @@ impl<B: Copy, D: BlockDevice<B>, S: KeyHasher<u64>> PageCache<B, D, S> {
         self.map.contains(&n)
     }
 
-    /// Returns how many calls that read, write or pin a page found it cached. A call that fails counts nothing. The
-    /// count stops at `u64::MAX`.
+    /// Returns how many calls that read, write or pin a page found the page cached. A call that fails counts nothing.
+    /// The count stops at `u64::MAX`.
     ///
     /// Cost: `O(1)`.
     ///
@@ -169,7 +169,7 @@ impl<B: Copy, D: BlockDevice<B>, S: KeyHasher<u64>> PageCache<B, D, S> {
         self.counts.hits
     }
 
-    /// Returns how many calls that read, write or pin a page did not find it cached (see `hits`).
+    /// Returns how many calls that read, write or pin a page did not find the page cached (see `hits`).
     ///
     /// Cost: `O(1)`.
     ///
@@ -203,9 +203,8 @@ impl<B: Copy, D: BlockDevice<B>, S: KeyHasher<u64>> PageCache<B, D, S> {
     ///
     /// # Errors
     ///
-    /// `Device`: a write or the `sync` failed. The same pages are dirty as before. If a write failed, the next flush
-    /// writes them again. If the `sync` failed, the device is not usable from then on. `Broken`: a `sync` had failed
-    /// before.
+    /// `Device`: a write or the `sync` failed. The dirty pages stay dirty. If a write failed, the next flush writes
+    /// them again. If the `sync` failed, the device is not usable from then on. `Broken`: a `sync` had failed before.
     pub fn flush(&mut self) -> Result<(), PageError<D::Error>> {
         if !self.device.is_usable() {
             return Err(PageError::Broken);
@@ -230,7 +229,7 @@ impl<B: Copy, D: BlockDevice<B>, S: KeyHasher<u64>> PageCache<B, D, S> {
     ///
     /// # Errors
     ///
-    /// The flush failed. The error contains the cache, with the same pages. The same pages are dirty.
+    /// The flush failed. The error contains the cache, whose pages have not changed.
     pub fn close(mut self) -> Result<D, Unclosed<B, D, S>>
 where {
         match self.flush() {

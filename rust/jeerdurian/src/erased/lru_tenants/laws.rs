@@ -9,8 +9,8 @@ use crate::erased::lru_tenants::cache::TenantCache;
 use crate::erased::schnellru::KeyHasher;
 use crate::rattle_std::hash::Hash;
 
-/// In any list of calls, each call finds its tenant as the previous call on this tenant left it, whatever calls on
-/// other tenants come between (`own`). If no call names a tenant, its map stays as it is (`others`).
+/// In any list of calls, each call finds its tenant as the previous call on this tenant left it, even if calls on other
+/// tenants come between (`own`). If no call names a tenant, its map stays as it is (`others`).
 ///
 /// The premise: each call changes only the tenant that it names, as each clause with `On` says.
 ///
@@ -19,8 +19,8 @@ use crate::rattle_std::hash::Hash;
 /// ```
 pub fn each_tenant_has_its_own_run<N: Eq + Hash, K: Eq + Hash, V, L: Budgeted<K, V>, S: KeyHasher<K>>() {}
 
-/// If there is a total limit, the costs of the entries of all tenants add up to at most this limit. This holds of every
-/// cache, so after any list of calls.
+/// If there is a total limit, the costs of the entries of all tenants add up to at most this limit. This holds for
+/// every cache, so after any list of calls.
 ///
 /// ```text
 /// costs_are_within_the_total_limit(&cache);

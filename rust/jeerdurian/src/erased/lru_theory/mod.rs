@@ -6,7 +6,7 @@
 #[allow(unused_imports)]
 use crate::rattle_std::prelude::*;
 
-/// If an LRU cache of n places contains the n keys that were referenced last, it does so after any trace, too (`keys`).
+/// If an LRU cache of n places contains the n keys that were referenced last, it still does after any trace (`keys`).
 /// It misses exactly at the references whose reuse distance is at least n, and at the first reference to each key
 /// (`misses`).
 pub fn a_cache_is_the_newest<K: Eq>() {}
@@ -14,9 +14,8 @@ pub fn a_cache_is_the_newest<K: Eq>() {}
 /// More places never mean more misses.
 pub fn more_places_never_miss_more<K: Eq>() {}
 
-/// LRU is competitive, whatever both caches contain at first. Take any policy with h places, even one that knows the
-/// whole trace in advance, and an LRU cache of k ≥ h places. The policy begins with the keys `first`, and pays `paid`
-/// times.
+/// LRU is competitive, whatever both caches contain at first. Take any policy with h places, which may know the whole
+/// trace in advance, and an LRU cache of k ≥ h places. The policy begins with the keys `first`, and pays `paid` times.
 ///
 /// - If the policy stores each referenced key, and may load keys ahead, LRU misses at most
 ///   `k / (k + 1 - h) * paid + length first` times (`loads`).
@@ -37,8 +36,7 @@ pub fn loading_ahead_gains_nothing<K: Eq>() {}
 pub fn a_smaller_cache_is_included<K: Eq>() {}
 
 /// A larger budget never means more misses. Suppose that the cache with the smaller budget contains the newest keys of
-/// the other cache. This is so after any trace, too (`front`), and the cache with the smaller budget misses at least as
-/// often (`misses`).
+/// the other cache. Then it still does after any trace (`front`), and misses at least as often (`misses`).
 pub fn a_larger_budget_never_misses_more<K: Eq>() {}
 
 /// A policy that stores each referenced key pays at least as often as MIN misses, whether it loads keys ahead (`loads`)
@@ -47,8 +45,8 @@ pub fn a_larger_budget_never_misses_more<K: Eq>() {}
 /// first kind, if it has a place (`min`). MIN with bypass is a policy of the second kind (`bypass`).
 pub fn min_is_best<K: Eq>() {}
 
-/// How far LRU is from MIN, which begins with no keys. LRU with k ≥ h places begins with any keys. It misses at most
+/// LRU is near MIN. MIN begins with no keys. LRU has k ≥ h places, and begins with any keys. LRU misses at most
 /// `k / (k + 1 - h)` times as often as MIN with h places (`min`), and at most `k / (k - h)` times as often as MIN with
-/// bypass and h places (`bypass`). If LRU begins with no keys, and has as many places as MIN, it misses at least as
-/// often (`least`).
+/// bypass and h places (`bypass`). If LRU begins with no keys, and has n places, like MIN, it misses at least as often
+/// (`least`).
 pub fn lru_is_near_min<K: Eq>() {}

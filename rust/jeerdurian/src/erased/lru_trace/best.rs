@@ -1,5 +1,5 @@
 // Erased from crates/lru_trace/src/best.rt: do not edit.
-//! How often the best possible policies miss, which know the rest of the trace.
+//! How often the best possible policies miss. They know the rest of the trace.
 
 #[allow(unused_imports)]
 use crate::rattle_std::prelude::*;
@@ -32,9 +32,9 @@ impl Best {
         (*at!(self.nexts, now))
     }
 
-    /// Returns how often MIN with `places` places misses, if it begins with no keys. MIN stores each key that is
-    /// referenced, and evicts the other key whose next reference comes last. No policy that stores each key misses less
-    /// often.
+    /// Returns how often MIN with `places` places misses, if it begins with no keys. MIN stores each referenced key. If
+    /// it then has too many keys, it evicts the other key whose next reference comes last. No policy that stores each
+    /// key misses less often.
     ///
     /// Cost: `O(log n)` for each reference and n places. The memory is in proportion to the smaller of n and the number
     /// of keys.

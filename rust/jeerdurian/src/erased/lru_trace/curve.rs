@@ -12,8 +12,8 @@ use crate::rattle_std::collections::HashMap;
 /// The misses of a trace in LRU caches of every size, counted in one pass.
 ///
 /// A reference misses in a cache of n places if it is the first reference to its key, or if its reuse distance is at
-/// least n. So the curve counts how many references had each reuse distance. If it does not keep the references, its
-/// memory is in proportion to the number of keys.
+/// least n. So the curve counts how many references had each reuse distance. If the curve does not keep the references,
+/// its memory is in proportion to the number of keys.
 ///
 /// ```text
 /// let mut curve = Curve::new(alloc)?;
@@ -41,8 +41,8 @@ impl Curve {
         Curve::make(alloc, None)
     }
 
-    /// Makes a curve that also keeps the references, with 8 bytes for each. From these `best` counts how often the best
-    /// possible policies miss.
+    /// Makes a curve that also keeps the references, with 8 bytes for each. From these, the `Best` that `best` returns
+    /// counts how often the best possible policies miss.
     ///
     /// ```text
     /// let mut curve = Curve::keeping_references(alloc)?;

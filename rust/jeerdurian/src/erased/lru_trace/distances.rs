@@ -10,7 +10,7 @@ use crate::rattle_std::alloc::{AllocError, Global};
 /// The first log has 2 ^ `FIRST_LEVELS` slots.
 const FIRST_LEVELS: u32 = 3;
 
-/// A log has at most 2 ^ `MOST_LEVELS` slots. No memory is larger.
+/// A log has at most 2 ^ `MOST_LEVELS` slots. No memory holds more slots.
 const MOST_LEVELS: u32 = 59;
 
 /// The keys of a trace, by the time of their last reference.

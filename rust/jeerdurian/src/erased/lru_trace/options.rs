@@ -2,7 +2,7 @@
 #[allow(unused_imports)]
 use crate::rattle_std::prelude::*;
 
-/// The form of what is written.
+/// The form of the report.
 #[derive(Clone, Copy, Debug, PartialEq, Eq)]
 pub enum Form {
     /// For people: a line for each named size, and bars.

@@ -51,10 +51,10 @@ fn read_trace<R: BufRead, P: Write>(
 /// Reads a trace, and writes how often LRU caches of each size miss. The options and the bytes that were read determine
 /// what is written. `docs/TRACE.md` shows examples.
 ///
-/// The first line names sizes. Each other line spells a key: the line, or a column of it, is text of 1 to 64 bytes. A
-/// line that spells no key counts as malformed. A line behind the warm-up counts as skipped if its key is not in the
-/// sample. `Policies::Best` also writes the misses of the best possible policies: in the text form for each named size,
-/// and in the other forms also for each power of two.
+/// The first line names sizes. A later line spells a key if the line, or a column of it, is text of 1 to 64 bytes.
+/// Otherwise the line counts as malformed. A line behind the warm-up counts as skipped if its key is not in the sample.
+/// `Policies::Best` also writes the misses of the best possible policies: in the text form for each named size, and in
+/// the other forms also for each power of two.
 ///
 /// Cost: `O(log n)` expected for each line and n keys. The memory is in proportion to the number of keys and the
 /// longest line. With `Policies::Best` the memory is also in proportion to the number of lines, and each size costs
@@ -62,8 +62,8 @@ fn read_trace<R: BufRead, P: Write>(
 ///
 /// # Errors
 ///
-/// `Read`: a read failed, or there were 2 ^ 64 - 2 lines. `Memory`: out of memory. In both cases nothing was written.
-/// `Write`: a write or the flush failed; a beginning of the report was written.
+/// `Read`: a read failed, or there were 2 ^ 64 - 2 lines. `Memory`: out of memory. In both cases nothing of the report
+/// was written. `Write`: a write or the flush failed; a beginning of the report was written.
 pub fn trace<R: BufRead, W: Write, P: Write>(
     alloc: Global,
     options: Options,

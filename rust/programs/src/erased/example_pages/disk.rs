@@ -47,7 +47,7 @@ impl<'a> CrashFile<'a> {
         Ok(CrashFile { now: vec![in alloc; 0; len]?, durable: vec![in alloc; 0; len]?, at: 0, power })
     }
 
-    /// Leaves each sector as it was made durable, or as it was written afterwards.
+    /// Leaves each sector as it was last made durable, or as it was last written.
     pub fn crash(&mut self, random: &mut Random) {
         let sectors = self.now.chunks_mut(SECTOR).zip(self.durable.chunks_mut(SECTOR));
         for (now, durable) in sectors {
@@ -117,15 +117,12 @@ impl Durable for CrashFile<'_> {
     }
 }
 
-/// A file of a store.
-
 pub enum Disk<'a> {
     File(File),
     Crash(CrashFile<'a>),
 }
 
 impl Disk<'_> {
-    /// Crashes a file in memory.
     pub fn crash(&mut self, random: &mut Random) {
         if let Disk::Crash(file) = self {
             file.crash(random);

@@ -86,7 +86,7 @@ impl<'a> Log<'a> {
         }
     }
 
-    /// Returns the greatest transaction that a page of the log names.
+    /// Returns the greatest transaction number on the pages of the log.
     pub fn newest(&mut self) -> Result<u64, FileError> {
         let mut newest = 0;
         for n in 0..self.device.len() {

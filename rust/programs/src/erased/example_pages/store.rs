@@ -56,7 +56,6 @@ pub struct Sizes {
     pub cache: usize,
 }
 
-/// What a recovery did.
 #[derive(Clone, Copy, Default)]
 pub struct Recovered {
     pub transactions: u64,
@@ -97,7 +96,7 @@ impl<'a> Store<'a> {
         self.checkpoint()
     }
 
-    /// Writes all pages to their file. Then the log begins at its front again.
+    /// Writes all changed pages to their file. Then the log begins at its front again.
     pub fn checkpoint(&mut self) -> Result<(), StoreError> {
         self.admit()?;
         self.pages.flush()?;
@@ -222,7 +221,8 @@ impl<'a> Store<'a> {
         Ok(())
     }
 
-    /// Returns the greatest transaction that a page of the log or the file names. Fails if a page of the file is torn.
+    /// Returns the greatest transaction number on the pages of the log and the file. Fails if a page of the file is
+    /// torn.
     fn newest(&mut self) -> Result<u64, StoreError> {
         let mut newest = self.log.newest()?;
         for n in 0..self.len {
@@ -232,7 +232,6 @@ impl<'a> Store<'a> {
         Ok(newest)
     }
 
-    /// Lends the cache.
     pub fn cache(&self) -> &Pages<'a> {
         &self.pages
     }

@@ -94,7 +94,8 @@ impl ResponseCache {
         Ok(())
     }
 
-    /// Opens a host or sets its budget. Returns words that say which, and how many entries were evicted.
+    /// Opens a host, or sets the budget of an open host. Returns words that say which, and how many entries were
+    /// evicted.
     pub fn set_host(&mut self, host: &str, budget: u64) -> Result<(&'static str, u64), TenantError> {
         let (before, _) = self.size(host);
         if self.entries.set_budget(&host, budget).is_err() {
@@ -107,8 +108,8 @@ impl ResponseCache {
         Ok(("budget set", evicted))
     }
 
-    /// Stores a response. Returns a word that says whether the response was stored, and how many entries were evicted
-    /// or rejected.
+    /// Stores a response. Returns a word that says whether the response was stored, and how many old entries were
+    /// removed.
     pub fn put(&mut self, host: &str, path: &str, response: Response) -> Result<(&'static str, u64), TenantError> {
         let path = owned(self.alloc, path)?;
         let mut evicted = 0u64;
@@ -126,7 +127,6 @@ impl ResponseCache {
         Ok(found)
     }
 
-    /// Removes the response of a host for a path.
     pub fn purge(&mut self, host: &str, path: &str) -> Result<bool, TenantError> {
         Ok(self.entries.remove(&host, &path)?.is_some())
     }

@@ -67,7 +67,7 @@ pub enum Answer<K, V> {
     Flag(bool),
     /// To `InsertWith`: what `insert_and_keep` returned.
     Given {
-        /// Whether the key is in the map now, or out of memory.
+        /// Whether the key is in the map now. `Err` means out of memory.
         done: Result<bool, AllocError>,
         /// The pairs that `insert_with` passes to its callback, in order.
         out: Vec<(K, V)>,
@@ -81,7 +81,7 @@ pub enum Answer<K, V> {
     /// To `List` and `Drain`: the pairs.
     Pairs(Vec<(K, V)>),
     Done,
-    /// To `Reserve`: enough growth is left, or the reason why it is not.
+    /// To `Reserve`: `Ok` if enough growth is left, or the reason why not.
     Reserved(Result<(), ReserveError>),
     /// To `Shrink`: whether the table has fewer buckets now. After an `Err`, out of memory, nothing has changed.
     Shrunk(Result<bool, AllocError>),

@@ -13,15 +13,17 @@ use crate::rattle_std::hash::Hash;
 /// number 2 ^ 31 buckets.
 pub fn maps_keep_to_their_cost<K: Eq + Hash, V, S: KeyHasher<K>>() {}
 
-/// An insert, a try and a call of a memo make a reference if they return `Ok`. The inserted entry must cost what its
-/// key costs, and at most the limit. A get and a promotion make a reference if the map contains the key. If the program
-/// writes a new value through the get, it must cost as much as the old value.
+/// These calls make a reference if they return `Ok`: an insert, an insert that evicts nothing, and a call of a memo.
+/// The inserted entry must cost what its key costs, and at most the limit. A get and a promotion make a reference if
+/// the map contains the key. A value that is written through the get must cost as much as the old value.
 pub fn calls_make_references<K: Eq + Hash, V, S: KeyHasher<K>>() {}
 
-/// `ensure_newest` and `get_or_insert`, whose closure is `make`, make references, too.
+/// Like inserts (see `calls_make_references`), `ensure_newest` and `get_or_insert` make a reference if they return
+/// `Ok`.
 pub fn gets_that_insert_make_references<K: Eq + Hash, V, F: FnOnce() -> V, S: KeyHasher<K>>() {}
 
-/// The fallible forms of `ensure_newest` and `get_or_insert` make references, too.
+/// Like inserts (see `calls_make_references`), the fallible forms of `ensure_newest` and `get_or_insert` make a
+/// reference if they return `Ok`.
 pub fn gets_that_insert_if_made_make_references<K: Eq + Hash, V, E, F: FnOnce() -> Result<V, E>, S: KeyHasher<K>>() {}
 
 /// After the references of a trace, the map contains the keys that an LRU cache with this limit of cost contains
@@ -30,6 +32,6 @@ pub fn gets_that_insert_if_made_make_references<K: Eq + Hash, V, E, F: FnOnce() 
 pub fn references_keep_the_newest<K: Eq + Hash, V, S: KeyHasher<K>>() {}
 
 /// More capacity never means more misses. Suppose that the references of one trace are made on two maps, by any calls,
-/// and that the keys of the map with the smaller limit were the newest keys of the other map. Then they are its newest
-/// keys after the trace, too (`front`), and the map with the smaller limit misses at least as often (`misses`).
+/// and that the keys of the map with the smaller limit were the newest keys of the other map. Then they still are after
+/// the trace (`front`), and the map with the smaller limit misses at least as often (`misses`).
 pub fn more_capacity_never_misses_more<K: Eq + Hash, V, S: KeyHasher<K>>() {}

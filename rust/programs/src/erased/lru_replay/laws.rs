@@ -8,14 +8,14 @@ use crate::erased::lru_limits::{Insertion, KeyHasher};
 use crate::erased::lru_model::laws;
 use crate::rattle_std::hash::Hash;
 
-/// A list of calls is a run of steps of the map, so the laws on runs hold of the list (`calls`). A list that
-/// `run_summing` carries out is a run of steps, too. If it sets no limiter, each of its writes keeps the cost of its
+/// A list of calls is a run of steps of the map, so the laws on runs hold for the list (`calls`). A list that
+/// `run_summing` carries out is a run of steps, too. If this list sets no limiter, each write keeps the cost of its
 /// entry (`summing`).
 pub fn lists_are_runs<K: Eq + Hash, V, L: Insertion<K, V, K>, S: KeyHasher<K>>() {}
 
-/// If two premises hold, a run does to a map what it does to a list of pairs with distinct keys. The limiter permits
-/// every growth, as `ByLength`, `ByCost` and the unlimited limiters do. There is a table for each number of pairs that
-/// the map may have. `ListCallStep` defines the steps on the list and the limiter (`exact`). If the map has n pairs and
+/// A run does to a map what it does to a list of pairs with distinct keys (`exact`), under two premises. First, the
+/// limiter permits every growth, as `ByLength`, `ByCost` and the unlimited limiters do. Second, there is a table for
+/// each number of pairs that the map may have. `ListCallStep` defines the steps on the list. If the map has n pairs and
 /// the run m calls, it is enough that there is a table for 8 * (n + m + 1) pairs (`reached`).
 pub fn granted_calls_are_exact<K: Eq + Hash, V, L: Insertion<K, V, K>, S: KeyHasher<K>>() {
     laws::granted_inserts_are_exact::<K, V, K, L, S>();

@@ -10,23 +10,23 @@ use crate::erased::lru_model::laws;
 use crate::rattle_std::hash::Hash;
 
 /// These calls make a reference if they return `Ok`: an insert (`inserts`), an insert that evicts nothing (`tries`),
-/// and a call of a memo (`remembers`). If the map contains the key, a get makes a reference, whatever is written
-/// through the loan (`gets`), and a promotion makes one, too (`promotes`). If a get returns `None`, the insert after it
-/// makes the reference. A reference to a key is also a reference to each equal key (`equal`).
+/// and a call of a memo (`remembers`). If the map contains the key, a get (`gets`) and a promotion (`promotes`) make a
+/// reference. The program may write through the loan of the get. If a get returns `None`, the insert after it makes the
+/// reference. A reference to a key is also a reference to each equal key (`equal`).
 pub fn calls_make_references<K: Eq + Hash, V, S: KeyHasher<K>>() {
     laws::inserts_leave_the_newest::<K, V, S>();
     laws::maps_keep_to_their_length::<K, V, S>();
     laws::calls_keep_the_length::<K, V, ByLength, S>();
 }
 
-/// `ensure_newest` and `get_or_insert`, whose closure is `make`, make references, too.
+/// If `ensure_newest` or `get_or_insert`, with the closure `make`, returns `Ok`, it makes a reference.
 pub fn gets_that_insert_make_references<K: Eq + Hash, V, F: FnOnce() -> V, S: KeyHasher<K>>() {
     laws::inserts_leave_the_newest::<K, V, S>();
     laws::maps_keep_to_their_length::<K, V, S>();
     laws::calls_keep_the_length::<K, V, ByLength, S>();
 }
 
-/// The fallible forms of `ensure_newest` and `get_or_insert` make references, too.
+/// If the fallible form of `ensure_newest` or `get_or_insert` returns `Ok`, it makes a reference.
 pub fn gets_that_insert_if_made_make_references<K: Eq + Hash, V, E, F: FnOnce() -> Result<V, E>, S: KeyHasher<K>>() {
     laws::inserts_leave_the_newest::<K, V, S>();
     laws::maps_keep_to_their_length::<K, V, S>();
@@ -42,8 +42,8 @@ pub fn calls_change_the_keys<K: Eq + Hash, V, S: KeyHasher<K>>() {
     laws::calls_keep_the_length::<K, V, ByLength, S>();
 }
 
-/// A program made the references of a trace, and makes one more reference. The reference finds its key (`hits`), or
-/// misses (`misses`). The map still keeps to its length (`keeps`).
+/// A program made the references of a trace, and makes one more reference. This reference hits (`hits`) or misses
+/// (`misses`). The map still keeps to its length (`keeps`).
 pub fn programs_make_references<K: Eq + Hash, V, S: KeyHasher<K>>() {}
 
 /// After the references of a trace, the map contains the `max_length` keys that were referenced last (`keys`). A
@@ -53,9 +53,9 @@ pub fn programs_make_references<K: Eq + Hash, V, S: KeyHasher<K>>() {}
 pub fn references_keep_the_newest<K: Eq + Hash, V, S: KeyHasher<K>>() {}
 
 /// More capacity never means more misses. Suppose that the references of one trace are made on two maps, by any calls.
-/// If the keys of the smaller map were the newest keys of the larger map, they are its newest keys after the trace, too
-/// (`front`). If they were included in the keys of the larger map (`IsIncluded`), the smaller map misses at least as
-/// often (`misses`).
+/// If the keys of the smaller map were the newest keys of the larger map, they still are after the trace (`front`). If
+/// the keys of the smaller map were included in the keys of the larger map (`IsIncluded`), the smaller map misses at
+/// least as often (`misses`).
 pub fn more_capacity_never_misses_more<K: Eq + Hash, V, S: KeyHasher<K>>() {}
 
 /// If the keys of a smaller map are included in the keys of a larger map, they are included after the same calls, too

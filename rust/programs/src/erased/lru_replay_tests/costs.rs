@@ -76,8 +76,8 @@ fn read_both<L: Source>(
     Ok((read_through(small, texts, source)?, read_through(large, texts, source)?))
 }
 
-/// Makes a text the newest. If the text is not there, makes its value. If each text determines how many bytes its value
-/// has, the call is a reference.
+/// Makes a text the newest. If the text is not there, inserts it with a value from `make`. If each text determines how
+/// many bytes its value has, and these are within the limit, a successful call is a reference.
 fn remember<F: FnOnce() -> Vec<u8>>(
     map: &mut LruMap<String, Vec<u8>, ByCost>,
     text: String,
@@ -98,8 +98,8 @@ fn try_to_remember<F: FnOnce() -> Result<Vec<u8>, u64>>(
     Ok(kept)
 }
 
-/// Inserts a text under a number, with a limit of weight. If the entry costs what its key costs, the call is a
-/// reference.
+/// Inserts a text under a number, with a limit of weight. If the entry costs what its key costs, and at most the limit,
+/// a successful call is a reference.
 fn insert_weighed(map: &mut LruMap<u64, String, ByWeight<16>>, key: u64, text: String) -> Result<bool, AllocError> {
     calls_make_references::<u64, String, RandomState>();
     let kept = map.insert(key, text)?;

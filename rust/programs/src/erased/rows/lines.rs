@@ -10,7 +10,7 @@ use crate::programs::rows::streams::{Failure, Narrow, Slow, count_lines, error_a
 use crate::rattle_std::alloc::Global;
 use crate::rattle_std::io::{BufReader, ErrorKind};
 
-/// The longest input for which each read and each write fails in turn. For a longer input only the first three do.
+/// The longest input for which each read and each write fails in turn. For a longer input only the first three fail.
 const LONGEST_CUT: usize = 2000;
 
 type End = Result<ReplayEnd, ReplayError>;
@@ -75,8 +75,8 @@ fn with_failing_flush(alloc: Global, row: &Row, at: usize) -> bool {
     end == Err(ReplayError::Write) && writer.has(row.text.as_slice(), 1)
 }
 
-/// Returns whether the replay ends correctly if read `at` fails. If the first line names no limiter, the replay makes
-/// no later read.
+/// Returns whether the replay ends correctly if read `at` fails. If the first line names no limiter, the replay reads
+/// no other line.
 fn with_failing_read(alloc: Global, row: &Row, at: usize) -> bool {
     let input = row.input.as_slice();
     let slow = Slow::new(input, 1).failing(at, error_at(at));

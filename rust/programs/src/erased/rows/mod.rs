@@ -42,7 +42,7 @@ const FIRST_LINES: [&str; 8] = [
     "map compact hash sum",
 ];
 
-/// How random calls are chosen for the lines of `FIRST_LINES`, in order. Each is used twice.
+/// How random calls are chosen: line n of `FIRST_LINES` uses bounds n % 4.
 const BOUNDS: [Bounds; 4] = [
     Bounds { limit: Limit::Length(150), keys: 400, values: 1000 },
     Bounds { limit: Limit::Memory(288, 16), keys: 40, values: 1000 },

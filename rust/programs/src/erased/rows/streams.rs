@@ -41,7 +41,6 @@ impl<'a> Read for Slow<'a> {
     }
 }
 
-/// How a write fails.
 #[derive(Clone, Copy)]
 pub enum Failure {
     Error(ErrorKind),

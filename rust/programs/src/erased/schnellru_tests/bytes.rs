@@ -8,7 +8,6 @@ use crate::erased::lru_model::Updated;
 use crate::erased::schnellru::{ByBytes, LruMap, RandomState, laws};
 use crate::rattle_std::alloc::{AllocError, Global};
 
-/// Makes the cache.
 fn cache_of_texts(alloc: Global) -> LruMap<String, String, ByBytes> {
     laws::calls_keep_the_bytes::<String, String, RandomState>();
     LruMap::with_limiter(alloc, ByBytes::new(200 << 20))

@@ -1,5 +1,4 @@
 // Erased from crates/schnellru_tests/src/sizes.rt: do not edit.
-//! Tests keys and values of 4 KiB.
 #[allow(unused_imports)]
 use crate::rattle_std::prelude::*;
 

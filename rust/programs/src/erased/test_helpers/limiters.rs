@@ -1,5 +1,5 @@
 // Erased from crates/test_helpers/src/limiters.rt: do not edit.
-//! Limiters of maps from numbers to numbers, which count how they are called. Put each into a map as `Storing(..)`.
+//! Limiters of maps from numbers to numbers. Put each into a map as `Storing(..)`.
 
 #[allow(unused_imports)]
 use crate::rattle_std::prelude::*;
@@ -27,7 +27,8 @@ impl<N: LinkType> Limiter<u64, u64> for LinkedBy<N> {
     }
 }
 
-/// Is over the limit at every length or at none, permits every second growth, and keeps the arguments of its calls.
+/// Is over the limit at every length or at none, and permits every second growth. Counts removals and growths, and
+/// keeps their last arguments.
 #[derive(Clone, Copy, Debug)]
 pub struct Alternating {
     pub over: bool,
@@ -67,7 +68,7 @@ impl Limiter<u64, u64> for Alternating {
     }
 }
 
-/// Limits nothing. Writes 0 into each removed value, and into its key if a flag is set. Keeps the last removed entry as
+/// Limits nothing. Writes 0 into each removed value, and into its key if `keys` is set. Keeps the last removed entry as
 /// it was.
 #[derive(Clone, Copy, Debug, Default)]
 pub struct Blanking {

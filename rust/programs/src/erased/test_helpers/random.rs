@@ -1,6 +1,4 @@
 // Erased from crates/test_helpers/src/random.rt: do not edit.
-//! Random numbers, the same in each run.
-
 #[allow(unused_imports)]
 use crate::rattle_std::prelude::*;
 

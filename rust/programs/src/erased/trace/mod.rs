@@ -64,7 +64,7 @@ struct Asked {
 }
 
 impl Asked {
-    /// Returns whether the argument is known.
+    /// Takes an argument, and returns whether it is known and valid.
     fn take(&mut self, argument: &str) -> bool {
         match self.next {
             Next::Word => return self.take_word(argument),
@@ -103,7 +103,7 @@ impl Asked {
         true
     }
 
-    /// Returns `None` if the arguments ask for the best possible policies and a warm-up.
+    /// Returns the policies, or `None` if the arguments ask for both the best possible policies and a warm-up.
     fn policies(&self) -> Option<Policies> {
         match (self.best, self.warm_up) {
             (true, None) => Some(Policies::Best),

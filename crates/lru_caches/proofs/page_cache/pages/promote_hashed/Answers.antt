@@ -12,14 +12,14 @@ use Rattle.lru_caches.proofs.page_cache.pages.promote_hashed.Goals as goal
 
 pub returns-in-Some-clause-there : goal.returns-in-Some-clause-there
 returns-in-Some-clause-there g c =
-    let (pair, given, is, left) = on_some _ _ c.in-Some.is (c.get_by_hash.follows.holds c.in-Some.page.now) in
+    let (pair, given, is, left) = on_some _ _ c.in-Some.is (c.get_by_hash.follows.holds c.in-Some.field-0.now) in
     let found = given-found nat_eq_equiv c.args.n (λ k v r h called. search rules) c.len-len.ensures.map.distinct pair given in
     sym (ap is_some (lookup-entry (nat_eq c.args.n) c.args.map.now.pairs ∙ ap (option_map (λ p. p.1)) found))
 
 pub returns-in-Some-clause-promoted : goal.returns-in-Some-clause-promoted
 returns-in-Some-clause-promoted g c =
-    let (pair, given, is, left) = on_some _ _ c.in-Some.is (c.get_by_hash.follows.holds c.in-Some.page.now) in
-    let same : c.in-Some.page.now ≡ pair.1 = ap (λ o. unwrap_or o c.in-Some.page.now)
+    let (pair, given, is, left) = on_some _ _ c.in-Some.is (c.get_by_hash.follows.holds c.in-Some.field-0.now) in
+    let same : c.in-Some.field-0.now ≡ pair.1 = ap (λ o. unwrap_or o c.in-Some.field-0.now)
     (sym (ap option_copied_mut c.in-Some.is) ∙ is) in
     left ∙ ap (λ v. written (nat_eq pair.0) v (promoted (nat_eq pair.0) c.args.map.now)) same
     ∙ given-promoted nat_eq_equiv c.args.n c.args.map.now pair

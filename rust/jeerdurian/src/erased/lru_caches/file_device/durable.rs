@@ -7,7 +7,7 @@ use crate::rattle_std::io;
 use crate::rattle_std::io::Cursor;
 
 /// A file that can make its bytes survive a crash. A file device calls `make_durable` when it syncs, and assumes that
-/// the bytes then survive. After an error, it makes no more calls.
+/// the bytes then survive. After an error, the device makes no more calls.
 ///
 /// ```text
 /// assert!(rt; Cursor::new([0u8; 4]).make_durable().is_ok());

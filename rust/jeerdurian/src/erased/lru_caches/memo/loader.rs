@@ -11,8 +11,9 @@ use crate::rattle_std::hash::Hash;
 /// A memo of a function that may fail, such as a read of a file. It stores the newest values that were loaded, up to a
 /// limit, and no failures.
 ///
-/// Each call returns a value of the function (`value`), or its failure, which changes nothing. A successful call is a
-/// step of a map: the stored value becomes the newest, or the new value is inserted (`step`).
+/// A call of `load` returns a value of the function (clause `value`), or its failure, which changes nothing. A
+/// successful call is a step of a map: the stored value becomes the newest, or the new value is inserted (clause
+/// `step`).
 ///
 /// ```text
 /// let disk = [10, 11, 12];
@@ -81,7 +82,7 @@ impl<K: Eq + Hash, V, E, F: Fn(&K) -> Result<V, E>, L: Insertion<K, V, K>, S: Ke
 impl<K: Eq + Hash, V: Copy, E, F: Fn(&K) -> Result<V, E>, L: Insertion<K, V, K>, S: KeyHasher<K>>
     Loader<K, V, F, L, S>
 {
-    /// Returns the stored value of a key. If no value is stored, calls the function, and stores its value.
+    /// Returns the value of a key. If no value is stored, calls the function, and stores its value.
     ///
     /// If the loader runs out of memory or its limiter rejects the value, the value is not stored, but still returned.
     ///

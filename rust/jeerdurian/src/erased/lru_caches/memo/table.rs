@@ -1,5 +1,5 @@
 // Erased from crates/lru_caches/src/memo/table.rt: do not edit.
-//! `MemoTable`. A contract sees a table as its stored answers, newest first.
+//! `MemoTable`. A contract sees a table as its keys with their answers, newest first.
 
 #[allow(unused_imports)]
 use crate::rattle_std::prelude::*;
@@ -21,7 +21,7 @@ use crate::rattle_std::hash::Hash;
 pub trait Question<K, V> {}
 
 /// A table of the newest answers to a question, up to a limit. A function that calls itself can store its results in
-/// it.
+/// the table.
 ///
 /// The caller of `store` proves that the value is an answer. So each value that `get` returns is an answer.
 ///

@@ -7,7 +7,7 @@ use crate::erased::schnellru::{KeyHasher, Walk};
 use crate::rattle_std::hash::Hash;
 use crate::rattle_std::iter::FusedIterator;
 
-/// An iterator over the entries of an ordered map, oldest first, from both ends.
+/// A double-ended iterator over the entries of an ordered map, oldest first.
 ///
 /// ```text
 /// let mut entries = map.iter();
@@ -34,7 +34,7 @@ impl<'a, K, V> Iterator for Entries<'a, K, V> {
         self.newest_first.next_back()
     }
 
-    /// Returns `len` as both bounds.
+    /// Returns the number of remaining entries as both bounds.
     fn size_hint(&self) -> (usize, Option<usize>) {
         self.newest_first.size_hint()
     }

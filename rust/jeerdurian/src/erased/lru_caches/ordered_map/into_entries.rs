@@ -7,7 +7,7 @@ use crate::erased::schnellru::KeyHasher;
 use crate::rattle_std::hash::Hash;
 use crate::rattle_std::iter::FusedIterator;
 
-/// An iterator that owns an ordered map and takes its entries out, oldest first, from both ends. If it is dropped, it
+/// A double-ended iterator that owns an ordered map and takes its entries out, oldest first. A drop of the iterator
 /// drops the remaining entries.
 ///
 /// ```text
@@ -26,7 +26,7 @@ impl<K: Eq + Hash, V, S: KeyHasher<K>> Iterator for IntoEntries<K, V, S> {
         self.map.pop_first()
     }
 
-    /// Returns `len` as both bounds.
+    /// Returns the number of remaining entries as both bounds.
     fn size_hint(&self) -> (usize, Option<usize>) {
         let len = self.map.len();
         (len, Some(len))

@@ -5,7 +5,7 @@ use crate::rattle_std::prelude::*;
 use crate::erased::lru_caches::ordered_map::entries::Entries;
 use crate::rattle_std::iter::FusedIterator;
 
-/// An iterator over the keys of an ordered map, oldest first, from both ends.
+/// A double-ended iterator over the keys of an ordered map, oldest first.
 ///
 /// ```text
 /// assert!(rt; map.keys().next() == Some(&1) && map.values().next_back() == Some(&20));
@@ -53,7 +53,7 @@ impl<'a, K, V> ExactSizeIterator for Keys<'a, K, V> {
 
 impl<'a, K, V> FusedIterator for Keys<'a, K, V> {}
 
-/// An iterator over the values of an ordered map, oldest first, from both ends.
+/// A double-ended iterator over the values of an ordered map, oldest first.
 ///
 /// ```text
 /// assert!(rt; map.keys().next() == Some(&1) && map.values().next_back() == Some(&20));

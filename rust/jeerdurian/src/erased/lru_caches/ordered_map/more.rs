@@ -10,7 +10,7 @@ use crate::rattle_std::hash::Hash;
 impl<K: Eq + Hash, V, S: KeyHasher<K>> OrderedMap<K, V, S> {
     /// Returns the entry of a key.
     ///
-    /// The returned key is the stored key. It equals the key that is looked up, but may differ from it.
+    /// The returned key is the stored key, which is equal to the looked-up key, but need not be identical.
     ///
     /// ```text
     /// assert!(rt; map.get_key_value(&1) == Some((&1, &11)) && map.get_key_value(&9).is_none());
@@ -56,8 +56,8 @@ impl<K: Eq + Hash, V, S: KeyHasher<K>> OrderedMap<K, V, S> {
         self.map.try_reserve(n)
     }
 
-    /// Shrinks the table to the smallest number of buckets that can hold the entries. Returns whether it had more
-    /// buckets.
+    /// Shrinks the table to the smallest number of buckets that can hold the entries. Returns whether the table had
+    /// more buckets.
     ///
     /// ```text
     /// assert_eq!(rt; map.try_reserve(100), Ok(()));

@@ -57,7 +57,7 @@ impl<B: Copy, D: BlockDevice<B>, S: KeyHasher<u64>> PageCache<B, D, S> {
     ///
     /// # Errors
     ///
-    /// As `read`. The closure is not called then.
+    /// As `read`. After an error the closure is not called.
     pub fn read_with<R, U: FnOnce(&B) -> R>(&mut self, n: u64, read: U) -> Result<R, PageError<D::Error>> {
         self.bring(n)?;
         Ok(read_newest(&self.map, read))
@@ -65,7 +65,7 @@ impl<B: Copy, D: BlockDevice<B>, S: KeyHasher<u64>> PageCache<B, D, S> {
 
     /// Brings the blocks of these numbers into the cache, by a `read` of each, in order.
     ///
-    /// If there are more blocks than the capacity, only the last of them stay cached.
+    /// If there are more blocks than the capacity, later reads evict earlier blocks.
     ///
     /// ```text
     /// assert!(rt; cache.prefetch(2..4) == Ok(()) && cache.contains(2) && cache.contains(3));

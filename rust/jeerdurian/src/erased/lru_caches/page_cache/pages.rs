@@ -81,10 +81,7 @@ pub(super) fn promote<B: Copy, S: KeyHasher<u64>>(
 fn promote_hashed<B: Copy, S: KeyHasher<u64>>(map: &mut Pages<B, S>, hash: u64, n: u64) -> bool {
     let _len = map.len();
     match map.get_by_hash(hash, |other, _| *other == n) {
-        Some(page) => {
-            let _dirty = page.is_dirty;
-            true
-        }
+        Some(_) => true,
         None => false,
     }
 }

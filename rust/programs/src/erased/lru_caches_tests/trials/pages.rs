@@ -56,8 +56,8 @@ fn shows(cache: &mut Cache, model: &Blocks) -> bool {
     right
 }
 
-// A failed sync ends the list. Returns whether the disk failed, and whether each result is right, and a crash after a
-// successful close loses no write.
+// Makes random calls until a sync fails. Returns whether the disk failed, and whether all results were right and a
+// crash after a successful close lost no write.
 fn run(alloc: Global, capacity: usize, k: u64, stays_broken: bool) -> (bool, bool) {
     let (calls_left, mut model) = (Cell::new(k), [10, 11, 12, 13]);
     let dropped = [k % 2 == 0, k % 3 == 0, k % 5 == 0, true];

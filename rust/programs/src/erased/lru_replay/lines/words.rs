@@ -19,7 +19,7 @@ pub enum Numbers {
 pub enum Limit {
     /// `length N`: at most N pairs.
     Length(u32),
-    /// `memory N E`: a table of at most N bytes, if an entry counts E bytes.
+    /// `memory N E`: a table of at most N bytes, if an entry counts as E bytes.
     Memory(usize, usize),
     /// `cost N`: the sum of the values is at most N.
     Cost(u64),

@@ -7,7 +7,7 @@ use crate::erased::schnellru::LruMap;
 use crate::programs::test_helpers::{Counting, Hog, InsertKey, check};
 use crate::rattle_std::alloc::Global;
 
-/// The limiter makes each key in fresh memory, and again after each growth that fails.
+/// The limiter allocates each key, and allocates it again after each growth that fails.
 fn texts_are_refused(alloc: Global, map: &mut LruMap<String, u32, Counting>) -> Option<bool> {
     let mut right = true;
     // Entries, control bytes, and a byte for each text.
