@@ -78,8 +78,7 @@ impl<F: Read + Write + Seek, const N: usize> FileDevice<F, N> {
     /// Makes a device of all blocks that the file has whole. Nothing is proved of their number.
     ///
     /// ```
-    /// let file = Cursor::new(*b"zeroone.two.thr");
-    /// assert_eq!(rt; FileDevice::<_, 4>::open(file)?.len(), 3);
+    /// assert_eq!(rt; FileDevice::<_, 4>::open(Cursor::new(*b"zeroone.two.thr"))?.len(), 3);
     /// ```
     ///
     /// Cost: a seek to the end of the file.

@@ -196,21 +196,13 @@ fn of_file_device_hashed(rt: HostRuntime) -> Result<(), Fail> {
 }
 
 #[test]
-fn of_file_device(rt: HostRuntime) {
+fn of_file_device(rt: HostRuntime) -> Result<(), Fail> {
     let file = Cursor::new(*b"zeroone.two.");
     let mut device: FileDevice<_, 4> = FileDevice::new(file, 3);
     let held = all!(
         device.write(1, b"uno.") == Ok(()),
-        device.read(1) == Ok(*b"uno.")
-    );
-    check!(rt; held);
-}
-
-#[test]
-fn of_file_device_2(rt: HostRuntime) -> Result<(), Fail> {
-    let file = Cursor::new(*b"zeroone.two.thr");
-    let held = all!(
-        FileDevice::<_, 4>::open(file)?.len() == 3,
+        device.read(1) == Ok(*b"uno."),
+        FileDevice::<_, 4>::open(Cursor::new(*b"zeroone.two.thr"))?.len() == 3,
         device.len() == 3,
         device.file().position() == 8
     );
