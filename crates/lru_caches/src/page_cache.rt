@@ -1,5 +1,5 @@
 //! `PageCache`. A contract sees a cache as a `Cached`: its pages (newest first), capacity, mode, counts and device.
-ghost use Rattle.std.specs.Prelude.{◌≡◌, ◌≤◌, ℕ, [], Some, true, false, length, max, IsTrue, ◌↔◌, IfOk, IfErr, OnOk, OnErr};
+ghost use Rattle.std.specs.Prelude.{◌≡◌, ◌≤◌, ℕ, [], Some, true, false, length, max, IsTrue, IsErr, ◌↔◌, IfOk, IfErr, OnOk, OnErr};
 ghost use Rattle.lru_model.specs.Lists.{is_empty};
 ghost use Rattle.lru_caches.specs.Pages.{shown, cleaned, IsCached, ShowsTheSame, CrashAdds, IsFlushCause, IsFlush, IsCutOff};
 
@@ -295,6 +295,7 @@ impl<B: Copy, D: BlockDevice<B>, S: KeyHasher<u64>> PageCache<B, D, S> {
         ensures durable { IfOk result (λ device. D.IsHonest device →
             (n : ℕ) (block b : D.Seen) → shown D.BlockDevice self n ≡ Some block → D.may_leave device n b → b ≡ block) }
         ensures usable { IfOk result (λ device. IsTrue (D.is_usable device)) }
+        ensures broken { D.is_usable self.device ≡ false → IsErr result }
         ensures failed { IfErr result (λ unclosed. ShowsTheSame D.BlockDevice self unclosed.cache) }
         ensures pages { IfErr result (λ unclosed. unclosed.cache.pages ≡ self.pages) }
         ensures crash { IfErr result (λ unclosed.

@@ -20,7 +20,7 @@ impl<B: Copy, D: BlockDevice<B>, S: KeyHasher<u64>> PageCache<B, D, S> {
             × (self.new.pages ≡ pages_read n block self.old)) }
         ensures keeps { ShowsTheSame D.BlockDevice self.old self.new }
         ensures hit { IsCached n self.old → IsOk result }
-        ensures broken { D.is_usable self.old.device ≡ false → IsOk result ⊎ (result ≡ Err PageError.Broken) }
+        ensures broken { D.is_usable self.old.device ≡ false → IsCached n self.old ⊎ (result ≡ Err PageError.Broken) }
         ensures uses { UsesPage D.BlockDevice n self.old result self.new }
     {
         let hash = self.map.hasher().hash_named(&n);
@@ -64,7 +64,7 @@ impl<B: Copy, D: BlockDevice<B>, S: KeyHasher<u64>> PageCache<B, D, S> {
         ensures pages { IfOk result (λ block. self.new.pages ≡ pages_read n block self.old) }
         ensures keeps { ShowsTheSame D.BlockDevice self.old self.new }
         ensures hit { IsCached n self.old → IsOk result }
-        ensures broken { D.is_usable self.old.device ≡ false → IsOk result ⊎ (result ≡ Err PageError.Broken) }
+        ensures broken { D.is_usable self.old.device ≡ false → IsCached n self.old ⊎ (result ≡ Err PageError.Broken) }
         ensures uses { UsesPage D.BlockDevice n self.old result self.new }
     {
         self.read_with(n, |block| *block)
@@ -92,7 +92,7 @@ impl<B: Copy, D: BlockDevice<B>, S: KeyHasher<u64>> PageCache<B, D, S> {
             × (self.new.pages ≡ pages_read n block self.old)) }
         ensures keeps { ShowsTheSame D.BlockDevice self.old self.new }
         ensures hit { IsCached n self.old → IsOk result }
-        ensures broken { D.is_usable self.old.device ≡ false → IsOk result ⊎ (result ≡ Err PageError.Broken) }
+        ensures broken { D.is_usable self.old.device ≡ false → IsCached n self.old ⊎ (result ≡ Err PageError.Broken) }
         ensures uses { UsesPage D.BlockDevice n self.old result self.new }
     {
         self.bring(n)?;
