@@ -54,7 +54,7 @@ module _ {B : Type 0} where
   abbrev pub may_go : Bool → Page B → Bool
   may_go keeps_dirty page = not (page.is_pinned || keeps_dirty && page.is_dirty)
 
-  -- the number of the oldest page that may go, if there is one
+  -- the number of the oldest page that may be evicted, if there is one
   abbrev pub victim : Bool → List (ℕ × Page B) → Option ℕ
   victim keeps_dirty pages = option_map (λ p. p.0) (find (λ p. may_go keeps_dirty p.1) (reverse pages))
 
@@ -66,7 +66,7 @@ module _ {B : Type 0} where
   goes_dirty None pages = false
   goes_dirty (Some n) pages = is_dirty (lookup (nat_eq n) pages)
 
-  -- the pages with room for one more: in a full cache, the oldest page that may go is evicted
+  -- the pages before a new page is cached: a full cache evicts the oldest page that it may evict
   abbrev pub with_room : ℕ → Bool → List (ℕ × Page B) → List (ℕ × Page B)
   with_room capacity keeps_dirty pages =
       if nat_lt (length pages) capacity then pages else evicted (victim keeps_dirty pages) pages
@@ -92,7 +92,7 @@ module _ {B D : Type 0} where
   pinned cache n = is_pinned (lookup (nat_eq n) cache.pages)
 
   -- The pages after a use of page n: this page, and then the others. If the others fill the cache, the oldest of them
-  -- that may go is evicted.
+  -- that may be evicted is evicted.
   abbrev pub pages_after : ℕ → Page B → Cached B D → List (ℕ × Page B)
   pages_after n page cache =
       (n, page) ∷ with_room cache.capacity cache.keeps_dirty (without (nat_eq n) cache.pages)

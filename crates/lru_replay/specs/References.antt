@@ -79,7 +79,7 @@ module _ {K V S H : Type 0} (cache : Cache K V S H) where
     pub does : LeavesKeys (keys_of old.pairs) old new
     pub stored : new.counts.placed ≡ old.counts.placed
 
-  -- From the map `old` the program made the references of a trace, one after another, and left the map `new`. `missed`
+  -- The program made the references of a trace on the map `old`, one after another, and left the map `new`. `missed`
   -- references did not find their key. Between references the program may have read.
   pub data Referenced (old : State K V S H) : (trace : List K) (missed : ℕ) (new : State K V S H) → Type 0 where
     begins : Referenced old [] 0 old
@@ -101,7 +101,7 @@ module _ {K V H : Type 0} (eq : K → K → Bool) where
   abbrev pub Does : KeyCall K → State K V ℕ H → State K V ℕ H → Type 0
   Does call old = LeavesKeys (of_length eq) (after_call eq old.limiter call (keys_of old.pairs)) old
 
-  -- From the map `old` the program made these calls, one after another, and left the map `new`.
+  -- The program made these calls on the map `old`, one after another, and left the map `new`.
   pub data Did (old : State K V ℕ H) : (calls : List (KeyCall K)) (new : State K V ℕ H) → Type 0 where
     nothing : Did old [] old
     does_more : (call : KeyCall K) (calls : List (KeyCall K)) (mid new : State K V ℕ H) → Did old calls mid →

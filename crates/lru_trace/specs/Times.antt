@@ -12,7 +12,7 @@ abbrev pub next_times : {K : Type 0} (eq : K → K → Bool) → ℕ → List K 
 next_times eq i [] = []
 next_times eq i (key ∷ trace) = (suc i + until eq key trace) ∷ next_times eq (suc i) trace
 
--- `times` in rising order, and `time` among them if it comes before the end.
+-- inserts `time` into the rising list `times`, if it comes before the end
 abbrev pub with_time : ℕ → ℕ → List ℕ → List ℕ
 with_time end time times = if nat_lt time end then insert_key nat_cmp times time else times
 

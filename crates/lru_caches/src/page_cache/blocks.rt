@@ -186,7 +186,7 @@ impl<B: Copy, D: BlockDevice<B>, S: KeyHasher<u64>> PageCache<B, D, S> {
     ///
     /// # Errors
     ///
-    /// `Broken`: a `sync` has failed. The other errors are those of `read`. After an error the closure is not called.
+    /// `Broken`: a `sync` has failed. The other errors are as for `read`. After an error the closure is not called.
     pub fn write_with<R, U: FnOnce(&mut B) -> R>(
         &mut self,
         n: u64,
