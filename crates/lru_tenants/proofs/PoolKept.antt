@@ -12,10 +12,12 @@ use Rattle.std.proofs.lemmas.Map.Entries.{sum_by-set_value, sum_by-remove_entry}
 use Rattle.std.proofs.lemmas.Map.Views.{All-map-remove_entry, All-values-set_value}
 use Rattle.std.specs.Prelude.{nat_lt}
 use Rattle.std.proofs.lemmas.Bool.Decides.{nat_tests}
+use Rattle.lru_model.proofs.CallerLemmas.{no_pair, without_none}
+use Rattle.lru_model.specs.Calls.{promoted}
 use Rattle.lru_model.specs.State.{State}
 use Rattle.lru_tenants.proofs.Changes.{found-all, found-name}
 use Rattle.lru_tenants.specs.Inside.{HoldsPool}
-use Rattle.lru_tenants.specs.Pool.{Part, Pool, part, cost, IsPart, IsPool, total_cost, total_share, with_map, Leaves, On}
+use Rattle.lru_tenants.specs.Pool.{Part, Pool, part, cost, IsPart, IsPool, total_cost, total_share, with_map, Leaves, On, Gets}
 
 abbrev pub pool_of : {N K V L S : Type 0} → List (N × Part K V L S) → ℕ → S → ℕ → Pool N K V L S
 pool_of tenants limit hasher entry_bytes =
@@ -44,6 +46,11 @@ module _ {N K V L S : Type 0} {eq : K → K → Bool} {costs : K → V → ℕ} 
     cost = omega (arith, empty, kept.cost, sum_by-cons (cost account) own (values_of old));
     within = kept.within;
   }
+
+  pub pool-absent : (names : N → Bool) → lookup names old ≡ None
+      → HoldsPool eq costs account budget (remove_entry names old) limit shares total
+  pool-absent names none = subst (λ l. HoldsPool eq costs account budget l limit shares total)
+      (sym (without_none names old (no_pair names old none))) kept
 
   module _ (names : N → Bool) (was : Part K V L S) (there : lookup names old ≡ Some was) where
     pub own-part : IsPart account eq costs budget limit was
@@ -176,3 +183,20 @@ module _ {N K V L S R : Type 0} {eq : N → N → Bool} {names : N → Bool}
     others = λ other apart. refl;
     is = refl;
   })
+
+pub gets-open : {K V L S : Type 0} (names : K → Bool) (was : Option (Part K V L S)) (own : Part K V L S)
+    (left : State K V L S) (found : Option V) → was ≡ Some own → found ≡ lookup names own.1.pairs
+    → left ≡ promoted names own.1 → Gets names was (Ok found) (Some (with_map left own))
+gets-open names was own left found is value turned =
+    subst (λ t. Gets names t (Ok found) (Some (with_map left own))) (sym is)
+    (ap Ok value, ap (λ map. Some (with_map map own)) turned)
+
+pub closed-same : {N K V L S R : Type 0} {eq : N → N → Bool} {names : N → Bool} (answer : R)
+    (Does : Option (Part K V L S) → R → Option (Part K V L S) → Type 0) (limit : ℕ) (hasher : S) (entry_bytes : ℕ)
+    (old : List (N × Part K V L S)) → lookup names old ≡ None → Does None answer None
+    → On eq names Does (pool_of old limit hasher entry_bytes) answer
+    (pool_of (remove_entry names old) limit hasher entry_bytes)
+closed-same {eq = eq} {names = names} answer Does limit hasher entry_bytes old none does =
+    subst (λ l. On eq names Does (pool_of old limit hasher entry_bytes) answer (pool_of l limit hasher entry_bytes))
+    (sym (without_none names old (no_pair names old none)))
+    (on-same Does answer (pool_of old limit hasher entry_bytes) None none does)

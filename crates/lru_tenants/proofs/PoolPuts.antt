@@ -16,7 +16,9 @@ use Rattle.lru_tenants.proofs.Pools.{evictions-spare, says-there, spared-same, s
 use Rattle.lru_tenants.proofs.PoolKept.{same-part, part-written, others-written}
 use Rattle.lru_tenants.proofs.Pops.{no-last}
 use Rattle.lru_tenants.specs.Inside.{has_entries}
-use Rattle.lru_tenants.specs.Pool.{Part, Pool, PoolRun, Spares, Spared, Evictions, has_key, part, with_map}
+use Rattle.lru_tenants.specs.declared.error.TenantError.{TenantError}
+use Rattle.lru_tenants.specs.declared.error.TenantError.TheVariants.{NotOpen}
+use Rattle.lru_tenants.specs.Pool.{Part, Pool, PoolRun, Spares, Spared, Evictions, has_key, part, with_map, PutsIfOpen}
 
 pub run-spares : {N K V L S : Type 0} (account : L → ℕ) (eq : N → N → Bool) (name : N) (calls : List (N → Bool))
     (old new : Pool N K V L S) → PoolRun account eq old calls new → All (λ names. names name ≡ false) calls
@@ -28,6 +30,15 @@ run-spares account eq name (names ∷ more) old new (mid, spares, run) all =
     spared-trans account (part (eq name) old) (part (eq name) mid) (part (eq name) new)
     (spares name (All-head (λ names. names name ≡ false) names more all))
     (run-spares account eq name more mid new run (All-tail (λ names. names name ≡ false) names more all))
+
+module _ {N K V L S : Type 0} (names : N → Bool)
+    (does : Part K V L S → Pool N K V L S → Result Bool TenantError → Pool N K V L S → Type 0) (old : Pool N K V L S) where
+  pub puts-open : (answer : Result Bool TenantError) (new : Pool N K V L S) (was : Part K V L S)
+      → part names old ≡ Some was → does was old answer new → PutsIfOpen does (part names old) old answer new
+  puts-open answer new was there done = subst (λ o. PutsIfOpen does o old answer new) (sym there) done
+
+  pub puts-closed : part names old ≡ None → PutsIfOpen does (part names old) old (Err NotOpen) old
+  puts-closed none = subst (λ o. PutsIfOpen does o old (Err NotOpen) old) (sym none) (refl, refl)
 
 -- the running total falls if only oldest entries leave
 pub cost-falls : {K V L S : Type 0} (cost : K → V → ℕ) (account : L → ℕ) (old new : State K V L S)

@@ -203,7 +203,6 @@ impl<
     ///
     /// `NotOpen`: nothing has changed. `Memory`: out of memory for the entry. Some of the tenant's oldest entries may
     /// have been evicted, and no other tenant has changed.
-    #[tactic(none)]
     pub fn put<T: LookupKey<N>>(&mut self, name: &T, key: K, value: V) -> Result<bool, TenantError>
         ensures puts { PutsIfOpen (Puts L.rules (offers_of L.terms) L.account N.eq K.eq S.hash_of (T.names name.now) key value)
             (part (T.names name.now) self.old) self.old result self.new }
@@ -223,7 +222,8 @@ impl<
             return Err(TenantError::Memory);
         };
         self.total = settle(&mut self.tenants, total, self.limit);
-        Ok(kept && has_entries(&self.tenants, name))
+        let is_left = has_entries(&self.tenants, name);
+        Ok(kept & is_left)
     }
 
     /// Closes a tenant and drops its entries. Returns how many there were. Its share is free afterwards.
@@ -237,15 +237,15 @@ impl<
     /// # Errors
     ///
     /// `NotOpen`: nothing has changed.
-    #[tactic(none)]
     pub fn close<T: LookupKey<N>>(&mut self, name: &T) -> Result<usize, TenantError>
         ensures closes { On N.eq (T.names name.now) (OfOpen Closes) self.old result self.new }
         ensures pool { IsPool K.eq L.cost_of L.account L.budget_of self.new }
     {
         let _len = self.tenants.len();
-        let Some((share, map)) = self.tenants.remove(name) else {
+        let Some(own) = self.tenants.remove(name) else {
             return Err(TenantError::NotOpen);
         };
+        let (share, map) = own;
         self.shares -= share;
         self.total -= cost_of(&map) as u128;
         Ok(map.len())

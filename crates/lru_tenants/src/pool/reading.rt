@@ -183,7 +183,6 @@ impl<N: Eq + Hash, K: Eq + Hash, V, L: Budgeted<K, V>, S: KeyHasher<K> + Copy> T
     /// # Errors
     ///
     /// `NotOpen`: nothing has changed.
-    #[tactic(none)]
     pub fn get<T: LookupKey<N>, Q: LookupKey<K>>(
         &mut self,
         name: &T,
@@ -224,7 +223,6 @@ impl<
     /// # Errors
     ///
     /// `NotOpen`: nothing has changed.
-    #[tactic(none)]
     pub fn remove<T: LookupKey<N>, Q: LookupKey<K>>(
         &mut self,
         name: &T,
