@@ -12,14 +12,9 @@ use std::hash::Hash;
 
 // Returns how far the furthest tenant is above its share, and the hash of the name of such a tenant. The caller cannot
 // keep the name itself, because it is lent by the map that the caller is about to change.
-fn furthest<
-    N: Eq + Hash,
-    K: Eq + Hash,
-    V,
-    L: Budgeted<K, V>,
-    S: KeyHasher<K>,
-    H: KeyHasher<N>,
->(tenants: &LruMap<N, Part<K, V, L, S>, Unlimited, H>) -> (u64, u64)
+fn furthest<N: Eq + Hash, K: Eq + Hash, V, L: Budgeted<K, V>, S: KeyHasher<K>, H: KeyHasher<N>>(
+    tenants: &LruMap<N, Part<K, V, L, S>, Unlimited, H>,
+) -> (u64, u64)
     ensures most { All (λ own. excess L.account own ≤ result.0) (values_of tenants.now.pairs) }
     ensures there { 0 < result.0 → (pair : _) × Contains tenants.now.pairs pair
         × (excess L.account pair.1 ≡ result.0) × (H.hash_of tenants.now.hasher pair.0 ≡ result.1) }
@@ -72,11 +67,7 @@ pub(super) fn settle<
     L: Budgeted<K, V>,
     S: KeyHasher<K>,
     H: KeyHasher<N>,
->(
-    tenants: &mut LruMap<N, Part<K, V, L, S>, Unlimited, H>,
-    mut total: u128,
-    limit: u64,
-) -> u128
+>(tenants: &mut LruMap<N, Part<K, V, L, S>, Unlimited, H>, mut total: u128, limit: u64) -> u128
     requires each { All (IsPart L.account K.eq L.cost_of L.budget_of limit) (values_of tenants.old.pairs) }
     requires shares { total_share tenants.old.pairs ≤ limit }
     requires total { total ≡ total_cost L.account tenants.old.pairs }

@@ -32,12 +32,9 @@ pub(super) fn cost_of<K: Eq + Hash, V, L: Budgeted<K, V>, S: KeyHasher<K>>(
 }
 
 // Drops the oldest entry. Returns by how much the cost falls. `None` is for Rust, where costs may lie.
-pub(super) fn drop_oldest<
-    K: Eq + Hash + Drop,
-    V: Drop,
-    L: Budgeted<K, V>,
-    S: KeyHasher<K>,
->(own: &mut Part<K, V, L, S>) -> Option<u64>
+pub(super) fn drop_oldest<K: Eq + Hash + Drop, V: Drop, L: Budgeted<K, V>, S: KeyHasher<K>>(
+    own: &mut Part<K, V, L, S>,
+) -> Option<u64>
     requires tenant { IsTenant K.eq L.cost_of L.account L.budget_of own.old.1 }
     requires above { own.old.0 < cost L.account own.old }
     ensures pops { (gone : K × V) × (left : State K V L S) × PopOldest L.rules own.old.1 (Some gone) left

@@ -81,9 +81,9 @@ returns-in_default-inserted-clause-spares g c =
     let ps = c.self.inside.tenants.pairs in let names = g.T.LookupKey.names c.args.name.now in
     let was = c.in-Some.own.now in let left = c.insert-inserted.new.map in
     let holds = invariant_of-self-in_default-inserted g c in
-    rw (← c.self.view_is) (put-spares g.met.N.Eq.laws names (g.met.T.LookupKey.laws.one c.args.name.now) ps
-    (set_value names ps (with_map left was)) was left (sym c.in-Some.ensures.value) c.self.inside.limit
-    (ends {rules = g.L.Limiter.rules} (omega (arith, holds.cost, holds.within))))
+    rw (← c.self.view_is) (put-spares {rules = g.L.Limiter.rules} g.met.N.Eq.laws names
+    (g.met.T.LookupKey.laws.one c.args.name.now) ps (set_value names ps (with_map left was)) was left (sym c.in-Some.ensures.value) c.self.inside.limit
+    (ends (omega (arith, holds.cost, holds.within))))
 
 pub returns-in_default-inserted-clause-puts : goal.returns-in_default-inserted-clause-puts
 returns-in_default-inserted-clause-puts g c =

@@ -13,13 +13,13 @@ returns g c =
       own = ap (λ map. (c.args.share, map)) is;
       part = subst (λ map. IsPart g.L.Summing.account g.K.PartialEq.eq g.L.Summing.cost_of g.L.Budgeted.budget_of
           c.args.limit (c.args.share, map)) (sym is) (record {
-        tenant = record {
-          map = c.runs_begin_with_maps.ensures.empty (g.L.Budgeted.made c.args.limit) c.args.hasher c.args.entry_bytes;
-          sum = laws.made_empty c.args.limit;
-          within = omega (arith, laws.made_empty c.args.limit, laws.made_budget c.args.limit);
-          small = omega (arith, laws.made_budget c.args.limit);
-        };
-        limits = laws.made_budget c.args.limit;
-      });
+            tenant = record {
+              map = c.runs_begin_with_maps.ensures.empty (g.L.Budgeted.made c.args.limit) c.args.hasher c.args.entry_bytes;
+              sum = laws.made_empty c.args.limit;
+              within = omega (arith, laws.made_empty c.args.limit, laws.made_budget c.args.limit);
+              small = omega (arith, laws.made_budget c.args.limit);
+            };
+            limits = laws.made_budget c.args.limit;
+          });
       empty = ap (λ map. g.L.Summing.account map.limiter) is ∙ laws.made_empty c.args.limit;
     }
