@@ -19,6 +19,20 @@ use Rattle.lru_tenants.specs.Inside.{has_entries}
 use Rattle.lru_tenants.specs.declared.error.TenantError.{TenantError}
 use Rattle.lru_tenants.specs.declared.error.TenantError.TheVariants.{NotOpen}
 use Rattle.lru_tenants.specs.Pool.{Part, Pool, PoolRun, Spares, Spared, Evictions, has_key, part, with_map, PutsIfOpen}
+use Rattle.lru_tenants.specs.Pool.{Leaves, SparesOthers}
+
+module _ {N K V L S : Type 0} (account : L → ℕ) (eq : N → N → Bool) (names : N → Bool) where
+  pub leaves-spares : (left : Option (Part K V L S)) (old new : Pool N K V L S) → Leaves eq names left old new
+      → SparesOthers account eq names old new
+  leaves-spares left old new leaves other apart =
+      subst (Spared account (part (eq other) old)) (sym (leaves.others other apart))
+      (spared-same account (part (eq other) old))
+
+  pub spares-trans : (old mid new : Pool N K V L S) → SparesOthers account eq names old mid
+      → SparesOthers account eq names mid new → SparesOthers account eq names old new
+  spares-trans old mid new first more other apart =
+      spared-trans account (part (eq other) old) (part (eq other) mid) (part (eq other) new) (first other apart)
+      (more other apart)
 
 pub run-spares : {N K V L S : Type 0} (account : L → ℕ) (eq : N → N → Bool) (name : N) (calls : List (N → Bool))
     (old new : Pool N K V L S) → PoolRun account eq old calls new → All (λ names. names name ≡ false) calls

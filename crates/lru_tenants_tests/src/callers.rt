@@ -1,10 +1,11 @@
 //! Functions that call a cache and a pool, with contracts of their own.
-ghost use Rattle.std.specs.Prelude.{◌≡◌, ℕ, nat_eq, false};
+ghost use Rattle.std.specs.Prelude.{◌≡◌, ℕ, nat_eq, string_eq, false};
 ghost use Rattle.lru_limits.specs.Texts.{names_text};
 ghost use Rattle.lru_tenants.specs.Cache.{tenant};
 ghost use Rattle.lru_tenants.specs.Pool.{SparesOthers};
 
-use lru_tenants::{TenantCache, TenantError, TenantPool};
+use lru_tenants::{ByCost, TenantCache, TenantError, TenantPool, calls_spare_other_tenants};
+use schnellru::RandomState;
 use std::test::Fail;
 use test_helpers::{all, check};
 
@@ -37,6 +38,7 @@ fn serve(
 ) -> Result<u64, TenantError>
     ensures { SparesOthers (λ limiter. limiter.cost) string_eq (names_text host.now) pool.old pool.new }
 {
+    calls_spare_other_tenants::<String, String, String, ByCost, RandomState>();
     let mut hits = 0u64;
     for path in paths {
         if pool.get(&host, &path)?.is_some() {
@@ -56,9 +58,27 @@ fn of_pages(rt: HostRuntime) -> Result<(), Fail> {
     let held = all!(
         pool.open(String::from_str(alloc, "a")?, 4) == Ok(()),
         pool.open(String::from_str(alloc, "b")?, 4) == Ok(()),
-        serve(&mut pool, "a", vec![in alloc; String::from_str(alloc, "/one")?]?) == Ok(0),
-        serve(&mut pool, "b", vec![in alloc; String::from_str(alloc, "/1")?, String::from_str(alloc, "/2")?]?) == Ok(0),
-        serve(&mut pool, "b", vec![in alloc; String::from_str(alloc, "/3")?, String::from_str(alloc, "/2")?]?) == Ok(1)
+        serve(
+            &mut pool,
+            "a",
+            vec![in alloc; String::from_str(alloc, "/one")?]?
+        ) == Ok(0),
+        serve(
+            &mut pool,
+            "b",
+            vec![in alloc;
+                String::from_str(alloc, "/1")?,
+                String::from_str(alloc, "/2")?
+            ]?
+        ) == Ok(0),
+        serve(
+            &mut pool,
+            "b",
+            vec![in alloc;
+                String::from_str(alloc, "/3")?,
+                String::from_str(alloc, "/2")?
+            ]?
+        ) == Ok(1)
     );
     check!(rt; held && pool.cost(&"a") == Ok(4) && pool.cost(&"b") == Ok(4));
     Ok(())
