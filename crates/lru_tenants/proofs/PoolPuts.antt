@@ -108,7 +108,7 @@ module _ {N K V L S : Type 0} {rules : Rules K V L} {account : L → ℕ} {eq : 
       (others-written laws names one old was (with_map left was) there other apart)
       (evictions-spare laws limit new (set_value names old (with_map left was)) run other)
 
-  own-spared : Spared account (Some (with_map left was)) (lookup names new)
+  pub own-spared : Spared account (Some (with_map left was)) (lookup names new)
   own-spared = let (name, is) = found-name names old was there in
       let mid = set_value names old (with_map left was) in
       subst (λ o. Spared account o (lookup names new))

@@ -168,6 +168,8 @@ module _ {N K V L S : Type 0} where
     pub evictions : Evictions rules account eq old.limit new.tenants
         (set_value names old.tenants (with_map left own))
     pub failed : OnErr result (new.tenants ≡ set_value names old.tenants (with_map left own))
+    -- if the tenant's cost after the insert is within its share, it loses nothing more
+    pub spared : Spared account (Some (with_map left own)) (part names new)
     pub said : answer ≡ put_answer result (has_key (same key) (part names new))
     pub is : new ≡ record old { tenants = new.tenants }
 

@@ -9,7 +9,7 @@ use Rattle.lru_tenants.specs.Inside.{HoldsPool}
 use Rattle.lru_tenants.specs.Pool.{with_map, ends, IsPart, Puts}
 use Rattle.lru_tenants.proofs.PoolKept.{pool_of, is_pool, own-part, own-cost, cost-written, share-written, each-written}
 use Rattle.lru_tenants.proofs.PoolKept.{pool-written}
-use Rattle.lru_tenants.proofs.PoolPuts.{puts-open, puts-closed, put-spares, put-there, cost-falls}
+use Rattle.lru_tenants.proofs.PoolPuts.{puts-open, puts-closed, own-spared, put-spares, put-there, cost-falls}
 use Rattle.lru_tenants.proofs.Pools.{spared-same}
 use Rattle.lru_tenants.proofs.pool.TenantPool.put.Goals as goal
 
@@ -101,6 +101,9 @@ returns-in_default-inserted-clause-puts g c =
           left) c.in_default-inserted.is c.insert-inserted.ensures.inserts;
       evictions = ends (omega (arith, holds.cost, holds.within));
       failed = refl;
+      spared = own-spared {rules = rules} g.met.N.Eq.laws names (g.met.T.LookupKey.laws.one c.args.name.now) ps
+          (set_value names ps (with_map left was)) was left (sym c.in-Some.ensures.value) c.self.inside.limit
+          (ends (omega (arith, holds.cost, holds.within)));
       said = refl;
       is = refl;
     }))
@@ -176,6 +179,8 @@ returns-clause-puts g c =
           left) c.in-Ok.is c.insert-inserted.ensures.inserts;
       evictions = run;
       failed = tt;
+      spared = own-spared g.met.N.Eq.laws names (g.met.T.LookupKey.laws.one c.args.name.now) ps new was left there
+          c.self.inside.limit run;
       said = ap (λ b. Ok (kept && b)) c.has_entries-is_left.ensures
           ∙ ap Ok (put-there g.met.N.Eq.laws names (g.met.T.LookupKey.laws.one c.args.name.now) ps new was left there
           c.self.inside.limit run named kept
