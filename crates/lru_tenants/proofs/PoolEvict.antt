@@ -1,6 +1,6 @@
 -- The search for the tenant furthest above its share, and one eviction.
-use Rattle.std.proofs.Common.{◌≡◌, ◌≤◌, ◌<◌, ◌+◌, ℕ, zero, suc, Bool, true, List, [], ◌∷◌, ◌++◌, Option, Some, None, length}
-use Rattle.std.proofs.Common.{refl, sym, ap, ◌∙◌, subst, arith, sum_by, nat_eq}
+use Rattle.std.proofs.Common.{◌≡◌, ◌≤◌, ◌<◌, ◌+◌, ℕ, zero, suc, Bool, true, List, [], ◌∷◌, Option, Some, None, length}
+use Rattle.std.proofs.Common.{refl, sym, ap, ◌∙◌, arith, sum_by, nat_eq}
 use Rattle.std.specs.Prelude.{Contains, OnSome}
 use Rattle.std.specs.List.{All}
 use Rattle.std.specs.Map.{lookup, set_value, values_of}

@@ -18,7 +18,7 @@ use Rattle.lru_tenants.proofs.Pops.{no-last}
 use Rattle.lru_tenants.specs.Inside.{has_entries}
 use Rattle.lru_tenants.specs.declared.error.TenantError.{TenantError}
 use Rattle.lru_tenants.specs.declared.error.TenantError.TheVariants.{NotOpen}
-use Rattle.lru_tenants.specs.Pool.{Part, Pool, PoolRun, Spares, Spared, Evictions, has_key, part, with_map, PutsIfOpen}
+use Rattle.lru_tenants.specs.Pool.{Part, Pool, PoolRun, Spared, Evictions, has_key, part, with_map, PutsIfOpen}
 use Rattle.lru_tenants.specs.Pool.{Leaves, SparesOthers}
 
 module _ {N K V L S : Type 0} (account : L → ℕ) (eq : N → N → Bool) (names : N → Bool) where

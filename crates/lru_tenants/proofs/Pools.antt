@@ -1,16 +1,16 @@
 -- Evictions of a pool, and what they leave of each tenant.
-use Rattle.std.proofs.Common.{◌≡◌, ◌≢◌, ◌≤◌, ◌<◌, ◌+◌, ◌-◌, ◌&&◌, ℕ, zero, suc, Bool, true, false, cond, not, List, [], ◌∷◌}
-use Rattle.std.proofs.Common.{Option, Some, None, is_some, Result, Ok, Err, length, refl, sym, ap, ◌∙◌, subst, arith, sum_by}
+use Rattle.std.proofs.Common.{◌≡◌, ◌≤◌, ◌<◌, ◌&&◌, ℕ, zero, suc, Bool, true, false, cond, not, List, [], ◌∷◌}
+use Rattle.std.proofs.Common.{Option, Some, None, is_some, Ok, refl, sym, ap, ◌∙◌, subst, arith}
 use Rattle.std.specs.Cmp.{IsEquivalence}
 use Rattle.std.specs.List.{All}
 use Rattle.std.specs.Prelude.{option_map, unwrap_or}
 use Rattle.std.proofs.lemmas.List.Elements.{All-weaker}
-use Rattle.std.specs.Map.{keys_of, lookup, set_value, values_of}
+use Rattle.std.specs.Map.{lookup, values_of}
 use Rattle.std.proofs.lemmas.Map.{lookup-set_value}
 use Rattle.lru_limits.specs.Rules.{Rules}
-use Rattle.lru_model.specs.Lists.{IsFront, first, is_empty, lookup_entry}
+use Rattle.lru_model.specs.Lists.{IsFront, first, is_empty}
 use Rattle.lru_model.specs.State.{State}
-use Rattle.lru_model.specs.Theorems.{SaysWhether, IsNewest}
+use Rattle.lru_model.specs.Theorems.{SaysWhether}
 use Rattle.lru_model.proofs.CallerLemmas.{lookup-entry}
 use Rattle.lru_model.proofs.Theorems.Fronts.{front_self, front_same, front_trans, front_without_last, front_first, front_absent}
 use Rattle.lru_tenants.proofs.TotalCosts.{at-most}

@@ -14,7 +14,6 @@ use Rattle.lru_model.specs.Inserts.{Insert}
 use Rattle.lru_model.specs.Lists.{IsFront, lookup}
 use Rattle.lru_model.specs.State.{State, empty_map}
 use Rattle.lru_tenants.specs.Cache.{IsTenant}
-use Rattle.lru_tenants.specs.TenantRuns.{OfOpen, Opens}
 use Rattle.lru_tenants.specs.declared.error.TenantError.{TenantError}
 use Rattle.lru_tenants.specs.declared.error.TenantError.TheVariants.{NotOpen, Memory}
 

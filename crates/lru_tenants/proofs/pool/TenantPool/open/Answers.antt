@@ -1,4 +1,4 @@
-use Rattle.std.proofs.Common.{◌+◌, ◌∷◌, ◌≡◌, false, inl, inr, Some, None, Ok, Err, arith, sym, refl, ◌∙◌, ap, subst}
+use Rattle.std.proofs.Common.{◌+◌, ◌∷◌, inl, inr, Some, None, Ok, Err, arith, sym, refl, ◌∙◌, ap, subst}
 use Rattle.lru_tenants.specs.Inside.{HoldsPool}
 use Rattle.lru_tenants.specs.Pool.{part, opened, is_over}
 use Rattle.lru_tenants.specs.TenantRuns.{Opens}

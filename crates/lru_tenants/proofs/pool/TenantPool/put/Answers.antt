@@ -1,12 +1,11 @@
-use Rattle.std.proofs.Common.{◌≡◌, ◌-◌, ◌+◌, ◌&&◌, Some, Ok, Err, arith, sym, refl, ◌∙◌, ap, subst}
+use Rattle.std.proofs.Common.{◌&&◌, Ok, Err, arith, sym, refl, ◌∙◌, ap, subst}
 use Rattle.std.specs.Map.{set_value}
 use Rattle.std.specs.Prelude.{OnErr}
 use Rattle.lru_limits.specs.Admissions.{offers_of}
 use Rattle.lru_model.specs.Inserts.{Insert}
 use Rattle.lru_model.specs.Lists.{IsFront}
 use Rattle.lru_model.specs.Theorems.{SaysWhether}
-use Rattle.lru_tenants.specs.Inside.{HoldsPool}
-use Rattle.lru_tenants.specs.Pool.{with_map, ends, IsPart, Puts}
+use Rattle.lru_tenants.specs.Pool.{with_map, ends, Puts}
 use Rattle.lru_tenants.proofs.PoolKept.{pool_of, is_pool, own-part, own-cost, cost-written, share-written, each-written}
 use Rattle.lru_tenants.proofs.PoolKept.{pool-written}
 use Rattle.lru_tenants.proofs.PoolPuts.{puts-open, puts-closed, own-spared, put-spares, put-there, cost-falls}

@@ -1,5 +1,5 @@
 -- The evictions so far, and what they keep.
-use Rattle.std.proofs.Common.{◌≡◌, List, length, sum_by}
+use Rattle.std.proofs.Common.{◌≡◌, length, sum_by}
 use Rattle.std.specs.List.{All}
 use Rattle.std.specs.Map.{values_of}
 use Rattle.lru_tenants.specs.Pool.{Evictions, IsPart, total_cost, total_share}

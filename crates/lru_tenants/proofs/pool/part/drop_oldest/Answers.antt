@@ -1,4 +1,4 @@
-use Rattle.std.proofs.Common.{◌≡◌, ◌-◌, Some, ◌∷◌, [], arith, refl, sym, ap, ◌∙◌, subst, length, length-append}
+use Rattle.std.proofs.Common.{◌-◌, ◌∷◌, [], arith, refl, sym, ap, ◌∙◌, subst, length, length-append}
 use Rattle.std.proofs.lemmas.Option.{none-some}
 use Rattle.lru_model.specs.Calls.{PopOldest}
 use Rattle.lru_model.specs.Runs.Step.{pops_oldest}
