@@ -24,7 +24,7 @@ ERRORS = {"_fallible(": "GetOrInsertError<u8>", "put_full(": "TenantError", ".it
 LENGTH = 12
 READS = {"len", "is_empty", "contains", "contains_key", "peek", "peek_key_value", "peek_oldest", "peek_newest", "keys",
          "values", "iter", "get_index", "get_index_of", "first", "last", "entries", "budget", "cost",
-         "names", "total_cost", "total_budget", "total_limit"}
+         "names", "total_cost", "total_budget", "total_limit", "limit", "share"}
 
 
 class Given:
@@ -78,13 +78,14 @@ CRATES = {
         use std::test::Fail;
         use test_helpers::{all, check};"""),
     "lru_tenants": Crate(["lru_tenants"], """
-        use crate::numbers::{Numbers, refill};
+        use crate::numbers::{Numbers, Shared, refill, restock};
         use lru_tenants::{
-            ByWeight, TenantAnswer, TenantCache, TenantCall, TenantError, run_tenants,
+            ByWeight, TenantAnswer, TenantCache, TenantCall, TenantError, TenantPool, run_tenants,
         };
         use std::test::Fail;
         use test_helpers::{all, check};""",
-        {"cache": Given("let mut cache: Numbers = TenantCache::new(alloc, [1, 2, 3, 4], 32);", "Numbers", "refill")}),
+        {"cache": Given("let mut cache: Numbers = TenantCache::new(alloc, [1, 2, 3, 4], 32);", "Numbers", "refill"),
+         "pool": Given("let mut pool: Shared = TenantPool::new(alloc, [1, 2, 3, 4], 32, 5);", "Shared", "restock")}),
     "lru_caches": Crate(["lru_caches"], """
         ghost use Rattle.std.specs.Prelude.{◌≡◌, ◌*◌};
 

@@ -23,7 +23,7 @@ pub found-all : {K X : Type 0} (P : X → Type 0) (test : K → Bool) (entries :
     → lookup test entries ≡ Some x → All P (values_of entries) → P x
 found-all P test entries x found all = subst (λ o. IfSome o P) found (IfSome-lookup_from_All P test entries all)
 
-found-name : {K X : Type 0} (test : K → Bool) (entries : List (K × X)) (x : X) → lookup test entries ≡ Some x
+pub found-name : {K X : Type 0} (test : K → Bool) (entries : List (K × X)) (x : X) → lookup test entries ≡ Some x
     → (k : K) × (test k ≡ true)
 found-name test [] x e = absurd (true≢false (sym (ap is_some e)))
 found-name {K} test (entry ∷ entries) x e = go (found-name test entries x) (test entry.0) refl e

@@ -6,3 +6,8 @@ pub mod GetOrPuts
 pub mod OwnRuns
 pub mod TotalCosts
 pub mod PutFulls
+pub mod Pools
+pub mod Searches
+pub mod PoolEvict
+pub mod PoolKept
+pub mod PoolPuts

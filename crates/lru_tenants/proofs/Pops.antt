@@ -16,7 +16,7 @@ module _ {X : Type 0} where
       after-last y (Some z) = z ∷ []
   last-end (y ∷ z ∷ zs) x e = ap (λ l. y ∷ l) (last-end (z ∷ zs) x e)
 
-  no-last : (xs : List X) → last xs ≡ None → xs ≡ []
+  pub no-last : (xs : List X) → last xs ≡ None → xs ≡ []
   no-last [] e = refl
   no-last (y ∷ []) e = absurd (grind (arith, e))
   no-last (y ∷ z ∷ zs) e = absurd (some z zs e)

@@ -1,12 +1,26 @@
--- What holds for the fields of a cache. No public contract cites this module.
-use Rattle.std.specs.Prelude.{◌≡◌, ℕ, Bool, false, List, Option, sum_by}
+-- What holds for the fields of a cache, and of a pool. No public contract cites this module.
+use Rattle.std.specs.Prelude.{◌≡◌, ◌≤◌, ℕ, Bool, false, List, Option, Some, None, sum_by, not}
 use Rattle.std.specs.List.{All}
 use Rattle.std.specs.Map.{values_of}
+use Rattle.lru_model.specs.Lists.{is_empty}
 use Rattle.lru_model.specs.State.{State}
 use Rattle.lru_tenants.specs.Cache.{IsTenant, is_above}
+use Rattle.lru_tenants.specs.Pool.{Part, IsPart, total_cost, total_share}
 
 pub record Holds {N K V L S : Type 0} (eq : K → K → Bool) (cost : K → V → ℕ) (account budget : L → ℕ)
     (tenants : List (N × State K V L S)) (total : ℕ) (limit : Option ℕ) : Type 0 where
   pub each : All (IsTenant eq cost account budget) (values_of tenants)
   pub sum : total ≡ sum_by (λ map. budget map.limiter) (values_of tenants)
   pub within : is_above limit total ≡ false
+
+pub record HoldsPool {N K V L S : Type 0} (eq : K → K → Bool) (costs : K → V → ℕ) (account budget : L → ℕ)
+    (tenants : List (N × Part K V L S)) (limit shares total : ℕ) : Type 0 where
+  pub each : All (IsPart account eq costs budget limit) (values_of tenants)
+  pub share : shares ≡ total_share tenants
+  pub enough : shares ≤ limit
+  pub cost : total ≡ total_cost account tenants
+  pub within : total ≤ limit
+
+abbrev pub has_entries : {K V L S : Type 0} → Option (Part K V L S) → Bool
+has_entries None = false
+has_entries (Some own) = not (is_empty own.1.pairs)

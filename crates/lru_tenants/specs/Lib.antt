@@ -1,8 +1,10 @@
 -- What the contracts of `lru_tenants` cite.
 pub mod Cache
+pub mod Pool
 pub mod Inside
 pub mod Isolation
 pub mod TenantRuns
 pub mod Lending
+pub mod PoolLending
 pub mod GetOrPuts
 pub mod PutFulls

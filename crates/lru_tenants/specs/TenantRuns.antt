@@ -31,25 +31,25 @@ abbrev pub put_answer : {R : Type 0} → Result R AllocError → Result R Tenant
 put_answer (Ok inserted) = Ok inserted
 put_answer (Err e) = Err Memory
 
--- What each call may answer, and how it leaves its tenant. `None` is a tenant that is not open.
-module _ {K V L S : Type 0} where
-  -- A tenant that is not open opens with the map `fresh`. If the budgets would be over the total limit, or memory runs
-  -- out, the tenant stays closed.
-  abbrev pub Opens : Bool → State K V L S → Option (State K V L S) → Result (Unit {0}) TenantError
-      → Option (State K V L S) → Type 0
-  Opens over fresh (Some map) answer new = (answer ≡ Err AlreadyOpen) × (new ≡ Some map)
-  Opens true fresh None answer new = (answer ≡ Err OverTotal) × (new ≡ None)
-  Opens false fresh None answer new = ((answer ≡ Ok tt) × (new ≡ Some fresh)) ⊎ ((answer ≡ Err Memory) × (new ≡ None))
+-- Below: what each call may answer, and how it leaves its tenant. `None` is a tenant that is not open.
 
+-- A tenant that is not open opens with `fresh`. If the sum would be over the limit, or memory runs out, the tenant stays
+-- closed.
+abbrev pub Opens : {X : Type 0} → Bool → X → Option X → Result (Unit {0}) TenantError → Option X → Type 0
+Opens over fresh (Some map) answer new = (answer ≡ Err AlreadyOpen) × (new ≡ Some map)
+Opens true fresh None answer new = (answer ≡ Err OverTotal) × (new ≡ None)
+Opens false fresh None answer new = ((answer ≡ Ok tt) × (new ≡ Some fresh)) ⊎ ((answer ≡ Err Memory) × (new ≡ None))
+
+-- If the tenant is open, the call does what `does` says. Otherwise it returns `NotOpen`, and the tenant stays closed.
+abbrev pub OfOpen : {X R : Type 0} → (X → Result R TenantError → Option X → Type 0) → Option X
+    → Result R TenantError → Option X → Type 0
+OfOpen does None answer new = (answer ≡ Err NotOpen) × (new ≡ None)
+OfOpen does (Some map) answer new = does map answer new
+
+module _ {K V L S : Type 0} where
   abbrev pub read_of : {R : Type 0} → (State K V L S → R) → Option (State K V L S) → Result R TenantError
   read_of reads None = Err NotOpen
   read_of reads (Some map) = Ok (reads map)
-
-  -- If the tenant is open, the call does what `does` says. Otherwise it returns `NotOpen`, and the tenant stays closed.
-  abbrev pub OfOpen : {R : Type 0} → (State K V L S → Result R TenantError → Option (State K V L S) → Type 0)
-      → Option (State K V L S) → Result R TenantError → Option (State K V L S) → Type 0
-  OfOpen does None answer new = (answer ≡ Err NotOpen) × (new ≡ None)
-  OfOpen does (Some map) answer new = does map answer new
 
   -- a call that never fails on an open tenant, and leaves the tenant open
   abbrev pub IfOpen : {R : Type 0} → (State K V L S → R → State K V L S → Type 0) → Option (State K V L S)

@@ -1,9 +1,10 @@
 //! Laws about calls. A caller that needs a law calls its function, which does nothing.
-ghost use Rattle.std.specs.Prelude.{◌≡◌, ◌≤◌, false, List, IfSome, sum_by};
+ghost use Rattle.std.specs.Prelude.{◌≡◌, ◌≤◌, false, Bool, List, Option, IfSome, sum_by};
 ghost use Rattle.std.specs.List.{All};
 ghost use Rattle.std.specs.Map.{values_of};
 ghost use Rattle.lru_tenants.specs.Cache.{Cache, tenant};
 ghost use Rattle.lru_tenants.specs.Isolation.{Did, CacheRun, Chain};
+ghost use Rattle.lru_tenants.specs.Pool.{Part, Pool, PoolRun, Leaves, Spared, SparesOthers, part};
 
 use crate::cache::TenantCache;
 use lru_limits::Budgeted;
@@ -51,3 +52,28 @@ pub fn costs_are_within_the_total_limit<
     let _len = cache.len();
     let _sum = cache.total_budget();
 }
+
+/// If each call of a list names another tenant of a pool, a tenant keeps its share and loses only its oldest entries. If
+/// its cost is within its share, its map stays as it is (`others`).
+///
+/// The premise: each call spares every tenant except the one that it names. The clause `spares` of `put` says this, and
+/// it holds of each other call, because it leaves those tenants as they are (`leaves`). `joins` joins calls on one
+/// tenant.
+///
+/// ```
+/// calls_spare_other_tenants::<u64, u64, u64, ByCost, RandomState>();
+/// ```
+pub fn calls_spare_other_tenants<
+    N: Eq + Hash,
+    K: Eq + Hash,
+    V,
+    L: Budgeted<K, V>,
+    S: KeyHasher<K>,
+>()
+    ensures others { (name : N) (calls : List (N → Bool)) (old new : Pool N K V L S) → PoolRun L.account N.eq old calls new →
+        All (λ names. names name ≡ false) calls → Spared L.account (part (N.eq name) old) (part (N.eq name) new) }
+    ensures leaves { (names : N → Bool) (left : Option (Part K V L S)) (old new : Pool N K V L S) →
+        Leaves N.eq names left old new → SparesOthers L.account N.eq names old new }
+    ensures joins { (names : N → Bool) (old mid new : Pool N K V L S) → SparesOthers L.account N.eq names old mid →
+        SparesOthers L.account N.eq names mid new → SparesOthers L.account N.eq names old new }
+{}

@@ -8,14 +8,18 @@ mod cache;
 mod call;
 mod error;
 mod laws;
+mod pool;
 mod runs;
 mod tenant;
 
 pub use cache::TenantCache;
 pub use call::{TenantAnswer, TenantCall};
 pub use error::TenantError;
-pub use laws::{costs_are_within_the_total_limit, each_tenant_has_its_own_run};
+pub use laws::{
+    calls_spare_other_tenants, costs_are_within_the_total_limit, each_tenant_has_its_own_run,
+};
 pub use lru_limits::{Budgeted, ByCost, ByWeight, Costed};
+pub use pool::TenantPool;
 pub use runs::run_tenants;
 pub use schnellru::Inserted;
 pub use schnellru::laws::calls_keep_the_budget;

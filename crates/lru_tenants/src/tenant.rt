@@ -10,6 +10,7 @@ ghost use Rattle.lru_model.specs.Inserts.{Insert, kept_of};
 ghost use Rattle.lru_model.specs.Lists.{lookup, first};
 ghost use Rattle.lru_model.specs.Retains.{Retains};
 ghost use Rattle.lru_model.specs.State.{Trims};
+ghost use Rattle.lru_model.specs.Theorems.{InsertEnds};
 ghost use Rattle.lru_tenants.specs.Cache.{IsTenant, with_limiter};
 ghost use Rattle.lru_tenants.specs.PutFulls.{comes_back, rejects};
 
@@ -30,6 +31,7 @@ pub(crate) fn insert<
     requires callable { F.IsAlwaysCallable sink.old }
     ensures inserts { Insert L.rules (offers_of L.terms) K.eq S.hash_of key value
         map.old result map.new }
+    ensures ends { InsertEnds L.rules (offers_of L.terms) K.eq S.hash_of key value map.old result map.new }
     ensures passed { (passed : List (K × V)) × CalledWith F.FnMut sink.old passed sink.new
         × InsertPasses L.rules (offers_of L.terms) K.eq S.hash_of key value map.old result passed
         map.new }

@@ -1,8 +1,13 @@
-//! A caller of the cache, with its own contract, as in docs/TENANTS.md.
-ghost use Rattle.std.specs.Prelude.{◌≡◌, ℕ, nat_eq, false};
+//! Functions that call a cache and a pool, with contracts of their own.
+ghost use Rattle.std.specs.Prelude.{◌≡◌, ℕ, nat_eq, string_eq, false};
+ghost use Rattle.lru_limits.specs.Texts.{names_text};
 ghost use Rattle.lru_tenants.specs.Cache.{tenant};
+ghost use Rattle.lru_tenants.specs.Pool.{SparesOthers};
 
-use lru_tenants::{TenantCache, TenantError};
+use lru_tenants::{ByCost, TenantCache, TenantError, TenantPool, calls_spare_other_tenants};
+use schnellru::RandomState;
+use std::test::Fail;
+use test_helpers::{all, check};
 
 /// Puts a value for one tenant. The map of each other tenant does not change.
 fn put_beside(
@@ -15,4 +20,66 @@ fn put_beside(
         tenant (nat_eq other) cache.new ≡ tenant (nat_eq other) cache.old }
 {
     cache.put(name, key, value)
+}
+
+fn page_of(path: &String) -> Result<String, TenantError> {
+    match path.clone() {
+        Ok(page) => Ok(page),
+        Err(_) => Err(TenantError::Memory),
+    }
+}
+
+/// Gets the page of each path of a host, or else puts it. Returns how many pages were there. Every other host keeps its
+/// map, if its cost is within its share.
+fn serve(
+    pool: &mut TenantPool<String, String, String>,
+    host: &str,
+    paths: Vec<String>,
+) -> Result<u64, TenantError>
+    ensures { SparesOthers (λ limiter. limiter.cost) string_eq (names_text host.now) pool.old pool.new }
+{
+    calls_spare_other_tenants::<String, String, String, ByCost, RandomState>();
+    let mut hits = 0u64;
+    for path in paths {
+        if pool.get(&host, &path)?.is_some() {
+            hits = hits.wrapping_add(1);
+            continue;
+        }
+        let page = page_of(&path)?;
+        pool.put(&host, path, page)?;
+    }
+    Ok(hits)
+}
+
+#[test]
+fn of_pages(rt: HostRuntime) -> Result<(), Fail> {
+    let alloc = rt.alloc();
+    let mut pool: TenantPool<String, String, String> = TenantPool::new(alloc, [1, 2, 3, 4], 64, 8);
+    let held = all!(
+        pool.open(String::from_str(alloc, "a")?, 4) == Ok(()),
+        pool.open(String::from_str(alloc, "b")?, 4) == Ok(()),
+        serve(
+            &mut pool,
+            "a",
+            vec![in alloc; String::from_str(alloc, "/one")?]?
+        ) == Ok(0),
+        serve(
+            &mut pool,
+            "b",
+            vec![in alloc;
+                String::from_str(alloc, "/1")?,
+                String::from_str(alloc, "/2")?
+            ]?
+        ) == Ok(0),
+        serve(
+            &mut pool,
+            "b",
+            vec![in alloc;
+                String::from_str(alloc, "/3")?,
+                String::from_str(alloc, "/2")?
+            ]?
+        ) == Ok(1)
+    );
+    check!(rt; held && pool.cost(&"a") == Ok(4) && pool.cost(&"b") == Ok(4));
+    Ok(())
 }

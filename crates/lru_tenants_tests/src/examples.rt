@@ -1,6 +1,8 @@
 //! Written by `docs/examples.py` from the examples in the doc comments. Do not change it by hand.
-use crate::numbers::{Numbers, refill};
-use lru_tenants::{ByWeight, TenantAnswer, TenantCache, TenantCall, TenantError, run_tenants};
+use crate::numbers::{Numbers, Shared, refill, restock};
+use lru_tenants::{
+    ByWeight, TenantAnswer, TenantCache, TenantCall, TenantError, TenantPool, run_tenants,
+};
 use std::test::Fail;
 use test_helpers::{all, check};
 
@@ -109,6 +111,51 @@ fn on_a_cache(rt: HostRuntime) {
     check!(rt; held);
 }
 
+fn pool_1(pool: &mut Shared) -> bool {
+    all!(
+        restock(pool),
+        pool.len() == 2,
+        !pool.is_empty(),
+        pool.limit() == 5,
+        pool.total_cost() == 2,
+        (pool.cost(&1), pool.cost(&9)) == (Ok(2), Err(TenantError::NotOpen)),
+        pool.share(&1) == Ok(3)
+    )
+}
+
+fn pool_2(pool: &mut Shared) -> bool {
+    all!(
+        restock(pool),
+        pool.contains(&1, &7) == Ok(true),
+        pool.peek(&1, &7) == Ok(Some(&2)),
+        pool.get(&1, &7) == Ok(Some(&2)),
+        restock(pool),
+        (pool.remove(&1, &7), pool.remove(&1, &7)) == (Ok(Some(2)), Ok(None)),
+        restock(pool),
+        pool.open(1, 0) == Err(TenantError::AlreadyOpen),
+        (pool.open(3, 2), pool.open(3, 1)) == (Err(TenantError::OverTotal), Ok(()))
+    )
+}
+
+fn pool_3(pool: &mut Shared) -> bool {
+    all!(
+        restock(pool),
+        (pool.put(&2, 8, 3), pool.put(&1, 9, 1)) == (Ok(true), Ok(true)),
+        (pool.cost(&1), pool.cost(&2)) == (Ok(3), Ok(0)),
+        (pool.put(&2, 8, 6), pool.put(&2, 8, 3)) == (Ok(false), Ok(false)),
+        restock(pool),
+        (pool.len(), pool.close(&1), pool.len()) == (2, Ok(1), 1)
+    )
+}
+
+#[test]
+fn on_a_pool(rt: HostRuntime) {
+    let alloc = rt.alloc();
+    let mut pool: Shared = TenantPool::new(alloc, [1, 2, 3, 4], 32, 5);
+    let held = all!(pool_1(&mut pool), pool_2(&mut pool), pool_3(&mut pool));
+    check!(rt; held);
+}
+
 #[test]
 fn of_cache(rt: HostRuntime) {
     let alloc = rt.alloc();
@@ -134,6 +181,38 @@ fn of_cache_2(rt: HostRuntime) -> Result<(), Fail> {
     let held = held
         & all!(
             (weighed.open(1, 40), weighed.put(&1, 7, 2)) == (Ok(()), Ok(true)),
+            weighed.cost(&1) == Ok(25)
+        );
+    check!(rt; held);
+    Ok(())
+}
+
+#[test]
+fn of_pool(rt: HostRuntime) {
+    let alloc = rt.alloc();
+    let mut pool: TenantPool<u64, u64, u64> = TenantPool::new(alloc, [1, 2, 3, 4], 32, 5);
+    let held = all!(
+        (pool.open(1, 3), pool.open(2, 1)) == (Ok(()), Ok(())),
+        (pool.put(&1, 7, 2), pool.put(&2, 8, 3)) == (Ok(true), Ok(true)),
+        (pool.put(&1, 9, 1), pool.cost(&2), pool.cost(&1)) == (Ok(true), Ok(0), Ok(3))
+    );
+    check!(rt; held);
+}
+
+#[test]
+fn of_pool_2(rt: HostRuntime) -> Result<(), Fail> {
+    let alloc = rt.alloc();
+    let mut pool: TenantPool<u64, u64, u64> = TenantPool::new(alloc, [1, 2, 3, 4], 32, 5);
+    let held = pool.is_empty();
+    let mut weighed: TenantPool<u64, u64, u64, ByWeight<16>, _> = TenantPool::with_hasher(
+        alloc,
+        std::collections::hash_map::RandomState::new(&rt)?,
+        32,
+        40,
+    );
+    let held = held
+        & all!(
+            (weighed.open(1, 0), weighed.put(&1, 7, 2)) == (Ok(()), Ok(true)),
             weighed.cost(&1) == Ok(25)
         );
     check!(rt; held);

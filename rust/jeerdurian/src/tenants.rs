@@ -15,6 +15,9 @@
 //! ```
 
 mod entries;
+mod pool;
+
+pub use pool::TenantPool;
 
 use crate::erased::lru_limits::{self, Budgeted};
 use crate::erased::lru_tenants as proved;

@@ -31,3 +31,15 @@ pub fn costs_are_within_the_total_limit<N: Eq + Hash, K: Eq + Hash, V, L: Budget
     let _len = cache.len();
     let _sum = cache.total_budget();
 }
+
+/// If each call of a list names another tenant of a pool, a tenant keeps its share and loses only its oldest entries. If
+/// its cost is within its share, its map stays as it is (`others`).
+///
+/// The premise: each call spares every tenant except the one that it names. The clause `spares` of `put` says this, and
+/// it holds of each other call, because it leaves those tenants as they are (`leaves`). `joins` joins calls on one
+/// tenant.
+///
+/// ```text
+/// calls_spare_other_tenants::<u64, u64, u64, ByCost, RandomState>();
+/// ```
+pub fn calls_spare_other_tenants<N: Eq + Hash, K: Eq + Hash, V, L: Budgeted<K, V>, S: KeyHasher<K>>() {}

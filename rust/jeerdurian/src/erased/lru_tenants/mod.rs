@@ -11,6 +11,7 @@ mod cache;
 mod call;
 mod error;
 mod laws;
+mod pool;
 mod runs;
 mod tenant;
 
@@ -20,5 +21,6 @@ pub use crate::erased::schnellru::laws::calls_keep_the_budget;
 pub use cache::TenantCache;
 pub use call::{TenantAnswer, TenantCall};
 pub use error::TenantError;
-pub use laws::{costs_are_within_the_total_limit, each_tenant_has_its_own_run};
+pub use laws::{calls_spare_other_tenants, costs_are_within_the_total_limit, each_tenant_has_its_own_run};
+pub use pool::TenantPool;
 pub use runs::run_tenants;

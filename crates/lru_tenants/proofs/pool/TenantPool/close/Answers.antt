@@ -1,0 +1,76 @@
+use Rattle.std.proofs.Common.{◌≡◌, ◌-◌, Some, None, Ok, Err, arith, sym, refl, ◌∙◌, ap, subst, option_map}
+use Rattle.std.proofs.lemmas.Iterator.Adapters.{option_map_id}
+use Rattle.lru_model.specs.Lists.{lookup, without}
+use Rattle.lru_model.proofs.CallerLemmas.{lookup-entry}
+use Rattle.lru_tenants.specs.Inside.{HoldsPool}
+use Rattle.lru_tenants.specs.Pool.{Closes}
+use Rattle.lru_tenants.specs.TenantRuns.{OfOpen}
+use Rattle.lru_tenants.specs.declared.error.TenantError.TheVariants.{NotOpen}
+use Rattle.lru_tenants.proofs.PoolKept.{pool_of, is_pool, own-cost, own-share, pool-absent, pool-removed, leaves-removed}
+use Rattle.lru_tenants.proofs.PoolKept.{on-from, closed-same}
+use Rattle.lru_tenants.proofs.pool.TenantPool.close.Goals as goal
+
+pub invariant_of-self : goal.invariant_of-self
+invariant_of-self g c =
+    let ps = c.self.inside.tenants.pairs in let names = g.T.LookupKey.names c.args.name.now in
+    let found : c.remove.result ≡ lookup names ps = c.remove.ensures.step.value
+    ∙ ap (option_map (λ p. p.1)) (option_map_id _) ∙ sym (lookup-entry names ps) in
+    rw (ap (λ st. st.pairs) c.remove.ensures.step.state.is)
+    (pool-absent ps c.self.invariant names (sym found ∙ c.in_default.is))
+
+pub returns-in_default-clause-pool : goal.returns-in_default-clause-pool
+returns-in_default-clause-pool g c =
+    is_pool _ (invariant_of-self g c) c.self.inside.hasher c.self.inside.entry_bytes
+
+pub returns-in_default-clause-closes : goal.returns-in_default-clause-closes
+returns-in_default-clause-closes g c =
+    let ps = c.self.inside.tenants.pairs in let names = g.T.LookupKey.names c.args.name.now in
+    let found : c.remove.result ≡ lookup names ps = c.remove.ensures.step.value
+    ∙ ap (option_map (λ p. p.1)) (option_map_id _) ∙ sym (lookup-entry names ps) in
+    rw (ap (λ st. st.pairs) c.remove.ensures.step.state.is, ← c.self.view_is)
+    (closed-same (Err NotOpen) (OfOpen Closes) c.self.inside.limit c.self.inside.hasher c.self.inside.entry_bytes ps
+    (sym found ∙ c.in_default.is) (refl, refl))
+
+pub overflow_sub-self : goal.overflow_sub-self
+overflow_sub-self g c =
+    let ps = c.self.inside.tenants.pairs in let names = g.T.LookupKey.names c.args.name.now in
+    let found : c.remove.result ≡ lookup names ps = c.remove.ensures.step.value
+    ∙ ap (option_map (λ p. p.1)) (option_map_id _) ∙ sym (lookup-entry names ps) in
+    own-share ps c.self.invariant names c.in-Some.own (sym found ∙ c.in-Some.is)
+
+pub overflow_sub-self-2 : goal.overflow_sub-self-2
+overflow_sub-self-2 g c =
+    let ps = c.self.inside.tenants.pairs in let names = g.T.LookupKey.names c.args.name.now in
+    let found : c.remove.result ≡ lookup names ps = c.remove.ensures.step.value
+    ∙ ap (option_map (λ p. p.1)) (option_map_id _) ∙ sym (lookup-entry names ps) in
+    omega (
+      arith,
+      c.cost_of.ensures,
+      own-cost ps c.self.invariant names c.in-Some.own (sym found ∙ c.in-Some.is),
+    )
+
+pub invariant_of-self-2 : goal.invariant_of-self-2
+invariant_of-self-2 g c =
+    let ps = c.self.inside.tenants.pairs in let names = g.T.LookupKey.names c.args.name.now in
+    let found : c.remove.result ≡ lookup names ps = c.remove.ensures.step.value
+    ∙ ap (option_map (λ p. p.1)) (option_map_id _) ∙ sym (lookup-entry names ps) in
+    rw (ap (λ st. st.pairs) c.remove.ensures.step.state.is)
+    (subst (λ n. HoldsPool g.K.PartialEq.eq g.L.Summing.cost_of g.L.Summing.account g.L.Budgeted.budget_of
+    (without names ps) c.self.inside.limit (c.self.inside.shares - c.in-Some.own.0) (c.self.inside.total - n))
+    (sym c.cost_of.ensures) (pool-removed ps c.self.invariant names c.in-Some.own (sym found ∙ c.in-Some.is)))
+
+pub returns-clause-pool : goal.returns-clause-pool
+returns-clause-pool g c = is_pool _ (invariant_of-self-2 g c) c.self.inside.hasher c.self.inside.entry_bytes
+
+pub returns-clause-closes : goal.returns-clause-closes
+returns-clause-closes g c =
+    let ps = c.self.inside.tenants.pairs in let names = g.T.LookupKey.names c.args.name.now in
+    let found : c.remove.result ≡ lookup names ps = c.remove.ensures.step.value
+    ∙ ap (option_map (λ p. p.1)) (option_map_id _) ∙ sym (lookup-entry names ps) in
+    let there = sym found ∙ c.in-Some.is in
+    rw (ap (λ st. st.pairs) c.remove.ensures.step.state.is, ← c.self.view_is)
+    (on-from (OfOpen Closes) _ (pool_of ps c.self.inside.limit c.self.inside.hasher c.self.inside.entry_bytes)
+    (pool_of (without names ps) c.self.inside.limit c.self.inside.hasher c.self.inside.entry_bytes)
+    (Some c.in-Some.own) None there (ap Ok c.len.ensures.len, refl)
+    (leaves-removed g.met.N.Eq.laws names (g.met.T.LookupKey.laws.one c.args.name.now) c.self.inside.limit
+    c.self.inside.hasher c.self.inside.entry_bytes ps c.in-Some.own there c.len-len.ensures.map.distinct))

@@ -1,0 +1,93 @@
+use Rattle.std.proofs.Common.{subst, Some, None, Err, sym, refl, ap}
+use Rattle.lru_model.specs.Calls.{promoted, written}
+use Rattle.lru_model.specs.Lists.{lookup}
+use Rattle.lru_model.proofs.CallerLemmas.{read_back, promoted-absent}
+use Rattle.lru_tenants.specs.Cache.{IsTenant}
+use Rattle.lru_tenants.specs.Pool.{read_part, with_map, Gets}
+use Rattle.lru_tenants.specs.declared.error.TenantError.TheVariants.{NotOpen}
+use Rattle.lru_tenants.proofs.Gets.{promoted_is_tenant}
+use Rattle.lru_tenants.proofs.PoolKept.{own-part, pool-written, leaves-written, on-same, gets-open}
+use Rattle.lru_tenants.proofs.pool.TenantPool.get.Goals as goal
+
+pub invariant_of-self-in-Some-get : goal.invariant_of-self-in-Some-get
+invariant_of-self-in-Some-get g c =
+    let key = g.Q.LookupKey.names c.args.key.now in
+    let was = c.in-Some.own.now in
+    let named = g.T.LookupKey.names c.args.name.now in
+    let there = sym c.in-Some.ensures.value in
+    let is = own-part c.self.inside.tenants.pairs c.self.invariant named was there in
+    let back = read_back key was.1 c.in-Some-get.value.now (sym c.in-Some-get.ensures.value) in
+    pool-written c.self.inside.tenants.pairs c.self.invariant named was there
+    (written key c.in-Some-get.value.now (promoted key was.1)) (record {
+      tenant = subst (IsTenant g.K.PartialEq.eq g.L.Summing.cost_of g.L.Summing.account g.L.Budgeted.budget_of)
+          (sym back) (promoted_is_tenant g.met.Q.LookupKey.laws c.args.key.now g.L.Summing.cost_of
+          g.L.Summing.account g.L.Budgeted.budget_of was.1 is.tenant);
+      limits = is.limits;
+    }) c.self.inside.total refl c.self.invariant.within
+
+pub invariant_of-self-in-None : goal.invariant_of-self-in-None
+invariant_of-self-in-None g c =
+    let was = c.in-Some.own.now in
+    let named = g.T.LookupKey.names c.args.name.now in
+    let there = sym c.in-Some.ensures.value in
+    pool-written c.self.inside.tenants.pairs c.self.invariant named was there was.1
+    (own-part c.self.inside.tenants.pairs c.self.invariant named was there) c.self.inside.total refl
+    c.self.invariant.within
+
+pub returns-in-Some-get : goal.returns-in-Some-get
+returns-in-Some-get g c =
+    let key = g.Q.LookupKey.names c.args.key.now in
+    let was = c.in-Some.own.now in
+    let named = g.T.LookupKey.names c.args.name.now in
+    let left = written key c.in-Some-get.value.now (promoted key was.1) in
+    let there = sym c.in-Some.ensures.value in
+    let found = c.in-Some-get.ensures.value in
+    let gets = gets-open key (lookup named c.self.inside.tenants.pairs) was left
+    (Some c.in-Some-get.value.now) there found (read_back key was.1 c.in-Some-get.value.now (sym found)) in
+    rw (← c.self.view_is) (
+      (
+        refl,
+        λ _. tt,
+        (
+          Some (with_map left was),
+          gets,
+          leaves-written g.met.N.Eq.laws named (g.met.T.LookupKey.laws.one c.args.name.now) c.self.inside.limit
+              c.self.inside.hasher c.self.inside.entry_bytes c.self.inside.tenants.pairs was (with_map left was)
+              there,
+        ),
+      ),
+      record { leaves = tt; value = gets.0 },
+    )
+
+pub returns-in-None : goal.returns-in-None
+returns-in-None g c =
+    let key = g.Q.LookupKey.names c.args.key.now in
+    let was = c.in-Some.own.now in
+    let named = g.T.LookupKey.names c.args.name.now in
+    let there = sym c.in-Some.ensures.value in
+    let found = c.in-None.ensures.value in
+    let gets = gets-open key (lookup named c.self.inside.tenants.pairs) was was.1 None there found
+    (sym (promoted-absent key was.1 (sym found))) in
+    rw (← c.self.view_is) (
+      (
+        refl,
+        λ _. tt,
+        (
+          Some (with_map was.1 was),
+          gets,
+          leaves-written g.met.N.Eq.laws named (g.met.T.LookupKey.laws.one c.args.name.now) c.self.inside.limit
+              c.self.inside.hasher c.self.inside.entry_bytes c.self.inside.tenants.pairs was (with_map was.1 was)
+              there,
+        ),
+      ),
+      record { leaves = tt; value = gets.0 },
+    )
+
+pub returns-in_default : goal.returns-in_default
+returns-in_default g c =
+    let key = g.Q.LookupKey.names c.args.key.now in
+    let none = sym c.in_default.ensures.value in
+    rw (← c.self.view_is) (
+      (refl, λ _. tt, on-same (Gets key) (Err NotOpen) _ None none (refl, refl)),
+      record { leaves = tt; value = sym (ap (read_part (λ own. lookup key own.1.pairs)) none) },
+    )

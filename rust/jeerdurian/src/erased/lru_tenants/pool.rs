@@ -1,0 +1,182 @@
+// Erased from crates/lru_tenants/src/pool.rt: do not edit.
+//! `TenantPool`.
+
+#[allow(unused_imports)]
+use crate::rattle_std::prelude::*;
+
+use crate::erased::lru_limits::Budgeted;
+use crate::erased::lru_tenants::error::TenantError;
+use crate::erased::lru_tenants::tenant::insert;
+use crate::erased::schnellru::{ByCost, Costed, KeyHasher, LookupKey, LruMap, RandomState, Unlimited};
+use crate::rattle_std::alloc::Global;
+use crate::rattle_std::hash::Hash;
+
+mod evict;
+mod part;
+mod reading;
+
+use evict::settle;
+use part::{Part, cost_of, opened};
+
+/// A cache for many tenants that share one limit. Each tenant has a share of the limit that is its own; the rest is for
+/// whoever needs it.
+///
+/// The costs of all entries add up to at most the limit. While a tenant's cost is within its share, no call of another
+/// tenant changes it. If a `put` takes the total above the limit, entries are evicted: each time the oldest entry of the
+/// tenant that is furthest above its share, the tenant of the `put` included.
+///
+/// In the examples of the calls, `pool` has a limit of 5 and two open tenants: 1 with a share of 3 and the entry (7, 2),
+/// and 2 with a share of 1 and no entry.
+///
+/// ```text
+/// let mut pool: TenantPool<u64, u64, u64> = TenantPool::new(alloc, [1, 2, 3, 4], 32, 5);
+/// assert_eq!(rt; (pool.open(1, 3), pool.open(2, 1)), (Ok(()), Ok(())));
+/// assert_eq!(rt; (pool.put(&1, 7, 2), pool.put(&2, 8, 3)), (Ok(true), Ok(true)));
+/// assert_eq!(rt; (pool.put(&1, 9, 1), pool.cost(&2), pool.cost(&1)), (Ok(true), Ok(0), Ok(3)));
+/// ```
+pub struct TenantPool<N: Eq + Hash, K: Eq + Hash, V, L: Budgeted<K, V> = ByCost, S: KeyHasher<K> + Copy = RandomState> {
+    tenants: LruMap<N, Part<K, V, L, S>, Unlimited, S>,
+    hasher: S,
+    entry_bytes: usize,
+    limit: u64,
+    shares: u64,
+    total: u128,
+    alloc: Global,
+}
+
+impl<N: Eq + Hash, K: Eq + Hash, V: Costed> TenantPool<N, K, V> {
+    /// Makes a pool without tenants, whose entries cost what their values cost.
+    ///
+    /// If strangers choose names or keys, take seeds that nobody can guess. Cost: `O(1)`, and no memory.
+    ///
+    /// ```text
+    /// let mut pool: TenantPool<u64, u64, u64> = TenantPool::new(alloc, [1, 2, 3, 4], 32, 5);
+    /// assert!(rt; pool.is_empty());
+    /// ```
+    pub fn new(alloc: Global, seeds: [u64; 4], entry_bytes: usize, limit: u64) -> Self {
+        TenantPool::with_hasher(alloc, RandomState::with_seeds(seeds), entry_bytes, limit)
+    }
+}
+
+impl<N: Eq + Hash, K: Eq + Hash, V, L: Budgeted<K, V>, S: KeyHasher<K> + Copy> TenantPool<N, K, V, L, S> {
+    /// Makes a pool as `new` does, but under any limiter with a budget, and with this hasher of names and keys.
+    ///
+    /// Each entry takes `entry_bytes` of its table. Cost: `O(1)`, and no memory.
+    ///
+    /// ```text
+    /// let mut weighed: TenantPool<u64, u64, u64, ByWeight<16>, _> =
+    ///     TenantPool::with_hasher(alloc, std::collections::hash_map::RandomState::new(&rt)?, 32, 40);
+    /// assert_eq!(rt; (weighed.open(1, 0), weighed.put(&1, 7, 2)), (Ok(()), Ok(true)));
+    /// assert_eq!(rt; weighed.cost(&1), Ok(25));
+    /// ```
+    pub fn with_hasher(alloc: Global, hasher: S, entry_bytes: usize, limit: u64) -> Self {
+        TenantPool {
+            tenants: LruMap::<N, Part<K, V, L, S>, Unlimited, S>::with_limiter_and_hasher(alloc, Unlimited, hasher),
+            hasher,
+            entry_bytes,
+            limit,
+            shares: 0,
+            total: 0,
+            alloc,
+        }
+    }
+}
+
+impl<N: Eq + Hash, K: Eq + Hash, V, L: Budgeted<K, V>, S: KeyHasher<K> + Copy> TenantPool<N, K, V, L, S> {
+    /// Opens a tenant with an empty map and a share of the limit that is its own.
+    ///
+    /// ```text
+    /// assert_eq!(rt; pool.open(1, 0), Err(TenantError::AlreadyOpen));
+    /// assert_eq!(rt; (pool.open(3, 2), pool.open(3, 1)), (Err(TenantError::OverTotal), Ok(())));
+    /// ```
+    ///
+    /// Cost: `O(1)` expected, amortised over the tenants.
+    ///
+    /// # Errors
+    ///
+    /// `AlreadyOpen`; `OverTotal`, if the shares of all tenants would add up to more than the limit; or `Memory`:
+    /// nothing has changed.
+    pub fn open(&mut self, name: N, share: u64) -> Result<(), TenantError> {
+        if self.tenants.contains(&name) {
+            return Err(TenantError::AlreadyOpen);
+        }
+        let left = self.limit - self.shares;
+        if share > left {
+            return Err(TenantError::OverTotal);
+        }
+        let own = opened(self.alloc, self.hasher, self.entry_bytes, self.limit, share);
+        let Ok(()) = self.tenants.try_insert(name, own) else {
+            return Err(TenantError::Memory);
+        };
+        self.shares += share;
+        Ok(())
+    }
+
+    /// Inserts a key with a value, as the newest entry of the tenant. Returns whether the key is there afterwards.
+    ///
+    /// It inserts into the map of the tenant, as `TenantCache::put` does with the limit as the budget. Then, while the
+    /// total is above the limit, the tenant furthest above its share loses its oldest entry. This may be the new entry.
+    /// If several tenants are furthest above their shares, nothing says which of them loses an entry.
+    ///
+    /// ```text
+    /// assert_eq!(rt; (pool.put(&2, 8, 3), pool.put(&1, 9, 1)), (Ok(true), Ok(true)));
+    /// assert_eq!(rt; (pool.cost(&1), pool.cost(&2)), (Ok(3), Ok(0)));
+    /// assert_eq!(rt; (pool.put(&2, 8, 6), pool.put(&2, 8, 3)), (Ok(false), Ok(false)));
+    /// ```
+    ///
+    /// Cost: as `LruMap::insert`, and `O(1)` for each tenant at each eviction.
+    ///
+    /// # Errors
+    ///
+    /// `NotOpen`: nothing has changed. `Memory`: out of memory for the entry. Some of the tenant's oldest entries may
+    /// have been evicted, and no other tenant has changed.
+    pub fn put<T: LookupKey<N>>(&mut self, name: &T, key: K, value: V) -> Result<bool, TenantError> {
+        let Some(own) = self.tenants.peek_mut(name) else {
+            return Err(TenantError::NotOpen);
+        };
+        let (_, map) = own;
+        let before = cost_of(map);
+        let inserted = insert(map, key, value, &mut |_, _| {});
+        let after = cost_of(map);
+        let total = self.total - before as u128 + after as u128;
+        let Ok(kept) = inserted else {
+            self.total = total;
+            return Err(TenantError::Memory);
+        };
+        self.total = settle(&mut self.tenants, total, self.limit);
+        let is_left = has_entries(&self.tenants, name);
+        Ok(kept & is_left)
+    }
+
+    /// Closes a tenant and drops its entries. Returns how many there were. Its share is free afterwards.
+    ///
+    /// ```text
+    /// assert_eq!(rt; (pool.len(), pool.close(&1), pool.len()), (2, Ok(1), 1));
+    /// ```
+    ///
+    /// Cost: `O(buckets)` of its table.
+    ///
+    /// # Errors
+    ///
+    /// `NotOpen`: nothing has changed.
+    pub fn close<T: LookupKey<N>>(&mut self, name: &T) -> Result<usize, TenantError> {
+        let _len = self.tenants.len();
+        let Some(own) = self.tenants.remove(name) else {
+            return Err(TenantError::NotOpen);
+        };
+        let (share, map) = own;
+        self.shares -= share;
+        self.total -= cost_of(&map) as u128;
+        Ok(map.len())
+    }
+}
+
+fn has_entries<N: Eq + Hash, K: Eq + Hash, V, L: Budgeted<K, V>, S: KeyHasher<K>, H: KeyHasher<N>, T: LookupKey<N>>(
+    tenants: &LruMap<N, Part<K, V, L, S>, Unlimited, H>,
+    name: &T,
+) -> bool {
+    match tenants.peek(name) {
+        Some((_, map)) => !map.is_empty(),
+        None => false,
+    }
+}

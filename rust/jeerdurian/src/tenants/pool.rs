@@ -1,0 +1,237 @@
+//! A pool of tenants, which share one limit.
+
+use super::{Budget, TenantError};
+use crate::erased::lru_limits;
+use crate::erased::lru_tenants as proved;
+use crate::erased::ordered_table::OrderedTable;
+use crate::keys::Borrowed;
+use crate::rattle_std::alloc::Global;
+use crate::{ByCost, RandomState};
+use core::borrow::Borrow;
+use core::hash::{BuildHasher, Hash};
+
+/// A cache for many tenants that share one limit. Each tenant has a share of the limit that is its own; the rest is for
+/// whoever needs it.
+///
+/// The limiter `L` says what an entry costs (see [`Budget`]). If a [`put`](Self::put) takes the total above the limit,
+/// entries are evicted: each time the oldest entry of the tenant that is furthest above its share, the tenant of the
+/// `put` included.
+///
+/// Proved: the total of all costs stays within the limit. While a tenant's cost is within its share, no call of another
+/// tenant changes it. The proofs assume that a cost never changes while its entry is stored.
+///
+/// In the examples of the calls, `pool` has a limit of 5 and two open tenants: 1 with a share of 3 and the entry (7, 2),
+/// and 2 with a share of 1 and no entry.
+///
+/// ```
+/// use jeerdurian::tenants::TenantPool;
+///
+/// let mut pool: TenantPool<u64, u64, u64> = TenantPool::new(5);
+/// assert_eq!((pool.open(1, 3), pool.open(2, 1)), (Ok(()), Ok(())));
+/// assert_eq!((pool.put(&1, 7, 2), pool.put(&2, 8, 3)), (Ok(true), Ok(true)));
+/// assert_eq!((pool.put(&1, 9, 1), pool.cost(&2), pool.cost(&1)), (Ok(true), Ok(0), Ok(3)));
+/// ```
+pub struct TenantPool<N, K, V, L = ByCost, S = RandomState>
+where
+    N: Eq + Hash,
+    K: Eq + Hash,
+    L: Budget<K, V>,
+    S: BuildHasher + Copy,
+{
+    pool: proved::TenantPool<N, K, V, L, S>,
+}
+
+impl<N, K, V, L, S> core::fmt::Debug for TenantPool<N, K, V, L, S>
+where
+    N: Eq + Hash,
+    K: Eq + Hash,
+    L: Budget<K, V>,
+    S: BuildHasher + Copy,
+{
+    fn fmt(&self, f: &mut core::fmt::Formatter<'_>) -> core::fmt::Result {
+        f.debug_struct("TenantPool").field("len", &self.len()).finish_non_exhaustive()
+    }
+}
+
+impl<N: Eq + Hash, K: Eq + Hash, V, L: Budget<K, V>> TenantPool<N, K, V, L> {
+    /// Makes a pool without tenants, whose hashers have random seeds. It takes no memory.
+    ///
+    /// ```
+    /// # use jeerdurian::tenants::TenantPool;
+    /// let pool: TenantPool<String, u64, u64> = TenantPool::new(5);
+    /// assert!(pool.is_empty());
+    /// ```
+    #[cfg(feature = "runtime-rng")]
+    pub fn new(limit: u64) -> Self {
+        Self::with_hasher(RandomState::default(), limit)
+    }
+}
+
+impl<N, K, V, L, S> TenantPool<N, K, V, L, S>
+where
+    N: Eq + Hash,
+    K: Eq + Hash,
+    L: Budget<K, V>,
+    S: BuildHasher + Copy,
+{
+    /// Makes a pool without tenants, with this hasher of names and keys. It takes no memory.
+    ///
+    /// ```
+    /// # use jeerdurian::{ByCost, RandomState, tenants::TenantPool};
+    /// let pool: TenantPool<u64, u64, u64, ByCost, _> = TenantPool::with_hasher(RandomState::default(), 5);
+    /// assert_eq!((pool.limit(), pool.total_cost()), (5, 0));
+    /// ```
+    pub fn with_hasher(hasher: S, limit: u64) -> Self {
+        let entry_bytes = OrderedTable::<K, V, <L as lru_limits::Limiter<K, V>>::LinkType>::entry_bytes();
+        TenantPool { pool: proved::TenantPool::with_hasher(Global, hasher, entry_bytes, limit) }
+    }
+
+    /// Returns the number of open tenants.
+    pub fn len(&self) -> usize {
+        self.pool.len()
+    }
+
+    /// Returns whether no tenant is open.
+    pub fn is_empty(&self) -> bool {
+        self.pool.is_empty()
+    }
+
+    /// Returns the greatest total that the costs of all entries may have.
+    pub fn limit(&self) -> u64 {
+        self.pool.limit()
+    }
+
+    /// Returns the sum of the costs of the entries of all tenants.
+    pub fn total_cost(&self) -> u128 {
+        self.pool.total_cost()
+    }
+
+    /// Opens a tenant with an empty map and a share of the limit that is its own.
+    ///
+    /// Cost: `O(1)` expected, amortised over the tenants.
+    ///
+    /// # Errors
+    ///
+    /// `AlreadyOpen`; `OverTotal`: the shares of all tenants would add up to more than the limit; `Memory`: out of memory
+    /// for one tenant more. An error changes nothing.
+    pub fn open(&mut self, name: N, share: u64) -> Result<(), TenantError> {
+        self.pool.open(name, share)
+    }
+
+    /// Inserts a key with a value, as the newest entry of the tenant. Returns whether the key is there then.
+    ///
+    /// An entry that alone costs more than the limit is rejected. While the total is above the limit, the tenant furthest
+    /// above its share loses its oldest entry, which may be the new one.
+    ///
+    /// Cost: `O(1)` expected, amortised over the inserts, and `O(1)` for each tenant at each eviction.
+    ///
+    /// # Errors
+    ///
+    /// `NotOpen`: nothing has changed. `Memory`: out of memory for the entry, which is not there then.
+    pub fn put<T>(&mut self, name: &T, key: K, value: V) -> Result<bool, TenantError>
+    where
+        N: Borrow<T>,
+        T: Eq + Hash + ?Sized,
+    {
+        self.pool.put(&Borrowed(name), key, value)
+    }
+
+    /// Returns a tenant's value of a key, and makes its entry the tenant's newest.
+    ///
+    /// # Errors
+    ///
+    /// `NotOpen`: nothing has changed.
+    pub fn get<T, Q>(&mut self, name: &T, key: &Q) -> Result<Option<&V>, TenantError>
+    where
+        N: Borrow<T>,
+        T: Eq + Hash + ?Sized,
+        K: Borrow<Q>,
+        Q: Eq + Hash + ?Sized,
+    {
+        self.pool.get(&Borrowed(name), &Borrowed(key))
+    }
+
+    /// Returns a tenant's value of a key. The order stays.
+    ///
+    /// # Errors
+    ///
+    /// `NotOpen`.
+    pub fn peek<T, Q>(&self, name: &T, key: &Q) -> Result<Option<&V>, TenantError>
+    where
+        N: Borrow<T>,
+        T: Eq + Hash + ?Sized,
+        K: Borrow<Q>,
+        Q: Eq + Hash + ?Sized,
+    {
+        self.pool.peek(&Borrowed(name), &Borrowed(key))
+    }
+
+    /// Returns whether a tenant has an entry of a key. The order stays.
+    ///
+    /// # Errors
+    ///
+    /// `NotOpen`.
+    pub fn contains<T, Q>(&self, name: &T, key: &Q) -> Result<bool, TenantError>
+    where
+        N: Borrow<T>,
+        T: Eq + Hash + ?Sized,
+        K: Borrow<Q>,
+        Q: Eq + Hash + ?Sized,
+    {
+        self.pool.contains(&Borrowed(name), &Borrowed(key))
+    }
+
+    /// Removes a key of a tenant. Returns its value.
+    ///
+    /// # Errors
+    ///
+    /// `NotOpen`: nothing has changed.
+    pub fn remove<T, Q>(&mut self, name: &T, key: &Q) -> Result<Option<V>, TenantError>
+    where
+        N: Borrow<T>,
+        T: Eq + Hash + ?Sized,
+        K: Borrow<Q>,
+        Q: Eq + Hash + ?Sized,
+    {
+        self.pool.remove(&Borrowed(name), &Borrowed(key))
+    }
+
+    /// Returns the sum of the costs of a tenant's entries.
+    ///
+    /// # Errors
+    ///
+    /// `NotOpen`.
+    pub fn cost<T>(&self, name: &T) -> Result<u64, TenantError>
+    where
+        N: Borrow<T>,
+        T: Eq + Hash + ?Sized,
+    {
+        self.pool.cost(&Borrowed(name))
+    }
+
+    /// Returns the share of a tenant.
+    ///
+    /// # Errors
+    ///
+    /// `NotOpen`.
+    pub fn share<T>(&self, name: &T) -> Result<u64, TenantError>
+    where
+        N: Borrow<T>,
+        T: Eq + Hash + ?Sized,
+    {
+        self.pool.share(&Borrowed(name))
+    }
+
+    /// Closes a tenant and drops its entries. Returns the number of these entries. Its share is free then.
+    ///
+    /// # Errors
+    ///
+    /// `NotOpen`: nothing has changed.
+    pub fn close<T>(&mut self, name: &T) -> Result<usize, TenantError>
+    where
+        N: Borrow<T>,
+        T: Eq + Hash + ?Sized,
+    {
+        self.pool.close(&Borrowed(name))
+    }
+}

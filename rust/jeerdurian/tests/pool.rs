@@ -1,0 +1,171 @@
+//! A pool of tenants, compared with plain lists: what each call leaves, that the total stays within the limit, and that
+//! each key is dropped once.
+
+use jeerdurian::tenants::{TenantError, TenantPool};
+use std::borrow::Borrow;
+use std::cell::Cell;
+use std::hash::{Hash, Hasher};
+
+const LIMIT: u64 = 40;
+
+thread_local! {
+    /// How many keys live.
+    static LIVE: Cell<usize> = const { Cell::new(0) };
+}
+
+/// A key that knows whether it lives.
+struct Key(Box<u64>);
+
+impl Key {
+    fn new(number: u64) -> Self {
+        LIVE.set(LIVE.get() + 1);
+        Key(Box::new(number))
+    }
+}
+
+impl Drop for Key {
+    fn drop(&mut self) {
+        LIVE.set(LIVE.get() - 1);
+    }
+}
+
+impl PartialEq for Key {
+    fn eq(&self, other: &Self) -> bool {
+        self.0 == other.0
+    }
+}
+
+impl Eq for Key {}
+
+impl Hash for Key {
+    fn hash<H: Hasher>(&self, state: &mut H) {
+        self.0.hash(state);
+    }
+}
+
+impl Borrow<u64> for Key {
+    fn borrow(&self) -> &u64 {
+        &self.0
+    }
+}
+
+type Pool = TenantPool<u64, Key, u64>;
+
+/// A tenant: its name, its share, and its keys with their costs, newest first.
+struct Tenant(u64, u64, Vec<(u64, u64)>);
+
+impl Tenant {
+    fn cost(&self) -> u64 {
+        self.2.iter().map(|entry| entry.1).sum()
+    }
+
+    fn excess(&self) -> u64 {
+        self.cost().saturating_sub(self.1)
+    }
+}
+
+fn find(tenants: &mut [Tenant], name: u64) -> Option<&mut Tenant> {
+    tenants.iter_mut().find(|tenant| tenant.0 == name)
+}
+
+/// Evicts as the pool did. In a tie, it tries each tenant that lost its oldest entry. Returns whether the pool is what is
+/// left.
+fn settles(tenants: &mut [Tenant], pool: &Pool) -> bool {
+    if tenants.iter().map(Tenant::cost).sum::<u64>() <= LIMIT {
+        return tenants.iter().all(|tenant| pool.cost(&tenant.0) == Ok(tenant.cost()))
+            && LIVE.get() == tenants.iter().map(|tenant| tenant.2.len()).sum::<usize>();
+    }
+    let most = tenants.iter().map(Tenant::excess).max().unwrap();
+    for at in 0..tenants.len() {
+        let Tenant(name, _, list) = &tenants[at];
+        let is_gone = list.last().is_some_and(|oldest| pool.contains(name, &oldest.0) == Ok(false));
+        if tenants[at].excess() == most && is_gone {
+            let oldest = tenants[at].2.pop().unwrap();
+            if settles(tenants, pool) {
+                return true;
+            }
+            tenants[at].2.push(oldest);
+        }
+    }
+    false
+}
+
+fn put(tenants: &mut [Tenant], pool: &mut Pool, name: u64, key: u64, cost: u64) {
+    let kept = pool.put(&name, Key::new(key), cost);
+    let Some(tenant) = find(tenants, name) else {
+        assert_eq!(kept, Err(TenantError::NotOpen));
+        return;
+    };
+    tenant.2.retain(|entry| entry.0 != key);
+    if cost <= LIMIT {
+        tenant.2.insert(0, (key, cost));
+        while tenant.cost() > LIMIT {
+            tenant.2.pop();
+        }
+    }
+    assert!(settles(tenants, pool));
+    let there = find(tenants, name).is_some_and(|tenant| tenant.2.iter().any(|entry| entry.0 == key));
+    assert_eq!(kept, Ok(there));
+}
+
+fn call(tenants: &mut Vec<Tenant>, pool: &mut Pool, kind: u64, name: u64, n: u64) {
+    match kind {
+        0 => {
+            let shares: u64 = tenants.iter().map(|tenant| tenant.1).sum();
+            let opened = pool.open(name, n % 16);
+            match find(tenants, name) {
+                Some(_) => assert_eq!(opened, Err(TenantError::AlreadyOpen)),
+                None if shares + n % 16 > LIMIT => assert_eq!(opened, Err(TenantError::OverTotal)),
+                None => {
+                    assert_eq!(opened, Ok(()));
+                    tenants.push(Tenant(name, n % 16, Vec::new()));
+                }
+            }
+        }
+        1 if n < 4 => {
+            let len = find(tenants, name).map(|tenant| tenant.2.len()).ok_or(TenantError::NotOpen);
+            assert_eq!(pool.close(&name), len);
+            tenants.retain(|tenant| tenant.0 != name);
+        }
+        2..=4 => {
+            if let Some(Tenant(_, _, list)) = find(tenants, name) {
+                let at = list.iter().position(|entry| entry.0 == n);
+                assert_eq!(pool.get(&name, &n), Ok(at.map(|at| &list[at].1)));
+                if let Some(at) = at {
+                    list[..=at].rotate_right(1);
+                }
+            }
+        }
+        5 => {
+            if let Some(Tenant(_, _, list)) = find(tenants, name) {
+                let at = list.iter().position(|entry| entry.0 == n);
+                assert_eq!(pool.remove(&name, &n), Ok(at.map(|at| list.remove(at).1)));
+            }
+        }
+        _ => put(tenants, pool, name, n, (n * 7 + kind) % 13 * (1 + n / 29 * 4)),
+    }
+}
+
+/// The next random number below `n` of a generator.
+fn next(state: &mut u64, n: u64) -> u64 {
+    *state = state.wrapping_mul(6364136223846793005).wrapping_add(1442695040888963407);
+    (*state >> 33) % n
+}
+
+#[test]
+fn pools_are_lists() {
+    let (mut state, mut pool, mut tenants) = (1, Pool::new(LIMIT), Vec::new());
+    for _ in 0..100_000 {
+        let (kind, name, n) = (next(&mut state, 12), next(&mut state, 5), next(&mut state, 30));
+        call(&mut tenants, &mut pool, kind, name, n);
+        assert_eq!(LIVE.get(), tenants.iter().map(|tenant| tenant.2.len()).sum::<usize>());
+        assert!(pool.total_cost() <= LIMIT.into() && pool.len() == tenants.len());
+        for Tenant(name, share, list) in &tenants {
+            let cost = list.iter().map(|entry| entry.1).sum();
+            assert_eq!((pool.share(name), pool.cost(name)), (Ok(*share), Ok(cost)));
+            assert!(list.iter().all(|(key, cost)| pool.peek(name, key) == Ok(Some(cost))));
+        }
+    }
+    drop(pool);
+    assert_eq!(LIVE.get(), 0);
+}
