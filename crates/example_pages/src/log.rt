@@ -46,7 +46,6 @@ impl<'a> Log<'a> {
         self.device.sync()
     }
 
-    /// Writes empty pages to the whole log.
     pub fn format(&mut self) -> Result<(), FileError> {
         for n in 0..self.device.len() {
             self.write(n, &[0; PAGE])?;

@@ -15,12 +15,12 @@ use Rattle.lru_caches.specs.declared.page_cache.PageError.TheVariants.{Device, M
 
 -- what a contract sees of a cache
 pub record Cached (B D : Type 0) : Type 0 where
-  -- the cached pages by their numbers, newest first: each has a block, and may be dirty or pinned or both
+  -- the cached pages by their numbers, newest first
   pub pages : List (ℕ × Page B)
   pub capacity : ℕ
   -- whether dirty pages stay until a flush
   pub keeps_dirty : Bool
-  -- how many calls that succeeded found their page cached, and how many did not
+  -- how many successful calls found their page cached, and how many did not
   pub counts : Counts
   pub device : D
 

@@ -26,8 +26,7 @@ mod more;
 
 /// A hash map whose entries are in the order of insertion, oldest first.
 ///
-/// The map evicts nothing. If a new key needs a larger table and the table cannot grow, the insert fails and changes
-/// nothing.
+/// The map evicts nothing. An insert that cannot grow the table fails and changes nothing.
 ///
 /// In the examples of the calls, `map` contains (1, 11) and then (2, 20).
 ///
@@ -328,7 +327,7 @@ impl<K: Eq + Hash + Drop, V: Drop, S: KeyHasher<K>> OrderedMap<K, V, S> {
     /// assert_eq!(rt; map.insert(1, 11)?, Some(10));
     /// ```
     ///
-    /// Cost: `O(1)` expected, amortised over the inserts. An insert that grows the table moves all entries.
+    /// Cost: `O(1)` expected, amortised over the inserts.
     ///
     /// # Errors
     ///

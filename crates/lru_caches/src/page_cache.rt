@@ -19,10 +19,9 @@ mod laws;
 mod pages;
 mod pins;
 
-/// Why a call on a page cache failed. A failed call changes no block that the cache shows. But after a failed `sync`,
-/// no clause says which blocks the cache shows.
+/// Why a call on a page cache failed. Unless a `sync` failed, the call changed no block that the cache shows.
 ///
-/// The text contains the text of the device's error, so a `PageError<E>` is `Display` if `E` is.
+/// A `PageError<E>` is `Display` if `E` is.
 ///
 /// ```
 /// assert_eq!(rt; cache.read(4), Err(PageError::NoBlock));
@@ -186,8 +185,7 @@ impl<B: Copy, D: BlockDevice<B>, S: KeyHasher<u64>> PageCache<B, D, S> {
         self.map.contains(&n)
     }
 
-    /// Returns how many calls that read, write or pin a page found the page cached. A call that fails counts nothing.
-    /// The count stops at `u64::MAX`.
+    /// Returns how many successful reads, writes and pins found their page cached. The count stops at `u64::MAX`.
     ///
     /// Cost: `O(1)`.
     ///
@@ -201,7 +199,7 @@ impl<B: Copy, D: BlockDevice<B>, S: KeyHasher<u64>> PageCache<B, D, S> {
         self.counts.hits
     }
 
-    /// Returns how many calls that read, write or pin a page did not find the page cached (see `hits`).
+    /// Returns how many successful reads, writes and pins did not find their page cached (see `hits`).
     ///
     /// Cost: `O(1)`.
     ///
@@ -239,8 +237,8 @@ impl<B: Copy, D: BlockDevice<B>, S: KeyHasher<u64>> PageCache<B, D, S> {
     ///
     /// # Errors
     ///
-    /// `Device`: a write or the `sync` failed. The dirty pages stay dirty. If a write failed, the next flush writes
-    /// them again. If the `sync` failed, the device is not usable from then on. `Broken`: a `sync` had failed before.
+    /// `Device`: a write or the `sync` failed, and the dirty pages stay dirty. After a failed `sync` the device is not
+    /// usable. `Broken`: a `sync` had failed before.
     pub fn flush(&mut self) -> Result<(), PageError<D::Error>>
         ensures keeps { ShowsTheSame D.BlockDevice self.old self.new }
         ensures flushed { OnOk result (D.IsHonest self.new.device →

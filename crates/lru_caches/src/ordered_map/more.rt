@@ -9,9 +9,7 @@ use std::alloc::AllocError;
 use std::hash::Hash;
 
 impl<K: Eq + Hash, V, S: KeyHasher<K>> OrderedMap<K, V, S> {
-    /// Returns the entry of a key.
-    ///
-    /// The returned key is the stored key, which is equal to the looked-up key, but need not be identical.
+    /// Returns the entry of a key, with the stored key.
     ///
     /// ```
     /// assert!(rt; map.get_key_value(&1) == Some((&1, &11)) && map.get_key_value(&9).is_none());

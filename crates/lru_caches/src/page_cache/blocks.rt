@@ -42,9 +42,9 @@ impl<B: Copy, D: BlockDevice<B>, S: KeyHasher<u64>> PageCache<B, D, S> {
 
     /// Returns a block, and makes its page the newest.
     ///
-    /// If the page is not cached and the cache is full, the oldest page that may be evicted is evicted. If this page is
-    /// dirty, it is written to the device first. A pinned page may not be evicted. If the cache [keeps dirty
-    /// pages](Self::set_keeps_dirty), a dirty page may not be evicted either.
+    /// If the page is not cached and the cache is full, the cache evicts the oldest page that may be evicted, and first
+    /// writes the page to the device if it is dirty. A pinned page may not be evicted, nor a dirty page if the cache
+    /// [keeps dirty pages](Self::set_keeps_dirty).
     ///
     /// ```
     /// assert_eq!(rt; (cache.read(1), cache.len()), (Ok(20), 1));

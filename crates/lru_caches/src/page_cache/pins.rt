@@ -77,8 +77,6 @@ impl<B: Copy, D: BlockDevice<B>, S: KeyHasher<u64>> PageCache<B, D, S> {
     /// Sets whether dirty pages are kept until a flush. If they are kept, reads, writes and pins write nothing to the
     /// device.
     ///
-    /// If each page of a full cache is then dirty or pinned, a call that needs one more page returns `Full`.
-    ///
     /// ```
     /// cache.set_keeps_dirty(true);
     /// assert_eq!(rt; (cache.keeps_dirty(), cache.write(0, 10), cache.read(2)), (true, Ok(()), Err(PageError::Full)));

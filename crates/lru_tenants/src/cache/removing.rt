@@ -45,9 +45,8 @@ impl<
         Ok(remove(own, key))
     }
 
-    /// Removes a tenant's entries for which the closure returns false. The others keep their order.
-    ///
-    /// The closure is called with each entry of the tenant, oldest first.
+    /// Removes a tenant's entries for which the closure returns false. The others keep their order. The closure is
+    /// called with each entry, oldest first.
     ///
     /// ```
     /// assert_eq!(rt; (cache.put(&1, 8, 1), cache.retain(&1, |key, _| *key == 8)), (Ok(true), Ok(())));
