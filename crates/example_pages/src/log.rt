@@ -1,4 +1,4 @@
-//! A log of pages. A page is written to the log before it is written to its place.
+//! A log of pages.
 use crate::disk::Disk;
 use crate::page::{Header, PAGE, Page, header_of};
 use lru_caches::{BlockDevice, FileError, HashedFileDevice};
@@ -53,7 +53,7 @@ impl<'a> Log<'a> {
         self.sync()
     }
 
-    /// Appends pages, and syncs the log, so that a crash cannot lose them.
+    /// Appends pages, and syncs the log.
     pub fn append(&mut self, pages: &[Page]) -> Result<(), FileError> {
         for page in pages {
             self.write(self.next, page)?;

@@ -84,7 +84,6 @@ abbrev pub Agrees : ℕ → List ℕ → Option (List ℕ) → Type 0
 Agrees (suc zero) bytes (Some block) = bytes ≡ block
 Agrees kind bytes block = Unit {0}
 
--- Each read of a known block returned this block.
 abbrev pub IsHonest : List Event → Type 0
 IsHonest [] = Unit {0}
 IsHonest (e ∷ earlier) = Agrees e.0 e.2 (known earlier e.1) × IsHonest earlier

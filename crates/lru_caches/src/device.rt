@@ -42,8 +42,8 @@ pub trait BlockDevice<B> {
     /// A number that changes exactly when a call fails, such as the number of failed calls.
     ghost faults: { Self → ℕ };
 
-    /// What a crash in the middle of a write may leave of its block, in addition to the old and the new block. By
-    /// default this is any block. A device that writes blocks whole defines it as `⊥`.
+    /// What a crash in the middle of a write may leave, except the old and the new block: by default, any block. A
+    /// device that writes blocks whole defines it as `⊥`.
     ghost IsTorn: { Self.Seen → Type 0 } = { λ _. Unit {0} };
 
     /// Each read of a known block has returned this block. For a file this is a premise.
@@ -53,7 +53,7 @@ pub trait BlockDevice<B> {
     /// two states.
     ghost write_gives: { Self → ℕ → Self.Seen → Self → Type 0 } = { λ _ _ _ _. Unit {0} };
 
-    /// A `sync` may lead from the first state to the second. By default this holds for any two states.
+    /// As `write_gives`, for a `sync`.
     ghost sync_gives: { Self → Self → Type 0 } = { λ _ _. Unit {0} };
 
     /// Returns whether the device has a block of this number.

@@ -1,4 +1,4 @@
-//! `PageCache`. A contract sees a cache as a `Cached`: its pages (newest first), capacity, mode, counts and device.
+//! `PageCache`. A contract sees a cache as a `Cached`.
 ghost use Rattle.std.specs.Prelude.{◌≡◌, ◌≤◌, ℕ, [], Some, true, false, length, max, IsTrue, IsErr, ◌↔◌, IfOk, IfErr, OnOk, OnErr};
 ghost use Rattle.lru_model.specs.Lists.{is_empty};
 ghost use Rattle.lru_caches.specs.Pages.{shown, cleaned, IsCached, ShowsTheSame, CrashAdds, IsFlushCause, IsFlush, IsCutOff};
@@ -29,7 +29,6 @@ mod pins;
 #[derive(Debug, Drop, PartialEq, Error)]
 #[error_bound(E: Display)]
 pub enum PageError<E> {
-    /// The device failed, with this error.
     #[error("the device failed: {0}")]
     Device(E),
     /// Out of memory for one more page, or there are 1,879,048,192 pages, the most that the table holds.
@@ -38,8 +37,8 @@ pub enum PageError<E> {
     /// The device has no block of this number.
     #[error("no such block")]
     NoBlock,
-    /// The cache is full, and no page may be evicted: each page is pinned, or is dirty in a cache that keeps dirty
-    /// pages. Nothing has changed.
+    /// The cache is full, and no page may be evicted: each is pinned, or is dirty and kept until a flush. Nothing has
+    /// changed.
     #[error("no page may be evicted")]
     Full,
     /// A `sync` of the device has failed, so what was written before may be lost. Discard the cache.
@@ -49,12 +48,11 @@ pub enum PageError<E> {
 
 /// A write-back cache of the blocks of a device.
 ///
-/// The cache keeps the pinned pages and the pages that were used last, at most `capacity` pages in all. A write changes
-/// only the cached page, which is dirty then. The cache writes a dirty page to the device when it evicts or flushes the
-/// page.
+/// The cache keeps the pinned pages and the pages that were used last, at most `capacity` pages in all. A write makes
+/// the cached page dirty. The cache writes a dirty page to the device when it evicts or flushes the page.
 ///
-/// After a `flush` that returned `Ok`, a crash leaves each block as the cache showed it then. If a later call wrote a
-/// block, a crash may also leave the written block or a torn block. `docs/CACHES.md` says what this requires of a disk.
+/// After a `flush` that returned `Ok`, a crash leaves each block as the cache showed it then, unless a later call wrote
+/// the block. `docs/CACHES.md` says what this requires of a disk.
 ///
 /// Call `close` or `discard` in the end. Code that drops or forgets a cache does not compile, because its dirty pages
 /// would be lost.
@@ -238,7 +236,7 @@ impl<B: Copy, D: BlockDevice<B>, S: KeyHasher<u64>> PageCache<B, D, S> {
     /// # Errors
     ///
     /// `Device`: a write or the `sync` failed, and the dirty pages stay dirty. After a failed `sync` the device is not
-    /// usable. `Broken`: a `sync` had failed before.
+    /// usable. `Broken`.
     pub fn flush(&mut self) -> Result<(), PageError<D::Error>>
         ensures keeps { ShowsTheSame D.BlockDevice self.old self.new }
         ensures flushed { OnOk result (D.IsHonest self.new.device →

@@ -25,7 +25,6 @@ pub record Pool (N K V L S : Type 0) : Type 0 where
   pub tenants : List (N × Part K V L S)
   -- the greatest total of all costs, and of all shares
   pub limit : ℕ
-  -- what builds the hashers of names and keys, and the bytes of an entry
   pub hasher : S
   pub entry_bytes : ℕ
 
@@ -82,7 +81,7 @@ module _ {N K V L S : Type 0} (rules : Rules K V L) (account : L → ℕ) (eq : 
     evicts : {old : List (N × Part K V L S)} (mid : List (N × Part K V L S)) → limit < total_cost account old
         → Evicts old mid → Evictions limit new mid → Evictions limit new old
 
--- what calls do to a tenant, and return; `None` is a tenant that is not open
+-- `None` is a tenant that is not open
 module _ {K V L S : Type 0} where
   abbrev pub read_part : {R : Type 0} → (Part K V L S → R) → Option (Part K V L S) → Result R TenantError
   read_part reads None = Err NotOpen
@@ -104,17 +103,15 @@ module _ {K V L S : Type 0} where
   has_key named None = false
   has_key named (Some own) = is_some (lookup named own.1.pairs)
 
--- whether the key is there afterwards, or that memory ran out
 abbrev pub put_answer : Result Bool AllocError → Bool → Result Bool TenantError
 put_answer (Ok kept) there = Ok there
 put_answer (Err e) there = Err Memory
 
 module _ {N K V L S : Type 0} where
-  -- the share and the map of the named tenant, if it is open
+  -- the named tenant, if it is open
   abbrev pub part : (N → Bool) → Pool N K V L S → Option (Part K V L S)
   part named pool = lookup named pool.tenants
 
-  -- the share and the empty map with which a tenant opens
   abbrev pub opened : (ℕ → L) → ℕ → Pool N K V L S → ℕ → Part K V L S
   opened made max pool share = (share, empty_map (made pool.limit) pool.hasher pool.entry_bytes max)
 
@@ -123,7 +120,6 @@ module _ {N K V L S : Type 0} where
 
   pub record IsPool (eq : K → K → Bool) (costs : K → V → ℕ) (account budget : L → ℕ) (pool : Pool N K V L S)
       : Type 0 where
-    -- a map may take the whole limit
     pub each : All (IsPart account eq costs budget pool.limit) (values_of pool.tenants)
     pub within : total_cost account pool.tenants ≤ pool.limit
     pub shares : total_share pool.tenants ≤ pool.limit

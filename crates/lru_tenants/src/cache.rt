@@ -186,7 +186,7 @@ impl<
     ///
     /// # Errors
     ///
-    /// `AlreadyOpen`, `OverTotal` or `Memory`: no tenant has changed.
+    /// `AlreadyOpen`, `OverTotal` or `Memory`: nothing has changed.
     pub fn open(&mut self, name: N, budget: u64) -> Result<(), TenantError>
         ensures opens { On N.eq (N.eq name) (Opens (is_over L.budget_of (N.eq name) budget self.old)
             (fresh L.made (L.LinkType.number L.LinkType.MAX) self.old budget)) self.old result self.new }
@@ -234,8 +234,7 @@ impl<
     ///
     /// # Errors
     ///
-    /// `NotOpen`: nothing has changed. `Memory`: out of memory for the entry. Some of the tenant's oldest entries may
-    /// have been evicted.
+    /// `NotOpen`, or `Memory`: some of the tenant's oldest entries may have been evicted.
     pub fn put<T: LookupKey<N>>(&mut self, name: &T, key: K, value: V) -> Result<bool, TenantError>
         ensures puts { On N.eq (T.names name.now) (OfOpen (Puts L.rules (offers_of L.terms) L.budget_of K.eq S.hash_of key value))
             self.old result self.new }
@@ -255,7 +254,7 @@ impl<
     ///
     /// # Errors
     ///
-    /// `NotOpen` or `OverTotal`: nothing has changed.
+    /// `NotOpen` or `OverTotal`.
     pub fn set_budget<T: LookupKey<N>>(&mut self, name: &T, budget: u64) -> Result<(), TenantError>
         ensures sets { On N.eq (T.names name.now)
             (OfOpen (SetsBudget L.rules (L.rebudgeted budget) (is_over L.budget_of (T.names name.now) budget self.old)))
@@ -278,7 +277,7 @@ impl<
     ///
     /// # Errors
     ///
-    /// `NotOpen`: nothing has changed.
+    /// `NotOpen`.
     pub fn close<T: LookupKey<N>>(&mut self, name: &T) -> Result<usize, TenantError>
         ensures closes { On N.eq (T.names name.now) (OfOpen Closes) self.old result self.new }
         ensures total { budgets L.budget_of self.new ≡ budgets_with L.budget_of (T.names name.now) 0 self.old }

@@ -228,7 +228,7 @@ impl<
     ///
     /// # Errors
     ///
-    /// `NotOpen`: nothing has changed.
+    /// `NotOpen`.
     pub fn close<T: LookupKey<N>>(&mut self, name: &T) -> Result<usize, TenantError>
         ensures closes { On N.eq (T.names name.now) (OfOpen Closes) self.old result self.new }
         ensures pool { IsPool K.eq L.cost_of L.account L.budget_of self.new }

@@ -12,8 +12,7 @@ use std::alloc::Global;
 use std::hash::Hash;
 use std::marker::Model;
 
-/// A memo of a function that may fail, such as a read of a file. It stores the newest values that were loaded, up to a
-/// limit, and no failures.
+/// A memo of a function that may fail, such as a read of a file. It stores no failures.
 ///
 /// A call of `load` returns a value of the function (clause `value`), or its failure, which changes nothing. A
 /// successful call is a step of a map (clause `step`).

@@ -166,7 +166,7 @@ impl<
     ///
     /// # Errors
     ///
-    /// `NotOpen`: nothing has changed.
+    /// `NotOpen`.
     pub fn close_with<T: LookupKey<N>, F: FnMut(K, V)>(
         &mut self,
         name: &T,

@@ -35,7 +35,7 @@ impl<N: Eq + Hash, K: Eq + Hash, V, L: Budgeted<K, V>, S: KeyHasher<K> + Copy> T
     ///
     /// # Errors
     ///
-    /// `NotOpen`: nothing has changed.
+    /// `NotOpen`.
     pub fn get<T: LookupKey<N>, Q: LookupKey<K>>(
         &mut self,
         name: &T,

@@ -180,7 +180,7 @@ impl<N: Eq + Hash, K: Eq + Hash, V, L: Budgeted<K, V>, S: KeyHasher<K> + Copy> T
     ///
     /// # Errors
     ///
-    /// `NotOpen`: nothing has changed.
+    /// `NotOpen`.
     pub fn get<T: LookupKey<N>, Q: LookupKey<K>>(
         &mut self,
         name: &T,
@@ -220,7 +220,7 @@ impl<
     ///
     /// # Errors
     ///
-    /// `NotOpen`: nothing has changed.
+    /// `NotOpen`.
     pub fn remove<T: LookupKey<N>, Q: LookupKey<K>>(
         &mut self,
         name: &T,
