@@ -65,7 +65,6 @@ pub struct Store<'a> {
     len: u64,
     /// The number of the next transaction.
     transaction: u64,
-    /// A commit failed half way.
     is_interrupted: bool,
 }
 

@@ -170,7 +170,7 @@ impl<B: Copy, D: BlockDevice<B>, S: KeyHasher<u64>> PageCache<B, D, S> {
         self.map.is_empty()
     }
 
-    /// Returns whether a page is cached. Does not change the order of use.
+    /// Returns whether a page is cached.
     ///
     /// Cost: `O(1)` expected.
     ///

@@ -49,7 +49,7 @@ module _ {K V L S : Type 0} (account : L → ℕ) where
   abbrev pub total_cost : {N : Type 0} → List (N × Part K V L S) → ℕ
   total_cost tenants = sum_by cost (values_of tenants)
 
-  -- the map's running total is the sum of its costs, and its budget is the limit
+  -- the map's budget is the limit
   pub record IsPart (eq : K → K → Bool) (costs : K → V → ℕ) (budget : L → ℕ) (limit : ℕ) (own : Part K V L S)
       : Type 0 where
     pub tenant : IsTenant eq costs account budget own.1

@@ -123,7 +123,7 @@ module _ {N K V L S : Type 0} (rules : Rules K V L) (offers : Offers K V L K) (c
   TenantStep (calls.Close name) old answer new = (result : Result ℕ TenantError)
       × OfOpen Closes old result new × (answer ≡ answers.Closed result)
 
-  -- a step that leaves a sound tenant, whose cost is within its budget
+  -- a step that leaves a tenant within its budget
   abbrev pub KeptStep : TenantCall N K V → Option (State K V L S) → TenantAnswer V → Option (State K V L S) → Type 0
   KeptStep call old answer new = TenantStep call old answer new × IfSome new (IsTenant eq cost account budget_of)
 

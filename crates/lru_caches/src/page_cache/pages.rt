@@ -80,7 +80,6 @@ fn read_block<B: Copy, D: BlockDevice<B>>(device: &mut D, n: u64) -> Result<B, P
     device.read(n).map_err(PageError::Device)
 }
 
-/// Reads a block, evicts the page `gone`, if there is one, and makes the read page the newest.
 pub(super) fn load<B: Copy, D: BlockDevice<B>, S: KeyHasher<u64>>(
     map: &mut Pages<B, S>,
     device: &mut D,

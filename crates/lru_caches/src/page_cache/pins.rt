@@ -48,7 +48,7 @@ impl<B: Copy, D: BlockDevice<B>, S: KeyHasher<u64>> PageCache<B, D, S> {
         unpin_page(&mut self.map, n)
     }
 
-    /// Returns whether a page is pinned. Does not change the order of use.
+    /// Returns whether a page is pinned.
     ///
     /// ```
     /// assert!(rt; cache.is_pinned(0) && cache.unpin(0) && !cache.is_pinned(0));

@@ -120,7 +120,7 @@ impl<N: Eq + Hash, K: Eq + Hash, V, L: Budgeted<K, V>, S: KeyHasher<K> + Copy> T
         Ok(*share)
     }
 
-    /// Returns whether a tenant has an entry of a key. The order stays.
+    /// Returns whether a tenant has an entry of a key.
     ///
     /// ```
     /// assert_eq!(rt; pool.contains(&1, &7), Ok(true));
