@@ -53,7 +53,6 @@ impl<'a> Log<'a> {
         self.sync()
     }
 
-    /// Appends pages, and syncs the log.
     pub fn append(&mut self, pages: &[Page]) -> Result<(), FileError> {
         for page in pages {
             self.write(self.next, page)?;

@@ -61,8 +61,8 @@ abbrev pub left : List Event → ℕ → Option (List ℕ)
 left [] n = None
 left (e ∷ earlier) n = left_after e.0 (nat_eq n e.1) (known earlier n) (left earlier n)
 
--- Whether a crash may leave a block that contracts see as `block`. If the events do not determine it, any block may be
--- left. `seen` gives what contracts see of a block's bytes.
+-- Whether a crash may leave a block that contracts see as `block`. If the events do not determine the block, any block
+-- may be left. `seen` gives what contracts see of a block's bytes.
 abbrev pub IsLeft : (List ℕ → List ℕ) → Option (List ℕ) → List ℕ → Type 0
 IsLeft seen None block = Unit {0}
 IsLeft seen (Some only) block = block ≡ seen only

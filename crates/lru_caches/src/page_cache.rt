@@ -235,8 +235,8 @@ impl<B: Copy, D: BlockDevice<B>, S: KeyHasher<u64>> PageCache<B, D, S> {
     ///
     /// # Errors
     ///
-    /// `Device`: a write or the `sync` failed, and the dirty pages stay dirty. After a failed `sync` the device is not
-    /// usable. `Broken`.
+    /// `Broken`. `Device`: a write or the `sync` failed, and the dirty pages stay dirty. After a failed `sync` the
+    /// device is not usable.
     pub fn flush(&mut self) -> Result<(), PageError<D::Error>>
         ensures keeps { ShowsTheSame D.BlockDevice self.old self.new }
         ensures flushed { OnOk result (D.IsHonest self.new.device →

@@ -63,7 +63,7 @@ with_map map own = (own.0, map)
 
 module _ {N K V L S : Type 0} (rules : Rules K V L) (account : L → ℕ) (eq : N → N → Bool) where
   -- The tenant furthest above its share loses its oldest entry. If several tenants are furthest above, any of them may
-  -- lose it.
+  -- lose an entry.
   pub record Evicts (old new : List (N × Part K V L S)) : Type 0 where
     pub name : N
     pub own : Part K V L S

@@ -108,8 +108,8 @@ module _ {K V L S : Type 0} where
 module _ {N K V L S : Type 0} (rules : Rules K V L) (offers : Offers K V L K) (cost : K → V → ℕ)
     (account budget_of : L → ℕ) (eq : K → K → Bool) (hash_of : S → K → ℕ) (fresh : ℕ → State K V L S)
     (total_limit : Option ℕ) where
-  -- The call may return `answer`, and leave the tenant that it names as `new`. `sum` is the sum of all budgets. It
-  -- depends on the other tenants, so the step only says that it is at least the new budget.
+  -- The call may return `answer`, and leave the tenant that it names as `new`. `sum` is the sum of all budgets, the new
+  -- budget included. It depends on the other tenants, so the step only says that it is at least the new budget.
   abbrev pub TenantStep : TenantCall N K V → Option (State K V L S) → TenantAnswer V → Option (State K V L S) → Type 0
   TenantStep (calls.Open name budget) old answer new = (result : Result (Unit {0}) TenantError) × (sum : ℕ)
       × (budget ≤ sum) × Opens (is_above total_limit sum) (fresh budget) old result new

@@ -175,7 +175,7 @@ impl<
     L: Budgeted<K, V> + Drop,
     S: KeyHasher<K> + Copy,
 > TenantCache<N, K, V, L, S> {
-    /// Opens a tenant with an empty map and a budget for the sum of its costs.
+    /// Opens a tenant with an empty map and a budget for the sum of its entries' costs.
     ///
     /// ```
     /// assert_eq!(rt; cache.open(2, 3), Ok(()));

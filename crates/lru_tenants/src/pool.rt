@@ -182,7 +182,7 @@ impl<
     ///
     /// First does what `TenantCache::put` does with the limit as the budget. Then, while the total is above the limit,
     /// the tenant furthest above its share loses its oldest entry, which may be the new entry. If several tenants are
-    /// furthest above, any of them may lose it.
+    /// furthest above, any of them may lose an entry.
     ///
     /// ```
     /// assert_eq!(rt; (pool.put(&2, 8, 3), pool.put(&1, 9, 1)), (Ok(true), Ok(true)));
