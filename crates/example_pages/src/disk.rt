@@ -1,4 +1,4 @@
-//! A file, or a file in memory that can crash. A crash may lose what was not made durable.
+//! A file, or a file in memory that can crash.
 use lru_caches::Durable;
 use std::alloc::{AllocError, Global};
 use std::cell::Cell;

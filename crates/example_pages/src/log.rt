@@ -1,4 +1,4 @@
-//! A log of pages. A page is written to the log before it is written to its place.
+//! A log of pages.
 use crate::disk::Disk;
 use crate::page::{Header, PAGE, Page, header_of};
 use lru_caches::{BlockDevice, FileError, HashedFileDevice};
@@ -46,7 +46,6 @@ impl<'a> Log<'a> {
         self.device.sync()
     }
 
-    /// Writes empty pages to the whole log.
     pub fn format(&mut self) -> Result<(), FileError> {
         for n in 0..self.device.len() {
             self.write(n, &[0; PAGE])?;
@@ -54,7 +53,6 @@ impl<'a> Log<'a> {
         self.sync()
     }
 
-    /// Appends pages, and syncs the log, so that a crash cannot lose them.
     pub fn append(&mut self, pages: &[Page]) -> Result<(), FileError> {
         for page in pages {
             self.write(self.next, page)?;

@@ -13,7 +13,7 @@ abbrev pub fresh_at : ℕ → Option Response → Option Response
 fresh_at now None = None
 fresh_at now (Some response) = if nat_lt now response.expires then Some response else None
 
--- The list after a look-up. A fresh response becomes the newest, and a stale response is removed. The others stay.
+-- The list after a look-up. A fresh response becomes the newest, and a stale response is removed.
 abbrev pub looked_up : {K : Type 0} → (K → Bool) → ℕ → List (K × Response) → List (K × Response)
 looked_up names now pairs =
     if is_some (fresh_at now (lookup names pairs)) then front names pairs else without names pairs

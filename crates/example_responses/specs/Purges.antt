@@ -10,7 +10,6 @@ use Rattle.example_responses.specs.declared.cache.Response.{Response}
 abbrev pub is_below : List ℕ → String Global → Bool
 is_below prefix path = starts_with nat_eq (string_bytes path) prefix
 
--- the responses of the paths below the prefix are removed, and the others keep their order
 abbrev pub PurgesBelow : {S : Type 0} → List ℕ → State (String Global) Response Budget S → Unit {0}
     → State (String Global) Response Budget S → Type 0
 PurgesBelow prefix old done new = new.pairs ≡ filter (λ pair. not (is_below prefix pair.0)) old.pairs

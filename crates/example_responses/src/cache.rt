@@ -117,8 +117,7 @@ impl ResponseCache {
         Ok(())
     }
 
-    /// Opens a host, or sets the budget of an open host. Returns words that say which, and how many entries were
-    /// evicted.
+    /// Opens a host, or sets its budget. Returns words that say which, and how many entries were evicted.
     pub fn set_host(
         &mut self,
         host: &str,

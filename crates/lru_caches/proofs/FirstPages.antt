@@ -13,7 +13,6 @@ some_page : {B : Type 0} (p q : Page B) → Some p ≡ Some q → p ≡ q
 some_page p q e = ap (λ o. unwrap_or o q) e
 
 module _ {B D E S : Type 0} (d : device.Ghosts D B E S) (it : D) where
-  -- the invariant of a page cache
   abbrev pub Holds : ℕ → ℕ → List (ℕ × Page B) → Type 0
   Holds capacity reserved pages = AreClean d pages it × AreThere d pages it × (length pages ≤ capacity)
       × (0 < capacity) × (length pages ≤ reserved)

@@ -41,7 +41,6 @@ module _ {X : Type 0} where
           ap (λ k. (k, p.1) ∷ without (nat_eq n) xs) (sym (eqb-true n p.0 (found_named (nat_eq n) xs p e)))
           ∙ ap (λ w. (n, w) ∷ without (nat_eq n) xs) same
 
-  -- if a search by the hash of n finds no pair of n, there is none
   pub absent-by-hash : (hash_of : ℕ → ℕ) (hash n : ℕ) (xs : List (ℕ × X)) → hash ≡ hash_of n
       → ((p : ℕ × X) → lookup_entry (nat_eq n) xs ≡ Some p → hash_of p.0 ≡ hash → ⊥) → lookup (nat_eq n) xs ≡ None
   absent-by-hash hash_of hash n xs is none = go (lookup_entry (nat_eq n) xs) refl

@@ -8,7 +8,6 @@ use Rattle.lru_caches.specs.Files.{Event}
 unfoldable pub hash_of : List ℕ → ℕ
 hash_of bytes = closed (written (seeded (1 ∷ 2 ∷ 3 ∷ 4 ∷ [])) bytes)
 
--- the block with this number in its last 8 bytes
 abbrev pub with_tail : List ℕ → ℕ → List ℕ
 with_tail block number = take (length block - 8) block ++ to_le_bytes w64 number
 

@@ -28,7 +28,7 @@ synced = (5, 0, [])
 abbrev pub event_of : List ℕ → List ℕ → Event
 event_of numbers bytes = (slice_index numbers 0, slice_index numbers 1, bytes)
 
--- what is known of a block after these bytes were read: what was known before, or else these bytes
+-- what was known of a block, or else the bytes of this read
 abbrev pub or_else : Option (List ℕ) → List ℕ → Option (List ℕ)
 or_else None bytes = Some bytes
 or_else (Some known) bytes = Some known
@@ -61,8 +61,8 @@ abbrev pub left : List Event → ℕ → Option (List ℕ)
 left [] n = None
 left (e ∷ earlier) n = left_after e.0 (nat_eq n e.1) (known earlier n) (left earlier n)
 
--- Whether a crash may leave a block that contracts see as `block`. If the events do not determine what a crash leaves,
--- it may be any block. `seen` gives what contracts see of the bytes of a block.
+-- Whether a crash may leave a block that contracts see as `block`. If the events do not determine the block, any block
+-- may be left. `seen` gives what contracts see of a block's bytes.
 abbrev pub IsLeft : (List ℕ → List ℕ) → Option (List ℕ) → List ℕ → Type 0
 IsLeft seen None block = Unit {0}
 IsLeft seen (Some only) block = block ≡ seen only
@@ -84,7 +84,6 @@ abbrev pub Agrees : ℕ → List ℕ → Option (List ℕ) → Type 0
 Agrees (suc zero) bytes (Some block) = bytes ≡ block
 Agrees kind bytes block = Unit {0}
 
--- Each read of a known block returned this block.
 abbrev pub IsHonest : List Event → Type 0
 IsHonest [] = Unit {0}
 IsHonest (e ∷ earlier) = Agrees e.0 e.2 (known earlier e.1) × IsHonest earlier

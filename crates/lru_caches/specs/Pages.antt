@@ -15,12 +15,12 @@ use Rattle.lru_caches.specs.declared.page_cache.PageError.TheVariants.{Device, M
 
 -- what a contract sees of a cache
 pub record Cached (B D : Type 0) : Type 0 where
-  -- the cached pages by their numbers, newest first: each has a block, and may be dirty or pinned or both
+  -- the cached pages by their numbers, newest first
   pub pages : List (ℕ × Page B)
   pub capacity : ℕ
   -- whether dirty pages stay until a flush
   pub keeps_dirty : Bool
-  -- how many calls that succeeded found their page cached, and how many did not
+  -- how many successful calls found their page cached, and how many did not
   pub counts : Counts
   pub device : D
 
@@ -148,7 +148,6 @@ module _ {B D E S : Type 0} (d : device.Ghosts D B E S) where
   CrashAdds pages old new = (n : ℕ) (block : S) → d.may_leave new n block
       → d.may_leave old n block ⊎ IsWritten (lookup (nat_eq n) pages) block
 
-  -- a crash may leave no more than before
   abbrev pub CrashKeeps : D → D → Type 0
   CrashKeeps old new = (n : ℕ) (block : S) → d.may_leave new n block → d.may_leave old n block
 
@@ -190,7 +189,6 @@ module _ {B D E S : Type 0} (d : device.Ghosts D B E S) where
     pub writes : AreWritten numbers pages old written
     pub ends : (new ≡ written) ⊎ ((rest ≡ []) × d.sync_gives written new)
 
-  -- the device failed in the call
   abbrev pub IsFault : D → D → PageError E → Type 0
   IsFault old new (Device e) = d.faults new ≢ d.faults old
   IsFault old new Memory = ⊥
@@ -201,7 +199,7 @@ module _ {B D E S : Type 0} (d : device.Ghosts D B E S) where
   abbrev pub IsFlushCause : D → D → PageError E → Type 0
   IsFlushCause old new e = IsFault old new e ⊎ ((e ≡ Broken) × (d.is_usable old ≡ false))
 
-  -- The pages after a call that failed. Either they did not change, or memory ran out after an eviction.
+  -- After a call that failed, the pages are the same, or memory ran out after an eviction.
   abbrev pub Leaves : Cached B D → Cached B D → PageError E → Type 0
   Leaves old new e = (new.pages ≡ old.pages)
       ⊎ ((e ≡ Memory) × (new.pages ≡ with_room old.capacity old.keeps_dirty old.pages))

@@ -1,14 +1,13 @@
-//! The trait of devices: numbered blocks that are read and written one at a time, and synced.
+//! The trait of devices.
 ghost use Rattle.std.specs.Prelude.{◌≡◌, ◌≢◌, ◌⊎◌, ℕ, Bool, Option, Some, IsTrue, ◌↔◌, is_ok, IfOk, OnOk, IsOk};
 
 /// A device of numbered blocks, such as a disk or a file. Any call may fail.
 ///
-/// Between two syncs, a crash may lose and reorder writes. A crash may leave each block as it was at the last `sync`,
-/// as it was written later, or torn. A write changes only its own block, even if it fails or the machine stops in the
-/// middle. After a failed `sync`, no clause says what the blocks are, and no `read`, `write` or `sync` may be called.
+/// A crash may leave each block as it was at the last `sync`, as it was written later, or torn. A write changes only
+/// its own block, even if it fails or the machine stops in the middle. After a failed `sync`, no clause says what the
+/// blocks are, and no `read`, `write` or `sync` may be called.
 ///
-/// For most devices a contract sees the block itself: `ghost seen = { λ block. block };`. If two blocks have the same
-/// `seen`, contracts do not distinguish them.
+/// For most devices a contract sees the block itself: `ghost seen = { λ block. block };`.
 ///
 /// ```
 /// let calls_left = Cell::new(2);           // the third call fails
@@ -43,18 +42,18 @@ pub trait BlockDevice<B> {
     /// A number that changes exactly when a call fails, such as the number of failed calls.
     ghost faults: { Self → ℕ };
 
-    /// What a crash in the middle of a write may leave of its block, in addition to the old and the new block. By
-    /// default this is any block. A device that writes blocks whole defines it as `⊥`.
+    /// What a crash in the middle of a write may leave, except the old and the new block: by default, any block. A
+    /// device that writes blocks whole defines it as `⊥`.
     ghost IsTorn: { Self.Seen → Type 0 } = { λ _. Unit {0} };
 
-    /// Each read of a known block has returned this block. For a file this is a premise, because no code can test it.
+    /// Each read of a known block has returned this block. For a file this is a premise.
     ghost IsHonest: { Self → Type 0 } = { λ _. Unit {0} };
 
     /// A `write` of a block to this number may lead from the first state to the second. By default this holds for any
     /// two states.
     ghost write_gives: { Self → ℕ → Self.Seen → Self → Type 0 } = { λ _ _ _ _. Unit {0} };
 
-    /// A `sync` may lead from the first state to the second. By default this holds for any two states.
+    /// As `write_gives`, for a `sync`.
     ghost sync_gives: { Self → Self → Type 0 } = { λ _ _. Unit {0} };
 
     /// Returns whether the device has a block of this number.
@@ -81,8 +80,7 @@ pub trait BlockDevice<B> {
         ensures usable { IsTrue (is_usable self.new) }
         ensures numbers { (m : ℕ) → has self.new m ≡ has self.old m };
 
-    /// Replaces a block. A crash may now leave the new block or a torn block, in addition to the blocks that it might
-    /// leave before.
+    /// Replaces a block. A crash may now also leave the new block or a torn block.
     ///
     /// # Errors
     ///

@@ -26,10 +26,10 @@ mod more;
 
 /// A hash map whose entries are in the order of insertion, oldest first.
 ///
-/// The map evicts nothing. If a new key needs a larger table and the table cannot grow, the insert fails and changes
-/// nothing.
+/// The map evicts nothing. An insert that cannot grow the table fails and changes nothing.
 ///
-/// In the examples of the calls, `map` contains (1, 11) and then (2, 20).
+/// A call follows indexmap's `IndexMap` call of the same name, unless its comment names another call. In the examples,
+/// `map` contains (1, 11) and then (2, 20).
 ///
 /// ```
 /// let mut map: OrderedMap<u64, u64> = OrderedMap::new(alloc);
@@ -58,8 +58,6 @@ impl<K: Eq + Hash, V> OrderedMap<K, V, RandomState> {
     /// ```
     /// let mut map: OrderedMap<u64, u64> = OrderedMap::new(alloc);
     /// ```
-    ///
-    /// After std's `HashMap::new`.
     pub fn new(alloc: Global) -> Self
         ensures { result ≡ [] }
     {
@@ -77,8 +75,6 @@ impl<K: Eq + Hash, V, S: KeyHasher<K>> OrderedMap<K, V, S> {
     /// let map: OrderedMap<u64, u64> = OrderedMap::with_hasher(alloc, seeded);
     /// assert!(rt; map.is_empty());
     /// ```
-    ///
-    /// After std's `HashMap::with_hasher`.
     pub fn with_hasher(alloc: Global, hasher: S) -> Self
         ensures { result ≡ [] }
     {
@@ -117,8 +113,6 @@ impl<K: Eq + Hash, V, S: KeyHasher<K>> OrderedMap<K, V, S> {
     /// ```
     /// assert!(rt; map.contains_key(&1) && !map.contains_key(&9));
     /// ```
-    ///
-    /// After std's `HashMap::contains_key`.
     pub fn contains_key<Q: LookupKey<K>>(&self, key: &Q) -> bool
         ensures { result ≡ is_some (lookup (Q.names key.now) self.now) }
     {
@@ -133,8 +127,6 @@ impl<K: Eq + Hash, V, S: KeyHasher<K>> OrderedMap<K, V, S> {
     /// ```
     ///
     /// Cost: `O(1)` expected.
-    ///
-    /// After indexmap's `IndexMap::get`.
     pub fn get<Q: LookupKey<K>>(&self, key: &Q) -> Option<&V>
         ensures { option_copied result ≡ lookup (Q.names key.now) self.now }
     {
@@ -152,8 +144,6 @@ impl<K: Eq + Hash, V, S: KeyHasher<K>> OrderedMap<K, V, S> {
     /// ```
     ///
     /// Cost: `O(1)` expected.
-    ///
-    /// After indexmap's `IndexMap::get_mut`.
     pub fn get_mut<Q: LookupKey<K>>(&mut self, key: &Q) -> Option<&mut V>
         ensures* writes_back { sem 𝓛 (lends_value K.row V.row S.row S.Hasher.row K.Hash S.KeyHasher S.Hasher.Hasher
             self.entry (Q.names key.now) result) }
@@ -170,8 +160,6 @@ impl<K: Eq + Hash, V, S: KeyHasher<K>> OrderedMap<K, V, S> {
     /// ```
     ///
     /// Cost: `O(1)`.
-    ///
-    /// After indexmap's `IndexMap::first`.
     pub fn first(&self) -> Option<(&K, &V)>
         ensures { option_map deref_pair result ≡ first self.now }
     {
@@ -185,15 +173,13 @@ impl<K: Eq + Hash, V, S: KeyHasher<K>> OrderedMap<K, V, S> {
     /// ```
     ///
     /// Cost: `O(1)`.
-    ///
-    /// After indexmap's `IndexMap::last`.
     pub fn last(&self) -> Option<(&K, &V)>
         ensures { option_map deref_pair result ≡ last self.now }
     {
         self.map.peek_newest()
     }
 
-    /// Removes and returns the oldest entry, if there is one.
+    /// Removes and returns the oldest entry.
     ///
     /// ```
     /// assert_eq!(rt; map.pop_first(), Some((1, 11)));
@@ -209,7 +195,7 @@ impl<K: Eq + Hash, V, S: KeyHasher<K>> OrderedMap<K, V, S> {
         self.map.pop_oldest()
     }
 
-    /// Removes and returns the newest entry, if there is one.
+    /// Removes and returns the newest entry.
     ///
     /// ```
     /// assert_eq!(rt; map.pop_last(), Some((2, 20)));
@@ -249,8 +235,6 @@ impl<K: Eq + Hash, V, S: KeyHasher<K>> OrderedMap<K, V, S> {
     /// ```
     ///
     /// Cost: `O(1)`, and so is each step from either end.
-    ///
-    /// After std's `HashMap::keys`.
     pub fn keys(&self) -> Keys<'_, K, V>
         ensures rest { result ≡ keys_of self.now }
         ensures distinct { IsDistinct K.eq (keys_of self.now) }
@@ -266,8 +250,6 @@ impl<K: Eq + Hash, V, S: KeyHasher<K>> OrderedMap<K, V, S> {
     /// ```
     ///
     /// Cost: `O(1)`, and so is each step from either end.
-    ///
-    /// After std's `HashMap::values`.
     pub fn values(&self) -> Values<'_, K, V>
         ensures rest { result ≡ values_of self.now }
         ensures runs { ShowsInOrder (deref {X = V}) }
@@ -286,8 +268,6 @@ impl<K: Eq + Hash, V, S: KeyHasher<K>> OrderedMap<K, V, S> {
     /// ```
     ///
     /// Cost: `O(1)`, and so is each step from either end.
-    ///
-    /// After indexmap's `IndexMap::iter`.
     pub fn iter(&self) -> Entries<'_, K, V>
         ensures rest { result ≡ self.now }
         ensures runs { ShowsInOrder (deref_pair {K = K} {X = V}) }
@@ -328,13 +308,11 @@ impl<K: Eq + Hash + Drop, V: Drop, S: KeyHasher<K>> OrderedMap<K, V, S> {
     /// assert_eq!(rt; map.insert(1, 11)?, Some(10));
     /// ```
     ///
-    /// Cost: `O(1)` expected, amortised over the inserts. An insert that grows the table moves all entries.
+    /// Cost: `O(1)` expected, amortised over the inserts.
     ///
     /// # Errors
     ///
     /// Out of memory for a new key, or the link type cannot number the buckets of a larger table. Nothing has changed.
-    ///
-    /// After indexmap's `IndexMap::insert`.
     pub fn insert(&mut self, key: K, value: V) -> Result<Option<V>, AllocError>
         ensures old { IfOk result (λ was. was ≡ lookup (K.eq key) self.old) }
         ensures entries { OnOk result (self.new ≡ put (K.eq key) (key, value) self.old) }
@@ -351,7 +329,7 @@ impl<K: Eq + Hash + Drop, V: Drop, S: KeyHasher<K>> OrderedMap<K, V, S> {
         Err(AllocError)
     }
 
-    /// Removes the entries for which the closure returns false. The other entries keep their order.
+    /// Removes the entries for which the closure returns false.
     ///
     /// The closure is called with each entry, oldest first.
     ///
@@ -376,8 +354,6 @@ impl<K: Eq + Hash + Drop, V: Drop, S: KeyHasher<K>> OrderedMap<K, V, S> {
     /// map.clear();
     /// assert!(rt; map.is_empty());
     /// ```
-    ///
-    /// After std's `HashMap::clear`.
     pub fn clear(&mut self)
         ensures { self.new ≡ [] }
     {

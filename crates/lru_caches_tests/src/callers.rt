@@ -5,8 +5,7 @@ ghost use Rattle.lru_caches.specs.Pages.{shown, ShowsTheSame};
 
 use lru_caches::{BlockDevice, OrderedMap, PageCache, PageError};
 
-/// Copies a block to another number, and changes no other block. If the call fails, the cache shows each block as
-/// before.
+/// Copies a block to another number.
 pub fn copy_block<D: BlockDevice<u64>>(
     cache: &mut PageCache<u64, D>,
     from: u64,

@@ -1,4 +1,4 @@
-//! A disk in memory with a volatile cache. The disk can fail and crash.
+//! A disk in memory that can fail and crash.
 ghost use Rattle.std.specs.Prelude.{◌≡◌, ◌⊎◌, ◌↔◌, ℕ, Some, nat_lt, slice_index, IsTrue};
 ghost use Rattle.std.proofs.Common.{inl, sym, ap, unwrap_or};
 

@@ -12,7 +12,6 @@ fn functions_are_called_if_a_result_is_not_stored(rt: HostRuntime) {
     check!(rt; recursion::answers(rt.alloc()) == 1);
 }
 
-/// An ordered map can have many keys.
 #[test]
 fn an_ordered_map_of_many_keys(rt: HostRuntime) {
     let mut map = OrderedMap::new(rt.alloc());

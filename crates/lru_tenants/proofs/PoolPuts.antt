@@ -54,7 +54,6 @@ module _ {N K V L S : Type 0} (names : N → Bool)
   pub puts-closed : part names old ≡ None → PutsIfOpen does (part names old) old (Err NotOpen) old
   puts-closed none = subst (λ o. PutsIfOpen does o old (Err NotOpen) old) (sym none) (refl, refl)
 
--- the running total falls if only oldest entries leave
 pub cost-falls : {K V L S : Type 0} (cost : K → V → ℕ) (account : L → ℕ) (old new : State K V L S)
     → IsSummed cost account old → IsSummed cost account new → IsFront new.pairs old.pairs
     → account new.limiter ≤ account old.limiter
@@ -67,7 +66,6 @@ cost-falls cost account old new was is front = omega (
   total-least (λ p. cost p.0 p.1) new.pairs old.pairs front,
 )
 
--- a map with a cost has an oldest entry
 pub pops-some : {K V L S : Type 0} (rules : Rules K V L) (cost : K → V → ℕ) (account : L → ℕ) (old new : State K V L S)
     (popped : Option (K × V)) → IsSummed cost account old → 0 < account old.limiter
     → PopOldest rules old popped new → (gone : K × V) × (popped ≡ Some gone)
@@ -83,7 +81,6 @@ pops-some {K} {V} rules cost account old new popped was above pops = go (last ol
     ))
     go (Some pair) some is = (_, is)
 
--- a removal does not raise the running total
 pub remove-falls : {K V L S : Type 0} (rules : Rules K V L) (cost : K → V → ℕ) (account : L → ℕ) (names : K → Bool)
     (old new : State K V L S) (value : Option V) → IsSummed cost account old → IsSummed cost account new
     → Remove rules names old value new → account new.limiter ≤ account old.limiter

@@ -73,7 +73,6 @@ module _ {N K V L S : Type 0} {rules : Rules K V L} {account : L → ℕ} {eq : 
       spared-trans account (lookup (eq name) old) (lookup (eq name) mid) (lookup (eq name) new)
       (evict-spares old mid step name) (evictions-spare limit new mid more name)
 
--- some tenant is above its share if all costs together are above all shares together
 pub some-above : {N K V L S : Type 0} (account : L → ℕ) (tenants : List (N × Part K V L S)) (most : ℕ)
     → All (λ own. excess account own ≤ most) (values_of tenants) → total_share tenants < total_cost account tenants
     → 0 < most

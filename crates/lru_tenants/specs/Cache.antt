@@ -12,7 +12,6 @@ use Rattle.lru_model.specs.Theorems.{IsSummed}
 abbrev pub with_limiter : {K V L S : Type 0} → L → State K V L S → State K V L S
 with_limiter limiter map = record map { limiter = limiter }
 
--- what holds for the map of every tenant
 pub record IsTenant {K V L S : Type 0} (eq : K → K → Bool) (cost : K → V → ℕ) (account budget : L → ℕ)
     (own : State K V L S) : Type 0 where
   pub map : IsMap eq own
@@ -34,7 +33,7 @@ pub record Cache (N K V L S : Type 0) : Type 0 where
   pub total_limit : Option ℕ
 
 module _ {N K V L S : Type 0} where
-  -- the map of the tenant whose name passes the test, if it is open
+  -- the map of the named tenant, if it is open
   abbrev pub tenant : (N → Bool) → Cache N K V L S → Option (State K V L S)
   tenant named cache = lookup named cache.tenants
 

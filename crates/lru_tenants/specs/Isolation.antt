@@ -28,7 +28,7 @@ module _ {N K V L S : Type 0} where
 
 module _ {N K V L S C R : Type 0} (named : C → N)
     (Does : C → Option (State K V L S) → R → Option (State K V L S) → Type 0) where
-  -- The calls that name this tenant, with their answers, take the tenant from old to new. Other calls do not change it.
+  -- The calls that name this tenant, with their answers, take the tenant from old to new.
   abbrev pub OwnRun : (N → Bool) → Option (State K V L S) → List C → List R → Option (State K V L S) → Type 0
   OwnRun own old [] [] new = new ≡ old
   OwnRun own old (call ∷ calls) (answer ∷ answers) new =

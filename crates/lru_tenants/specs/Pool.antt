@@ -1,4 +1,4 @@
--- A pool of tenants: each has a share of the limit that is its own, and the rest is for whoever needs it.
+-- A pool: tenants with their shares of one limit.
 --     names name          whether the name is the one that the call names
 --     rules, offers       the limiter's `Rules` and `Offers` (`lru_limits`)
 --     own.0, own.1        the share and the map of a tenant
@@ -17,16 +17,14 @@ use Rattle.lru_tenants.specs.Cache.{IsTenant}
 use Rattle.lru_tenants.specs.declared.error.TenantError.{TenantError}
 use Rattle.lru_tenants.specs.declared.error.TenantError.TheVariants.{NotOpen, Memory}
 
--- a tenant's share of the limit, and its map
 abbrev pub Part : Type 0 → Type 0 → Type 0 → Type 0 → Type 0
 Part K V L S = ℕ × State K V L S
 
 pub record Pool (N K V L S : Type 0) : Type 0 where
-  -- the open tenants by their names, each with its share and its map, in an order that means nothing
+  -- the open tenants by their names, in no particular order
   pub tenants : List (N × Part K V L S)
   -- the greatest total of all costs, and of all shares
   pub limit : ℕ
-  -- what builds the hashers of names and keys, and the bytes of an entry
   pub hasher : S
   pub entry_bytes : ℕ
 
@@ -38,8 +36,7 @@ module _ {K V L S : Type 0} (account : L → ℕ) where
   abbrev pub excess : Part K V L S → ℕ
   excess own = cost own - own.0
 
-  -- What calls that name other tenants do to a tenant. Its share stays, and only its oldest entries leave. If its cost
-  -- is within its share, nothing changes.
+  -- What calls that name other tenants may do to a tenant: evict its oldest entries, if its cost is above its share.
   pub record Spares (own left : Part K V L S) : Type 0 where
     pub share : left.0 ≡ own.0
     pub front : IsFront left.1.pairs own.1.pairs
@@ -52,7 +49,7 @@ module _ {K V L S : Type 0} (account : L → ℕ) where
   abbrev pub total_cost : {N : Type 0} → List (N × Part K V L S) → ℕ
   total_cost tenants = sum_by cost (values_of tenants)
 
-  -- the map's running total is the sum of its costs, and its budget is the limit
+  -- the map's budget is the limit
   pub record IsPart (eq : K → K → Bool) (costs : K → V → ℕ) (budget : L → ℕ) (limit : ℕ) (own : Part K V L S)
       : Type 0 where
     pub tenant : IsTenant eq costs account budget own.1
@@ -65,8 +62,8 @@ abbrev pub with_map : {K V L S : Type 0} → State K V L S → Part K V L S → 
 with_map map own = (own.0, map)
 
 module _ {N K V L S : Type 0} (rules : Rules K V L) (account : L → ℕ) (eq : N → N → Bool) where
-  -- A tenant above its share, and no less above it than any other, loses its oldest entry. If several tenants are
-  -- furthest above their shares, any of them may lose it.
+  -- The tenant furthest above its share loses its oldest entry. If several tenants are furthest above, any of them may
+  -- lose an entry.
   pub record Evicts (old new : List (N × Part K V L S)) : Type 0 where
     pub name : N
     pub own : Part K V L S
@@ -84,7 +81,7 @@ module _ {N K V L S : Type 0} (rules : Rules K V L) (account : L → ℕ) (eq : 
     evicts : {old : List (N × Part K V L S)} (mid : List (N × Part K V L S)) → limit < total_cost account old
         → Evicts old mid → Evictions limit new mid → Evictions limit new old
 
--- what calls do to a tenant, and answer; `None` is a tenant that is not open
+-- `None` is a tenant that is not open
 module _ {K V L S : Type 0} where
   abbrev pub read_part : {R : Type 0} → (Part K V L S → R) → Option (Part K V L S) → Result R TenantError
   read_part reads None = Err NotOpen
@@ -102,32 +99,27 @@ module _ {K V L S : Type 0} where
   abbrev pub Closes : Part K V L S → Result ℕ TenantError → Option (Part K V L S) → Type 0
   Closes own answer new = (answer ≡ Ok (length own.1.pairs)) × (new ≡ None)
 
-  -- whether the tenant is open and has the named key
   abbrev pub has_key : (K → Bool) → Option (Part K V L S) → Bool
   has_key named None = false
   has_key named (Some own) = is_some (lookup named own.1.pairs)
 
--- whether the key is there afterwards, or that memory ran out
 abbrev pub put_answer : Result Bool AllocError → Bool → Result Bool TenantError
 put_answer (Ok kept) there = Ok there
 put_answer (Err e) there = Err Memory
 
 module _ {N K V L S : Type 0} where
-  -- the share and the map of the tenant whose name passes the test, if it is open
+  -- the named tenant, if it is open
   abbrev pub part : (N → Bool) → Pool N K V L S → Option (Part K V L S)
   part named pool = lookup named pool.tenants
 
-  -- the share and the empty map with which a tenant opens
   abbrev pub opened : (ℕ → L) → ℕ → Pool N K V L S → ℕ → Part K V L S
   opened made max pool share = (share, empty_map (made pool.limit) pool.hasher pool.entry_bytes max)
 
   abbrev pub is_over : Pool N K V L S → ℕ → Bool
   is_over pool share = nat_lt pool.limit (total_share pool.tenants + share)
 
-  -- what holds of every pool
   pub record IsPool (eq : K → K → Bool) (costs : K → V → ℕ) (account budget : L → ℕ) (pool : Pool N K V L S)
       : Type 0 where
-    -- a map may take the whole limit
     pub each : All (IsPart account eq costs budget pool.limit) (values_of pool.tenants)
     pub within : total_cost account pool.tenants ≤ pool.limit
     pub shares : total_share pool.tenants ≤ pool.limit
@@ -139,7 +131,7 @@ module _ {N K V L S : Type 0} where
     pub others : (other : N) → names other ≡ false → part (eq other) new ≡ part (eq other) old
     pub is : new ≡ record old { tenants = new.tenants }
 
-  -- a call does to the pool what `Does` says of the named tenant, and leaves the others as they are
+  -- a call changes the named tenant as `Does` says, and no other tenant
   abbrev pub On : {R : Type 0} → (N → N → Bool) → (N → Bool)
       → (Option (Part K V L S) → R → Option (Part K V L S) → Type 0) → Pool N K V L S → R → Pool N K V L S → Type 0
   On eq names Does old answer new =
@@ -149,15 +141,14 @@ module _ {N K V L S : Type 0} where
   SparesOthers account eq names old new =
       (other : N) → names other ≡ false → Spared account (part (eq other) old) (part (eq other) new)
 
-  -- Calls that take the pool from old to new, each with the test of the name that it names. Each spares the other
-  -- tenants.
+  -- Calls take the pool from old to new. Each call spares the tenants that it does not name.
   abbrev pub PoolRun : (L → ℕ) → (N → N → Bool) → Pool N K V L S → List (N → Bool) → Pool N K V L S → Type 0
   PoolRun account eq old [] new = new ≡ old
   PoolRun account eq old (names ∷ more) new =
       (mid : Pool N K V L S) × SparesOthers account eq names old mid × PoolRun account eq mid more new
 
-  -- A put inserts into the map of the named tenant. If the insert does not fail, entries are evicted while the total is
-  -- above the limit. The answer says whether the key is there at the end.
+  -- A put inserts into the map of the named tenant. Unless the insert fails, entries are evicted while the total is
+  -- above the limit.
   pub record Puts (rules : Rules K V L) (offers : Offers K V L K) (account : L → ℕ) (eq : N → N → Bool)
       (same : K → K → Bool) (hash_of : S → K → ℕ) (names : N → Bool) (key : K) (value : V) (own : Part K V L S)
       (old : Pool N K V L S) (answer : Result Bool TenantError) (new : Pool N K V L S) : Type 0 where
@@ -167,12 +158,12 @@ module _ {N K V L S : Type 0} where
     pub evictions : Evictions rules account eq old.limit new.tenants
         (set_value names old.tenants (with_map left own))
     pub failed : OnErr result (new.tenants ≡ set_value names old.tenants (with_map left own))
-    -- if the tenant's cost after the insert is within its share, it loses nothing more
+    -- the evictions spare the named tenant, too
     pub spared : Spared account (Some (with_map left own)) (part names new)
     pub said : answer ≡ put_answer result (has_key (same key) (part names new))
     pub is : new ≡ record old { tenants = new.tenants }
 
-  -- `Puts` if the tenant is open; otherwise nothing changes
+  -- `does` if the tenant is open; otherwise nothing changes
   abbrev pub PutsIfOpen : (Part K V L S → Pool N K V L S → Result Bool TenantError → Pool N K V L S → Type 0)
       → Option (Part K V L S) → Pool N K V L S → Result Bool TenantError → Pool N K V L S → Type 0
   PutsIfOpen does None old answer new = (answer ≡ Err NotOpen) × (new ≡ old)

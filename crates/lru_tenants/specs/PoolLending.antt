@@ -1,4 +1,4 @@
--- What becomes of a pool once the loan of one of its values has ended.
+-- What a pool is after the loan of one of its values has ended.
 use Rattle.std.specs.Prelude.{⊤}
 use Rattle.std.specs.Borrow.{Fml, RattleType, MutBor, follows_so}
 use Rattle.std.specs.HashMap.Lent.{HashMembers}

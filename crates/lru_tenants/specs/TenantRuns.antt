@@ -64,7 +64,7 @@ module _ {K V L S : Type 0} where
   SetsBudget rules rebudgeted false map answer new = (left : State K V L S)
       × Trims rules (with_limiter (rebudgeted map.limiter) map) left × (answer ≡ Ok tt) × (new ≡ Some left)
 
-  -- what a call on an open tenant passes to its callback; if the tenant is not open, the call passes nothing
+  -- what a call passes to its callback: nothing, if the tenant is not open
   abbrev pub PassesOn : (State K V L S → List (K × V) → Option (State K V L S) → Type 0) → Option (State K V L S)
       → List (K × V) → Option (State K V L S) → Type 0
   PassesOn does None passed new = (passed ≡ []) × (new ≡ None)
@@ -75,7 +75,6 @@ module _ {K V L S : Type 0} where
   Gets names old answer new =
       (answer ≡ read_of (λ map. lookup names map.pairs) old) × (new ≡ option_map (promoted names) old)
 
-  -- a call that sets a budget passes the evicted entries to its callback
   abbrev pub BudgetPasses : Rules K V L → (L → L) → Bool → State K V L S → List (K × V)
       → Option (State K V L S) → Type 0
   BudgetPasses rules rebudgeted true old passed new = (passed ≡ []) × (new ≡ Some old)
@@ -109,9 +108,8 @@ module _ {K V L S : Type 0} where
 module _ {N K V L S : Type 0} (rules : Rules K V L) (offers : Offers K V L K) (cost : K → V → ℕ)
     (account budget_of : L → ℕ) (eq : K → K → Bool) (hash_of : S → K → ℕ) (fresh : ℕ → State K V L S)
     (total_limit : Option ℕ) where
-  -- The call may return `answer`, and leave the tenant that it names as `new`. `sum` is the sum of all budgets,
-  -- including the new budget. It depends on the other tenants, so the step only says that it is at least the new
-  -- budget. Without a total limit no sum is over the limit.
+  -- The call may return `answer`, and leave the tenant that it names as `new`. `sum` is the sum of all budgets, the new
+  -- budget included. It depends on the other tenants, so the step only says that it is at least the new budget.
   abbrev pub TenantStep : TenantCall N K V → Option (State K V L S) → TenantAnswer V → Option (State K V L S) → Type 0
   TenantStep (calls.Open name budget) old answer new = (result : Result (Unit {0}) TenantError) × (sum : ℕ)
       × (budget ≤ sum) × Opens (is_above total_limit sum) (fresh budget) old result new
@@ -125,7 +123,7 @@ module _ {N K V L S : Type 0} (rules : Rules K V L) (offers : Offers K V L K) (c
   TenantStep (calls.Close name) old answer new = (result : Result ℕ TenantError)
       × OfOpen Closes old result new × (answer ≡ answers.Closed result)
 
-  -- a step that leaves a sound tenant, whose cost is within its budget
+  -- a step that leaves a tenant within its budget
   abbrev pub KeptStep : TenantCall N K V → Option (State K V L S) → TenantAnswer V → Option (State K V L S) → Type 0
   KeptStep call old answer new = TenantStep call old answer new × IfSome new (IsTenant eq cost account budget_of)
 

@@ -24,13 +24,12 @@ mod totals;
 
 use totals::is_above;
 
-/// A cache for many tenants, each with a name. Each tenant has a map, limited by its own budget.
+/// A cache for many tenants. Each tenant has a name, and a map limited by its own budget.
 ///
 /// The limiter `L` says what an entry costs. `S` hashes names and keys. The budgets of all tenants add up to at most
 /// the total limit, if `set_total_limit` set one.
 ///
-/// In the examples of the calls, `cache` has one open tenant, 1, with a budget of 3 and the entry (7, 2). Some examples
-/// make another cache.
+/// In the examples of the calls, `cache` has one tenant, 1, with a budget of 3 and the entry (7, 2).
 ///
 /// ```
 /// let mut cache: TenantCache<u64, u64, u64> = TenantCache::new(alloc, [1, 2, 3, 4], 32);
@@ -114,7 +113,7 @@ impl<N: Eq + Hash, K: Eq + Hash, V, L: Budgeted<K, V>, S: KeyHasher<K> + Copy> T
     L,
     S,
 > {
-    /// Makes a cache without tenants, with any limiter that has a budget, and with this hasher of names and keys.
+    /// Makes a cache without tenants, with any limiter that has a budget, and a hasher of names and keys.
     ///
     /// If strangers choose names or keys, take std's `RandomState::new(&rt)?`, whose hashes nobody can guess. Cost:
     /// `O(1)`, and no memory.
@@ -176,7 +175,7 @@ impl<
     L: Budgeted<K, V> + Drop,
     S: KeyHasher<K> + Copy,
 > TenantCache<N, K, V, L, S> {
-    /// Opens a tenant with an empty map and a budget. The costs of its entries may add up to at most the budget.
+    /// Opens a tenant with an empty map and a budget for the sum of its entries' costs.
     ///
     /// ```
     /// assert_eq!(rt; cache.open(2, 3), Ok(()));
@@ -187,7 +186,7 @@ impl<
     ///
     /// # Errors
     ///
-    /// `AlreadyOpen`, `OverTotal` or `Memory`: no tenant has changed.
+    /// `AlreadyOpen`, `OverTotal` or `Memory`: nothing has changed.
     pub fn open(&mut self, name: N, budget: u64) -> Result<(), TenantError>
         ensures opens { On N.eq (N.eq name) (Opens (is_over L.budget_of (N.eq name) budget self.old)
             (fresh L.made (L.LinkType.number L.LinkType.MAX) self.old budget)) self.old result self.new }
@@ -223,8 +222,8 @@ impl<
     /// Inserts a key with a value, as the newest entry of the tenant. Returns whether the key is there afterwards.
     ///
     /// The limiter rejects an entry if its cost alone is above the budget, or if the tenant's total would be above
-    /// `u64::MAX`. If the key is there, a rejection removes its entry. If the limiter accepts the entry, the tenant's
-    /// oldest entries are evicted until the total is within the budget.
+    /// `u64::MAX`. A rejection removes the key's old entry. If the limiter accepts the entry, the tenant's oldest
+    /// entries are evicted until the total is within the budget.
     ///
     /// ```
     /// assert_eq!(rt; cache.put(&1, 8, 1), Ok(true));
@@ -235,8 +234,7 @@ impl<
     ///
     /// # Errors
     ///
-    /// `NotOpen`: nothing has changed. `Memory`: out of memory for the entry. Some of the tenant's oldest entries may
-    /// have been evicted.
+    /// `NotOpen`, or `Memory`: some of the tenant's oldest entries may have been evicted.
     pub fn put<T: LookupKey<N>>(&mut self, name: &T, key: K, value: V) -> Result<bool, TenantError>
         ensures puts { On N.eq (T.names name.now) (OfOpen (Puts L.rules (offers_of L.terms) L.budget_of K.eq S.hash_of key value))
             self.old result self.new }
@@ -256,7 +254,7 @@ impl<
     ///
     /// # Errors
     ///
-    /// `NotOpen` or `OverTotal`: nothing has changed.
+    /// `NotOpen` or `OverTotal`.
     pub fn set_budget<T: LookupKey<N>>(&mut self, name: &T, budget: u64) -> Result<(), TenantError>
         ensures sets { On N.eq (T.names name.now)
             (OfOpen (SetsBudget L.rules (L.rebudgeted budget) (is_over L.budget_of (T.names name.now) budget self.old)))
@@ -269,7 +267,7 @@ impl<
         self.set_budget_with(name, budget, &mut |_, _| {})
     }
 
-    /// Closes a tenant and drops its entries. Returns how many entries there were.
+    /// Closes a tenant and drops its entries. Returns their number.
     ///
     /// ```
     /// assert_eq!(rt; (cache.len(), cache.close(&1), cache.len()), (1, Ok(1), 0));
@@ -279,7 +277,7 @@ impl<
     ///
     /// # Errors
     ///
-    /// `NotOpen`: nothing has changed.
+    /// `NotOpen`.
     pub fn close<T: LookupKey<N>>(&mut self, name: &T) -> Result<usize, TenantError>
         ensures closes { On N.eq (T.names name.now) (OfOpen Closes) self.old result self.new }
         ensures total { budgets L.budget_of self.new ≡ budgets_with L.budget_of (T.names name.now) 0 self.old }

@@ -1,6 +1,6 @@
 use thiserror::Error;
 
-/// Why a call on a tenant failed.
+/// Why a call on a tenant failed. After an error other than `Memory`, nothing has changed.
 ///
 /// ```
 /// assert_eq!(rt; cache.open(1, 5), Err(TenantError::AlreadyOpen));
@@ -13,7 +13,7 @@ pub enum TenantError {
     NotOpen = 2,
     #[error("out of memory")]
     Memory = 3,
-    /// The sum of all budgets would be above the total limit.
+    /// The sum of all budgets, or of all shares, would be above the limit.
     #[error("over the total limit")]
     OverTotal = 4,
 }

@@ -9,7 +9,7 @@ use schnellru::RandomState;
 use std::test::Fail;
 use test_helpers::{all, check};
 
-/// Puts a value for one tenant. The map of each other tenant does not change.
+/// Puts a value for one tenant.
 fn put_beside(
     cache: &mut TenantCache<u64, u64, u64>,
     name: &u64,
@@ -29,8 +29,7 @@ fn page_of(path: &String) -> Result<String, TenantError> {
     }
 }
 
-/// Gets the page of each path of a host, or else puts it. Returns how many pages were there. Every other host keeps its
-/// map, if its cost is within its share.
+/// Gets the page of each path of a host, or else puts it. Returns how many pages were there.
 fn serve(
     pool: &mut TenantPool<String, String, String>,
     host: &str,

@@ -22,7 +22,6 @@ use std::marker::Model;
 /// }
 /// ```
 pub trait Question<K, V> {
-    /// The value answers the key.
     ghost answers: { K → V → Type 0 };
 }
 

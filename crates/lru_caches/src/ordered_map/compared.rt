@@ -3,7 +3,7 @@ use schnellru::KeyHasher;
 use std::fmt;
 use std::hash::Hash;
 
-/// Maps are equal if they have equal entries in the same order. Their hashers and tables may differ.
+/// Maps are equal if they have equal entries in the same order.
 ///
 /// ```
 /// assert!(rt; map == map && map != OrderedMap::new(alloc));

@@ -50,7 +50,6 @@ impl<'a, K, V> Iterator for Entries<'a, K, V> {
         self.newest_first.next_back()
     }
 
-    /// Returns the number of remaining entries as both bounds.
     fn size_hint(&self) -> (usize, Option<usize>)
         ensures lower { IsWithinCount result.0 (at_most (length self.now)) }
         ensures upper { IfSome result.1 (UpTo (at_most (length self.now))) }

@@ -40,7 +40,6 @@ impl<K: Eq + Hash + Drop, V: Drop, S: KeyHasher<K> + Drop> Iterator for IntoEntr
         self.map.pop_first()
     }
 
-    /// Returns the number of remaining entries as both bounds.
     fn size_hint(&self) -> (usize, Option<usize>)
         ensures lower { IsWithinCount result.0 (at_most (length self.now)) }
         ensures upper { IfSome result.1 (UpTo (at_most (length self.now))) }

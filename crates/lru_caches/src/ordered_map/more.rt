@@ -9,17 +9,13 @@ use std::alloc::AllocError;
 use std::hash::Hash;
 
 impl<K: Eq + Hash, V, S: KeyHasher<K>> OrderedMap<K, V, S> {
-    /// Returns the entry of a key.
-    ///
-    /// The returned key is the stored key, which is equal to the looked-up key, but need not be identical.
+    /// Returns the entry of a key, with the stored key.
     ///
     /// ```
     /// assert!(rt; map.get_key_value(&1) == Some((&1, &11)) && map.get_key_value(&9).is_none());
     /// ```
     ///
     /// Cost: `O(1)` expected.
-    ///
-    /// After std's `HashMap::get_key_value`.
     pub fn get_key_value<Q: LookupKey<K>>(&self, key: &Q) -> Option<(&K, &V)>
         ensures { option_map deref_pair result ≡ lookup_entry (Q.names key.now) self.now }
     {
@@ -27,7 +23,7 @@ impl<K: Eq + Hash, V, S: KeyHasher<K>> OrderedMap<K, V, S> {
         self.map.peek_key_value(key)
     }
 
-    /// Makes the entry of a key the newest, and returns whether the key is there. The other entries keep their order.
+    /// Makes the entry of a key the newest, and returns whether the key is there.
     ///
     /// ```
     /// assert!(rt; map.move_to_back(&1) && !map.move_to_back(&9));
@@ -56,16 +52,13 @@ impl<K: Eq + Hash, V, S: KeyHasher<K>> OrderedMap<K, V, S> {
     /// # Errors
     ///
     /// The errors of `LruMap::try_reserve`.
-    ///
-    /// After indexmap's `IndexMap::try_reserve`.
     pub fn try_reserve(&mut self, n: usize) -> Result<(), ReserveError>
         ensures { self.new ≡ self.old }
     {
         self.map.try_reserve(n)
     }
 
-    /// Shrinks the table to the smallest number of buckets that can hold the entries. Returns whether the table had
-    /// more buckets.
+    /// Shrinks the table to the smallest that can hold the entries. Returns whether the table was larger.
     ///
     /// ```
     /// assert_eq!(rt; map.try_reserve(100), Ok(()));
@@ -77,8 +70,6 @@ impl<K: Eq + Hash, V, S: KeyHasher<K>> OrderedMap<K, V, S> {
     /// # Errors
     ///
     /// Out of memory.
-    ///
-    /// After indexmap's `IndexMap::shrink_to_fit`.
     pub fn shrink_to_fit(&mut self) -> Result<bool, AllocError>
         ensures { self.new ≡ self.old }
     {

@@ -13,7 +13,6 @@ use schnellru::KeyHasher;
 use std::ops::Range;
 
 impl<B: Copy, D: BlockDevice<B>, S: KeyHasher<u64>> PageCache<B, D, S> {
-    /// Makes a page the newest. If the page is not cached, reads it first.
     pub(super) fn bring(&mut self, n: u64) -> Result<(), PageError<D::Error>>
         ensures page { OnOk result ((block : B)
             × (D.IsHonest self.new.device → shown D.BlockDevice self.new n ≡ Some (D.seen block))
@@ -42,9 +41,9 @@ impl<B: Copy, D: BlockDevice<B>, S: KeyHasher<u64>> PageCache<B, D, S> {
 
     /// Returns a block, and makes its page the newest.
     ///
-    /// If the page is not cached and the cache is full, the oldest page that may be evicted is evicted. If this page is
-    /// dirty, it is written to the device first. A pinned page may not be evicted. If the cache [keeps dirty
-    /// pages](Self::set_keeps_dirty), a dirty page may not be evicted either.
+    /// If the page is not cached and the cache is full, the cache evicts the oldest page that may be evicted, and first
+    /// writes the page to the device if it is dirty. A pinned page may not be evicted, nor a dirty page if the cache
+    /// [keeps dirty pages](Self::set_keeps_dirty).
     ///
     /// ```
     /// assert_eq!(rt; (cache.read(1), cache.len()), (Ok(20), 1));
@@ -55,9 +54,8 @@ impl<B: Copy, D: BlockDevice<B>, S: KeyHasher<u64>> PageCache<B, D, S> {
     ///
     /// # Errors
     ///
-    /// No error if the page is cached. `Broken`: a `sync` has failed. `NoBlock`: the device has no such number. `Full`:
-    /// no page may be evicted. `Device`: the read failed, or a page could not be written back; no page was evicted.
-    /// `Memory`: out of memory for one more page; a page may have been evicted.
+    /// No error if the page is cached. `Broken`, `NoBlock` or `Full`. `Device`: the read failed, or a page could not be
+    /// written back; no page was evicted. `Memory`: a page may have been evicted.
     pub fn read(&mut self, n: u64) -> Result<B, PageError<D::Error>>
         ensures block { IfOk result (λ block. D.IsHonest self.new.device
             → shown D.BlockDevice self.new n ≡ Some (D.seen block)) }
@@ -99,9 +97,7 @@ impl<B: Copy, D: BlockDevice<B>, S: KeyHasher<u64>> PageCache<B, D, S> {
         Ok(read_newest(&self.map, read))
     }
 
-    /// Brings the blocks of these numbers into the cache, by a `read` of each, in order.
-    ///
-    /// If there are more blocks than the capacity, later reads evict earlier blocks.
+    /// Calls `read` for each of these numbers, in order.
     ///
     /// ```
     /// assert!(rt; cache.prefetch(2..4) == Ok(()) && cache.contains(2) && cache.contains(3));
@@ -138,8 +134,7 @@ impl<B: Copy, D: BlockDevice<B>, S: KeyHasher<u64>> PageCache<B, D, S> {
     ///
     /// # Errors
     ///
-    /// `Broken`: a `sync` has failed. `NoBlock`: the device has no such number. No other error if the page is cached.
-    /// `Full`, `Device` and `Memory` as for `read`. After an error the block is not replaced.
+    /// `Broken`: a `sync` has failed. The other errors are as for `read`. After an error the block is not replaced.
     pub fn write(&mut self, n: u64, block: B) -> Result<(), PageError<D::Error>>
         ensures written { OnOk result (shown D.BlockDevice self.new n ≡ Some (D.seen block)) }
         ensures others { D.IsHonest self.new.device →

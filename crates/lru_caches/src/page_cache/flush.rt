@@ -1,4 +1,4 @@
-//! The steps of a flush: the dirty pages are written in the order of their numbers, and then the device is synced.
+//! The steps of a flush.
 ghost use Rattle.std.specs.Prelude.{◌≡◌, ◌≢◌, ◌⊎◌, ◌≤◌, ◌<◌, ℕ, length, nat_eq, Some, true, false};
 ghost use Rattle.std.specs.Prelude.{◌++◌, List, All, vec_capacity, IsPermutation, IsTrue, IfErr, OnOk, OnErr};
 ghost use Rattle.std.specs.List.{IsDistinct};
@@ -192,7 +192,7 @@ impl<B: Copy, D: BlockDevice<B>, S: KeyHasher<u64>> PageCache<B, D, S> {
     ///
     /// # Errors
     ///
-    /// `Device`: the write failed, and the page stays dirty. `Broken`: a `sync` has failed.
+    /// `Broken`. `Device`: the write failed, and the page stays dirty.
     pub fn flush_page(&mut self, n: u64) -> Result<(), PageError<D::Error>>
         ensures keeps { ShowsTheSame D.BlockDevice self.old self.new }
         ensures pages { OnOk result (self.new.pages ≡ cleaned_at n self.old.pages) }

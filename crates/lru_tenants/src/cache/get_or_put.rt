@@ -24,11 +24,9 @@ impl<
 > TenantCache<N, K, V, L, S> {
     ghost use Rattle.lru_tenants.specs.Lending.{ends_so};
 
-    /// Returns a tenant's value of a key. If the key is not there, first puts the key with the value that the closure
-    /// returns.
+    /// Does what `get` does if the key is there. Otherwise puts the value that the closure returns, and returns it.
     ///
-    /// If the key is there, its entry becomes the tenant's newest, and the closure is not called. `None` means that the
-    /// tenant does not keep the new entry.
+    /// If the key is there, the closure is not called. `None` means that the tenant does not keep the new entry.
     ///
     /// ```
     /// assert_eq!(rt; cache.get_or_put(&1, 7, || 3), Ok(Some(&2)));
@@ -39,7 +37,7 @@ impl<
     ///
     /// # Errors
     ///
-    /// Fails as `put` does. If the error is `Memory`, the closure was called.
+    /// As `put`. Before `Memory` the closure was called.
     pub fn get_or_put<T: LookupKey<N>, F: FnOnce() -> V>(
         &mut self,
         name: &T,

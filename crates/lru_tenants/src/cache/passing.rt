@@ -1,4 +1,4 @@
-//! Calls that pass the entries that are evicted or removed to a callback.
+//! Calls that pass evicted or removed entries to a callback.
 ghost use Rattle.std.specs.Prelude.{◌≡◌, List, Some, true, false, Ok, IfOk, IfSome};
 ghost use Rattle.std.specs.Result.{OnErr};
 ghost use Rattle.lru_limits.specs.Admissions.{offers_of};
@@ -26,8 +26,8 @@ impl<
     S: KeyHasher<K> + Copy,
 > TenantCache<N, K, V, L, S> {
     /// Does what `put` does, and passes entries to the callback: the evicted entries, oldest first; an entry that is
-    /// removed because its new value is rejected; and the new entry if it could not be stored. A replaced value is not
-    /// passed on. A rejected entry of a new key is not passed on either.
+    /// removed because its new value is rejected; and the new entry if it could not be stored. Replaced values and
+    /// rejected entries of new keys are not passed on.
     ///
     /// ```
     /// let mut left = 0u64;
@@ -39,7 +39,7 @@ impl<
     ///
     /// # Errors
     ///
-    /// Fails as `put` does.
+    /// As `put`.
     pub fn put_with<T: LookupKey<N>, F: FnMut(K, V)>(
         &mut self,
         name: &T,
@@ -80,7 +80,7 @@ impl<
     ///
     /// # Errors
     ///
-    /// Fails as `put` does. After `NotOpen` the key and the value are dropped; after `Memory` the callback got both.
+    /// As `put`. After `NotOpen` the key and the value are dropped; after `Memory` the callback got both.
     pub fn put_full<T: LookupKey<N>, F: FnMut(K, V)>(
         &mut self,
         name: &T,
@@ -121,7 +121,7 @@ impl<
     ///
     /// # Errors
     ///
-    /// Fails as `set_budget` does.
+    /// As `set_budget`.
     pub fn set_budget_with<T: LookupKey<N>, F: FnMut(K, V)>(
         &mut self,
         name: &T,
@@ -166,7 +166,7 @@ impl<
     ///
     /// # Errors
     ///
-    /// `NotOpen`: nothing has changed.
+    /// `NotOpen`.
     pub fn close_with<T: LookupKey<N>, F: FnMut(K, V)>(
         &mut self,
         name: &T,

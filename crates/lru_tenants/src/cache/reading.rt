@@ -35,7 +35,7 @@ impl<N: Eq + Hash, K: Eq + Hash, V, L: Budgeted<K, V>, S: KeyHasher<K> + Copy> T
     ///
     /// # Errors
     ///
-    /// `NotOpen`: nothing has changed.
+    /// `NotOpen`.
     pub fn get<T: LookupKey<N>, Q: LookupKey<K>>(
         &mut self,
         name: &T,
@@ -81,7 +81,7 @@ impl<N: Eq + Hash, K: Eq + Hash, V, L: Budgeted<K, V>, S: KeyHasher<K> + Copy> T
         Ok(map.peek(key))
     }
 
-    /// Returns whether a tenant has an entry of a key. The order stays.
+    /// Returns whether a tenant has an entry of a key.
     ///
     /// ```
     /// assert_eq!(rt; cache.contains(&1, &7), Ok(true));
@@ -106,7 +106,7 @@ impl<N: Eq + Hash, K: Eq + Hash, V, L: Budgeted<K, V>, S: KeyHasher<K> + Copy> T
         Ok(map.contains(key))
     }
 
-    /// Returns an iterator over a tenant's entries, newest first. The order stays.
+    /// Returns an iterator over a tenant's entries, newest first.
     ///
     /// ```
     /// assert!(rt; cache.iter(&1)?.next() == Some((&7, &2)));

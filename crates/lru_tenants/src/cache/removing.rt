@@ -29,7 +29,7 @@ impl<
     ///
     /// # Errors
     ///
-    /// `NotOpen`: nothing has changed.
+    /// `NotOpen`.
     pub fn remove<T: LookupKey<N>, Q: LookupKey<K>>(
         &mut self,
         name: &T,
@@ -45,9 +45,8 @@ impl<
         Ok(remove(own, key))
     }
 
-    /// Removes a tenant's entries for which the closure returns false. The others keep their order.
-    ///
-    /// The closure is called with each entry of the tenant, oldest first.
+    /// Removes a tenant's entries for which the closure returns false. The closure is called with each entry, oldest
+    /// first.
     ///
     /// ```
     /// assert_eq!(rt; (cache.put(&1, 8, 1), cache.retain(&1, |key, _| *key == 8)), (Ok(true), Ok(())));
@@ -58,7 +57,7 @@ impl<
     ///
     /// # Errors
     ///
-    /// `NotOpen`: nothing has changed.
+    /// `NotOpen`.
     pub fn retain<T: LookupKey<N>, F: FnMut(&K, &V) -> bool>(
         &mut self,
         name: &T,
@@ -87,7 +86,7 @@ impl<
     ///
     /// # Errors
     ///
-    /// `NotOpen`: nothing has changed.
+    /// `NotOpen`.
     pub fn clear<T: LookupKey<N>>(&mut self, name: &T) -> Result<(), TenantError>
         ensures clears { On N.eq (T.names name.now) (IfOpen (λ old done new. new ≡ cleared L.rules old))
             self.old result self.new }

@@ -17,7 +17,7 @@ impl<N: Eq + Hash, K: Eq + Hash, V, L: Budgeted<K, V>, S: KeyHasher<K> + Copy> T
     L,
     S,
 > {
-    /// Sets the limit of the sum of all tenants' budgets. `None` means that there is no limit.
+    /// Sets the limit of the sum of all tenants' budgets. `None` lifts the limit.
     ///
     /// ```
     /// assert_eq!(rt; cache.set_total_limit(Some(5)), Ok(()));
@@ -28,7 +28,7 @@ impl<N: Eq + Hash, K: Eq + Hash, V, L: Budgeted<K, V>, S: KeyHasher<K> + Copy> T
     ///
     /// # Errors
     ///
-    /// `OverTotal`: the sum is above the limit, and nothing has changed.
+    /// `OverTotal`: the sum is above the limit.
     pub fn set_total_limit(&mut self, limit: Option<u64>) -> Result<(), TenantError>
         ensures over { is_above limit (budgets L.budget_of self.old) ≡ true →
             (result ≡ Err OverTotal) × (self.new ≡ self.old) }
@@ -70,7 +70,7 @@ impl<N: Eq + Hash, K: Eq + Hash, V, L: Budgeted<K, V>, S: KeyHasher<K> + Copy> T
         self.budgets
     }
 
-    /// Returns the sum of the costs of the entries of all tenants.
+    /// Returns the sum of the costs of all entries.
     ///
     /// ```
     /// assert_eq!(rt; (cache.total_cost(), cache.total_budget()), (2, 3));
