@@ -1,17 +1,16 @@
 // Erased from crates/lru_caches/src/device.rt: do not edit.
-//! The trait of devices: numbered blocks that are read and written one at a time, and synced.
+//! The trait of devices.
 
 #[allow(unused_imports)]
 use crate::rattle_std::prelude::*;
 
 /// A device of numbered blocks, such as a disk or a file. Any call may fail.
 ///
-/// Between two syncs, a crash may lose and reorder writes. A crash may leave each block as it was at the last `sync`,
-/// as it was written later, or torn. A write changes only its own block, even if it fails or the machine stops in the
-/// middle. After a failed `sync`, no clause says what the blocks are, and no `read`, `write` or `sync` may be called.
+/// A crash may leave each block as it was at the last `sync`, as it was written later, or torn. A write changes only
+/// its own block, even if it fails or the machine stops in the middle. After a failed `sync`, no clause says what the
+/// blocks are, and no `read`, `write` or `sync` may be called.
 ///
-/// For most devices a contract sees the block itself: `ghost seen = { λ block. block };`. If two blocks have the same
-/// `seen`, contracts do not distinguish them.
+/// For most devices a contract sees the block itself: `ghost seen = { λ block. block };`.
 ///
 /// ```text
 /// let calls_left = Cell::new(2);           // the third call fails
@@ -41,8 +40,7 @@ pub trait BlockDevice<B> {
     /// The device failed. No block has changed.
     fn read(&mut self, n: u64) -> Result<B, Self::Error>;
 
-    /// Replaces a block. A crash may now leave the new block or a torn block, in addition to the blocks that it might
-    /// leave before.
+    /// Replaces a block. A crash may now also leave the new block or a torn block.
     ///
     /// # Errors
     ///

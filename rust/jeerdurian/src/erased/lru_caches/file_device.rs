@@ -40,8 +40,7 @@ impl ::core::fmt::Display for FileError {
 /// A device of the blocks of a file, of `N` bytes each.
 ///
 /// Nothing is proved about the bytes that an operating system returns or keeps. So contracts see a record of the calls
-/// on the file (`specs/Files`), which takes no memory. The premise `IsHonest` says that each read of a known block
-/// returned this block.
+/// on the file (`specs/Files`), which takes no memory.
 ///
 /// [`HashedFileDevice`] also detects torn and damaged blocks.
 ///
@@ -76,8 +75,7 @@ impl<F: Read + Write + Seek, const N: usize> FileDevice<F, N> {
     /// Makes a device of all blocks that the file has whole. Nothing is proved of their number.
     ///
     /// ```text
-    /// let file = Cursor::new(*b"zeroone.two.thr");
-    /// assert_eq!(rt; FileDevice::<_, 4>::open(file)?.len(), 3);
+    /// assert_eq!(rt; FileDevice::<_, 4>::open(Cursor::new(*b"zeroone.two.thr"))?.len(), 3);
     /// ```
     ///
     /// Cost: a seek to the end of the file.

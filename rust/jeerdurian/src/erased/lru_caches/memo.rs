@@ -11,10 +11,9 @@ use crate::rattle_std::hash::Hash;
 pub(crate) mod loader;
 pub(crate) mod table;
 
-/// A function with its newest results, up to a limit. If a result is stored, the function is not called.
+/// A function with its newest results, up to a limit.
 ///
-/// A call of `answer` returns a result of the function (clause `answer`), and is a step of a map: the stored result
-/// becomes the newest, or the new result is inserted (clause `step`).
+/// A call of `answer` returns a result of the function (clause `answer`), and is a step of a map (clause `step`).
 ///
 /// ```text
 /// let mut squares = Memo::new(alloc, ByLength::new(9), |n: &u64| n.wrapping_mul(*n));
@@ -79,10 +78,10 @@ impl<K: Eq + Hash, V, F: Fn(&K) -> V, L: Insertion<K, V, K>, S: KeyHasher<K>> Me
 }
 
 impl<K: Eq + Hash, V: Copy, F: Fn(&K) -> V, L: Insertion<K, V, K>, S: KeyHasher<K>> Memo<K, V, F, L, S> {
-    /// Returns a result of the function at a key. If no result is stored, calls the function and stores the result.
+    /// Returns a result of the function at a key or at an equal key. If no result is stored, calls the function and
+    /// stores the result.
     ///
-    /// If the memo runs out of memory or its limiter rejects the result, the result is not stored, but still returned.
-    /// If the function returns different results at equal keys, a key may get the result of an equal key.
+    /// If memory runs out or the limiter rejects the result, it is returned but not stored.
     ///
     /// ```text
     /// assert_eq!(rt; (squares.answer(3), squares.len()), (9, 1));

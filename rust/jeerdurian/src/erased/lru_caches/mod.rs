@@ -1,10 +1,10 @@
 // Erased from crates/lru_caches/src/lib.rt: do not edit.
 //! Caches above the verified LRU map.
 //!
-//! [`PageCache`] keeps the blocks of a [`BlockDevice`] that were used last, and writes changed blocks back when it
-//! evicts or flushes them. [`FileDevice`] and [`HashedFileDevice`] are devices over a [`Durable`] file. [`Memo`] stores
-//! the newest results of a function, [`Loader`] does so for a function that may fail, and [`MemoTable`] for a function
-//! that calls itself. [`OrderedMap`] is a hash map whose entries are in the order of insertion.
+//! [`PageCache`] is a write-back cache of a [`BlockDevice`]. [`FileDevice`] and [`HashedFileDevice`] are devices over a
+//! [`Durable`] file. [`Memo`] stores the newest results of a function, [`Loader`] does so for a function that may fail,
+//! and [`MemoTable`] for a function that calls itself. [`OrderedMap`] is a hash map whose entries are in the order of
+//! insertion.
 
 #[allow(unused_imports)]
 use crate::rattle_std::prelude::*;

@@ -19,10 +19,10 @@ mod more;
 
 /// A hash map whose entries are in the order of insertion, oldest first.
 ///
-/// The map evicts nothing. If a new key needs a larger table and the table cannot grow, the insert fails and changes
-/// nothing.
+/// The map evicts nothing. An insert that cannot grow the table fails and changes nothing.
 ///
-/// In the examples of the calls, `map` contains (1, 11) and then (2, 20).
+/// A call follows indexmap's `IndexMap` call of the same name, unless its comment names another call. In the examples,
+/// `map` contains (1, 11) and then (2, 20).
 ///
 /// ```text
 /// let mut map: OrderedMap<u64, u64> = OrderedMap::new(alloc);
@@ -43,8 +43,6 @@ impl<K: Eq + Hash, V> OrderedMap<K, V, RandomState> {
     /// ```text
     /// let mut map: OrderedMap<u64, u64> = OrderedMap::new(alloc);
     /// ```
-    ///
-    /// After std's `HashMap::new`.
     pub fn new(alloc: Global) -> Self {
         OrderedMap::with_hasher(alloc, RandomState::default())
     }
@@ -58,8 +56,6 @@ impl<K: Eq + Hash, V, S: KeyHasher<K>> OrderedMap<K, V, S> {
     /// let map: OrderedMap<u64, u64> = OrderedMap::with_hasher(alloc, seeded);
     /// assert!(rt; map.is_empty());
     /// ```
-    ///
-    /// After std's `HashMap::with_hasher`.
     pub fn with_hasher(alloc: Global, hasher: S) -> Self {
         OrderedMap { map: LruMap::with_limiter_and_hasher(alloc, Unlimited, hasher) }
     }
@@ -89,8 +85,6 @@ impl<K: Eq + Hash, V, S: KeyHasher<K>> OrderedMap<K, V, S> {
     /// ```text
     /// assert!(rt; map.contains_key(&1) && !map.contains_key(&9));
     /// ```
-    ///
-    /// After std's `HashMap::contains_key`.
     pub fn contains_key<Q: LookupKey<K>>(&self, key: &Q) -> bool {
         distinct(&self.map);
         self.map.contains(key)
@@ -103,8 +97,6 @@ impl<K: Eq + Hash, V, S: KeyHasher<K>> OrderedMap<K, V, S> {
     /// ```
     ///
     /// Cost: `O(1)` expected.
-    ///
-    /// After indexmap's `IndexMap::get`.
     pub fn get<Q: LookupKey<K>>(&self, key: &Q) -> Option<&V> {
         distinct(&self.map);
         self.map.peek(key)
@@ -120,8 +112,6 @@ impl<K: Eq + Hash, V, S: KeyHasher<K>> OrderedMap<K, V, S> {
     /// ```
     ///
     /// Cost: `O(1)` expected.
-    ///
-    /// After indexmap's `IndexMap::get_mut`.
     pub fn get_mut<Q: LookupKey<K>>(&mut self, key: &Q) -> Option<&mut V> {
         distinct(&self.map);
         self.map.peek_mut(key)
@@ -134,8 +124,6 @@ impl<K: Eq + Hash, V, S: KeyHasher<K>> OrderedMap<K, V, S> {
     /// ```
     ///
     /// Cost: `O(1)`.
-    ///
-    /// After indexmap's `IndexMap::first`.
     pub fn first(&self) -> Option<(&K, &V)> {
         self.map.peek_oldest()
     }
@@ -147,13 +135,11 @@ impl<K: Eq + Hash, V, S: KeyHasher<K>> OrderedMap<K, V, S> {
     /// ```
     ///
     /// Cost: `O(1)`.
-    ///
-    /// After indexmap's `IndexMap::last`.
     pub fn last(&self) -> Option<(&K, &V)> {
         self.map.peek_newest()
     }
 
-    /// Removes and returns the oldest entry, if there is one.
+    /// Removes and returns the oldest entry.
     ///
     /// ```text
     /// assert_eq!(rt; map.pop_first(), Some((1, 11)));
@@ -166,7 +152,7 @@ impl<K: Eq + Hash, V, S: KeyHasher<K>> OrderedMap<K, V, S> {
         self.map.pop_oldest()
     }
 
-    /// Removes and returns the newest entry, if there is one.
+    /// Removes and returns the newest entry.
     ///
     /// ```text
     /// assert_eq!(rt; map.pop_last(), Some((2, 20)));
@@ -200,8 +186,6 @@ impl<K: Eq + Hash, V, S: KeyHasher<K>> OrderedMap<K, V, S> {
     /// ```
     ///
     /// Cost: `O(1)`, and so is each step from either end.
-    ///
-    /// After std's `HashMap::keys`.
     pub fn keys(&self) -> Keys<'_, K, V> {
         Keys::new(self.iter())
     }
@@ -213,8 +197,6 @@ impl<K: Eq + Hash, V, S: KeyHasher<K>> OrderedMap<K, V, S> {
     /// ```
     ///
     /// Cost: `O(1)`, and so is each step from either end.
-    ///
-    /// After std's `HashMap::values`.
     pub fn values(&self) -> Values<'_, K, V> {
         Values::new(self.iter())
     }
@@ -230,8 +212,6 @@ impl<K: Eq + Hash, V, S: KeyHasher<K>> OrderedMap<K, V, S> {
     /// ```
     ///
     /// Cost: `O(1)`, and so is each step from either end.
-    ///
-    /// After indexmap's `IndexMap::iter`.
     pub fn iter(&self) -> Entries<'_, K, V> {
         Entries::new(self.map.iter())
     }
@@ -263,13 +243,11 @@ impl<K: Eq + Hash, V, S: KeyHasher<K>> OrderedMap<K, V, S> {
     /// assert_eq!(rt; map.insert(1, 11)?, Some(10));
     /// ```
     ///
-    /// Cost: `O(1)` expected, amortised over the inserts. An insert that grows the table moves all entries.
+    /// Cost: `O(1)` expected, amortised over the inserts.
     ///
     /// # Errors
     ///
     /// Out of memory for a new key, or the link type cannot number the buckets of a larger table. Nothing has changed.
-    ///
-    /// After indexmap's `IndexMap::insert`.
     pub fn insert(&mut self, key: K, value: V) -> Result<Option<V>, AllocError> {
         distinct(&self.map);
         let Err((key, value)) = self.map.try_insert(key, value) else {
@@ -281,7 +259,7 @@ impl<K: Eq + Hash, V, S: KeyHasher<K>> OrderedMap<K, V, S> {
         Err(AllocError)
     }
 
-    /// Removes the entries for which the closure returns false. The other entries keep their order.
+    /// Removes the entries for which the closure returns false.
     ///
     /// The closure is called with each entry, oldest first.
     ///
@@ -303,8 +281,6 @@ impl<K: Eq + Hash, V, S: KeyHasher<K>> OrderedMap<K, V, S> {
     /// map.clear();
     /// assert!(rt; map.is_empty());
     /// ```
-    ///
-    /// After std's `HashMap::clear`.
     pub fn clear(&mut self) {
         self.map.clear();
     }

@@ -1,5 +1,5 @@
 // Erased from crates/lru_caches/src/page_cache.rt: do not edit.
-//! `PageCache`. A contract sees a cache as a `Cached`: its pages (newest first), capacity, mode, counts and device.
+//! `PageCache`. A contract sees a cache as a `Cached`.
 
 #[allow(unused_imports)]
 use crate::rattle_std::prelude::*;
@@ -18,10 +18,9 @@ mod laws;
 mod pages;
 mod pins;
 
-/// Why a call on a page cache failed. A failed call changes no block that the cache shows. But after a failed `sync`,
-/// no clause says which blocks the cache shows.
+/// Why a call on a page cache failed. Unless a `sync` failed, the call changed no block that the cache shows.
 ///
-/// The text contains the text of the device's error, so a `PageError<E>` is `Display` if `E` is.
+/// A `PageError<E>` is `Display` if `E` is.
 ///
 /// ```text
 /// assert_eq!(rt; cache.read(4), Err(PageError::NoBlock));
@@ -29,14 +28,13 @@ mod pins;
 #[derive(Debug, PartialEq)]
 
 pub enum PageError<E> {
-    /// The device failed, with this error.
     Device(E),
     /// Out of memory for one more page, or there are 1,879,048,192 pages, the most that the table holds.
     Memory,
     /// The device has no block of this number.
     NoBlock,
-    /// The cache is full, and no page may be evicted: each page is pinned, or is dirty in a cache that keeps dirty
-    /// pages. Nothing has changed.
+    /// The cache is full, and no page may be evicted: each is pinned, or is dirty and kept until a flush. Nothing has
+    /// changed.
     Full,
     /// A `sync` of the device has failed, so what was written before may be lost. Discard the cache.
     Broken,
@@ -59,12 +57,11 @@ where
 
 /// A write-back cache of the blocks of a device.
 ///
-/// The cache keeps the pinned pages and the pages that were used last, at most `capacity` pages in all. A write changes
-/// only the cached page, which is dirty then. The cache writes a dirty page to the device when it evicts or flushes the
-/// page.
+/// The cache keeps the pinned pages and the pages that were used last, at most `capacity` pages in all. A write makes
+/// the cached page dirty. The cache writes a dirty page to the device when it evicts or flushes the page.
 ///
-/// After a `flush` that returned `Ok`, a crash leaves each block as the cache showed it then. If a later call wrote a
-/// block, a crash may also leave the written block or a torn block. `docs/CACHES.md` says what this requires of a disk.
+/// After a `flush` that returned `Ok`, a crash leaves each block as the cache showed it then, unless a later call wrote
+/// the block. `docs/CACHES.md` says what this requires of a disk.
 ///
 /// Call `close` or `discard` in the end. Code that drops or forgets a cache does not compile, because its dirty pages
 /// would be lost.
@@ -145,7 +142,7 @@ impl<B: Copy, D: BlockDevice<B>, S: KeyHasher<u64>> PageCache<B, D, S> {
         self.map.is_empty()
     }
 
-    /// Returns whether a page is cached. Does not change the order of use.
+    /// Returns whether a page is cached.
     ///
     /// Cost: `O(1)` expected.
     ///
@@ -156,8 +153,7 @@ impl<B: Copy, D: BlockDevice<B>, S: KeyHasher<u64>> PageCache<B, D, S> {
         self.map.contains(&n)
     }
 
-    /// Returns how many calls that read, write or pin a page found the page cached. A call that fails counts nothing.
-    /// The count stops at `u64::MAX`.
+    /// Returns how many successful reads, writes and pins found their page cached. The count stops at `u64::MAX`.
     ///
     /// Cost: `O(1)`.
     ///
@@ -169,7 +165,7 @@ impl<B: Copy, D: BlockDevice<B>, S: KeyHasher<u64>> PageCache<B, D, S> {
         self.counts.hits
     }
 
-    /// Returns how many calls that read, write or pin a page did not find the page cached (see `hits`).
+    /// Returns how many successful reads, writes and pins did not find their page cached (see `hits`).
     ///
     /// Cost: `O(1)`.
     ///
@@ -203,8 +199,8 @@ impl<B: Copy, D: BlockDevice<B>, S: KeyHasher<u64>> PageCache<B, D, S> {
     ///
     /// # Errors
     ///
-    /// `Device`: a write or the `sync` failed. The dirty pages stay dirty. If a write failed, the next flush writes
-    /// them again. If the `sync` failed, the device is not usable from then on. `Broken`: a `sync` had failed before.
+    /// `Broken`. `Device`: a write or the `sync` failed, and the dirty pages stay dirty. After a failed `sync` the
+    /// device is not usable.
     pub fn flush(&mut self) -> Result<(), PageError<D::Error>> {
         if !self.device.is_usable() {
             return Err(PageError::Broken);

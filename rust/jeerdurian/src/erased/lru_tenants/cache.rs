@@ -18,13 +18,12 @@ mod totals;
 
 use totals::is_above;
 
-/// A cache for many tenants, each with a name. Each tenant has a map, limited by its own budget.
+/// A cache for many tenants. Each tenant has a name, and a map limited by its own budget.
 ///
 /// The limiter `L` says what an entry costs. `S` hashes names and keys. The budgets of all tenants add up to at most
 /// the total limit, if `set_total_limit` set one.
 ///
-/// In the examples of the calls, `cache` has one open tenant, 1, with a budget of 3 and the entry (7, 2). Some examples
-/// make another cache.
+/// In the examples of the calls, `cache` has one tenant, 1, with a budget of 3 and the entry (7, 2).
 ///
 /// ```text
 /// let mut cache: TenantCache<u64, u64, u64> = TenantCache::new(alloc, [1, 2, 3, 4], 32);
@@ -57,7 +56,7 @@ impl<N: Eq + Hash, K: Eq + Hash, V: Costed> TenantCache<N, K, V> {
 }
 
 impl<N: Eq + Hash, K: Eq + Hash, V, L: Budgeted<K, V>, S: KeyHasher<K> + Copy> TenantCache<N, K, V, L, S> {
-    /// Makes a cache without tenants, with any limiter that has a budget, and with this hasher of names and keys.
+    /// Makes a cache without tenants, with any limiter that has a budget, and a hasher of names and keys.
     ///
     /// If strangers choose names or keys, take std's `RandomState::new(&rt)?`, whose hashes nobody can guess. Cost:
     /// `O(1)`, and no memory.
@@ -103,7 +102,7 @@ impl<N: Eq + Hash, K: Eq + Hash, V, L: Budgeted<K, V>, S: KeyHasher<K> + Copy> T
 }
 
 impl<N: Eq + Hash, K: Eq + Hash, V, L: Budgeted<K, V>, S: KeyHasher<K> + Copy> TenantCache<N, K, V, L, S> {
-    /// Opens a tenant with an empty map and a budget. The costs of its entries may add up to at most the budget.
+    /// Opens a tenant with an empty map and a budget for the sum of its entries' costs.
     ///
     /// ```text
     /// assert_eq!(rt; cache.open(2, 3), Ok(()));
@@ -114,7 +113,7 @@ impl<N: Eq + Hash, K: Eq + Hash, V, L: Budgeted<K, V>, S: KeyHasher<K> + Copy> T
     ///
     /// # Errors
     ///
-    /// `AlreadyOpen`, `OverTotal` or `Memory`: no tenant has changed.
+    /// `AlreadyOpen`, `OverTotal` or `Memory`: nothing has changed.
     pub fn open(&mut self, name: N, budget: u64) -> Result<(), TenantError> {
         if self.tenants.contains(&name) {
             return Err(TenantError::AlreadyOpen);
@@ -141,8 +140,8 @@ impl<N: Eq + Hash, K: Eq + Hash, V, L: Budgeted<K, V>, S: KeyHasher<K> + Copy> T
     /// Inserts a key with a value, as the newest entry of the tenant. Returns whether the key is there afterwards.
     ///
     /// The limiter rejects an entry if its cost alone is above the budget, or if the tenant's total would be above
-    /// `u64::MAX`. If the key is there, a rejection removes its entry. If the limiter accepts the entry, the tenant's
-    /// oldest entries are evicted until the total is within the budget.
+    /// `u64::MAX`. A rejection removes the key's old entry. If the limiter accepts the entry, the tenant's oldest
+    /// entries are evicted until the total is within the budget.
     ///
     /// ```text
     /// assert_eq!(rt; cache.put(&1, 8, 1), Ok(true));
@@ -153,8 +152,7 @@ impl<N: Eq + Hash, K: Eq + Hash, V, L: Budgeted<K, V>, S: KeyHasher<K> + Copy> T
     ///
     /// # Errors
     ///
-    /// `NotOpen`: nothing has changed. `Memory`: out of memory for the entry. Some of the tenant's oldest entries may
-    /// have been evicted.
+    /// `NotOpen`, or `Memory`: some of the tenant's oldest entries may have been evicted.
     pub fn put<T: LookupKey<N>>(&mut self, name: &T, key: K, value: V) -> Result<bool, TenantError> {
         self.put_with(name, key, value, &mut |_, _| {})
     }
@@ -169,12 +167,12 @@ impl<N: Eq + Hash, K: Eq + Hash, V, L: Budgeted<K, V>, S: KeyHasher<K> + Copy> T
     ///
     /// # Errors
     ///
-    /// `NotOpen` or `OverTotal`: nothing has changed.
+    /// `NotOpen` or `OverTotal`.
     pub fn set_budget<T: LookupKey<N>>(&mut self, name: &T, budget: u64) -> Result<(), TenantError> {
         self.set_budget_with(name, budget, &mut |_, _| {})
     }
 
-    /// Closes a tenant and drops its entries. Returns how many entries there were.
+    /// Closes a tenant and drops its entries. Returns their number.
     ///
     /// ```text
     /// assert_eq!(rt; (cache.len(), cache.close(&1), cache.len()), (1, Ok(1), 0));
@@ -184,7 +182,7 @@ impl<N: Eq + Hash, K: Eq + Hash, V, L: Budgeted<K, V>, S: KeyHasher<K> + Copy> T
     ///
     /// # Errors
     ///
-    /// `NotOpen`: nothing has changed.
+    /// `NotOpen`.
     pub fn close<T: LookupKey<N>>(&mut self, name: &T) -> Result<usize, TenantError> {
         let Some(map) = self.take_tenant(name) else {
             return Err(TenantError::NotOpen);

@@ -2,7 +2,7 @@
 #[allow(unused_imports)]
 use crate::rattle_std::prelude::*;
 
-/// Why a call on a tenant failed.
+/// Why a call on a tenant failed. After an error other than `Memory`, nothing has changed.
 ///
 /// ```text
 /// assert_eq!(rt; cache.open(1, 5), Err(TenantError::AlreadyOpen));
@@ -14,7 +14,7 @@ pub enum TenantError {
     NotOpen = 2,
 
     Memory = 3,
-    /// The sum of all budgets would be above the total limit.
+    /// The sum of all budgets, or of all shares, would be above the limit.
     OverTotal = 4,
 }
 

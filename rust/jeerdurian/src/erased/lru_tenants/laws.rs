@@ -19,8 +19,7 @@ use crate::rattle_std::hash::Hash;
 /// ```
 pub fn each_tenant_has_its_own_run<N: Eq + Hash, K: Eq + Hash, V, L: Budgeted<K, V>, S: KeyHasher<K>>() {}
 
-/// If there is a total limit, the costs of the entries of all tenants add up to at most this limit. This holds for
-/// every cache, so after any list of calls.
+/// If there is a total limit, the costs of the entries of all tenants add up to at most this limit.
 ///
 /// ```text
 /// costs_are_within_the_total_limit(&cache);
@@ -32,12 +31,11 @@ pub fn costs_are_within_the_total_limit<N: Eq + Hash, K: Eq + Hash, V, L: Budget
     let _sum = cache.total_budget();
 }
 
-/// If each call of a list names another tenant of a pool, a tenant keeps its share and loses only its oldest entries. If
-/// its cost is within its share, its map stays as it is (`others`).
+/// If no call of a list names a tenant of a pool, the tenant keeps its share and loses only its oldest entries. If its
+/// cost is within its share, its map stays as it is (`others`).
 ///
-/// The premise: each call spares every tenant except the one that it names. The clause `spares` of `put` says this, and
-/// it holds of each other call, because it leaves those tenants as they are (`leaves`). `joins` joins calls on one
-/// tenant.
+/// The premise: each call spares every tenant that it does not name. The clause `spares` of `put` says so; the other
+/// calls do not change these tenants (`leaves`). `joins` joins calls on one tenant.
 ///
 /// ```text
 /// calls_spare_other_tenants::<u64, u64, u64, ByCost, RandomState>();

@@ -1,8 +1,8 @@
 // Erased from crates/lru_tenants/src/lib.rt: do not edit.
-//! A cache for many tenants: each has its own map, limited by its own budget.
+//! Caches for many tenants.
 //!
-//! [`TenantCache`] is the cache, and [`run_tenants`] carries out a list of calls on it. `docs/TENANTS.md` shows how to
-//! use it, and what is proved about it.
+//! In a [`TenantCache`] each tenant has its own budget. In a [`TenantPool`] all tenants share one limit.
+//! `docs/TENANTS.md` says how to use them, and what is proved.
 
 #[allow(unused_imports)]
 use crate::rattle_std::prelude::*;

@@ -18,15 +18,13 @@ mod reading;
 use evict::settle;
 use part::{Part, cost_of, opened};
 
-/// A cache for many tenants that share one limit. Each tenant has a share of the limit that is its own; the rest is for
-/// whoever needs it.
+/// A cache for many tenants. Each tenant has its own share of one limit; the rest is for whoever needs it.
 ///
-/// The costs of all entries add up to at most the limit. While a tenant's cost is within its share, no call of another
-/// tenant changes it. If a `put` takes the total above the limit, entries are evicted: each time the oldest entry of the
-/// tenant that is furthest above its share, the tenant of the `put` included.
+/// All costs add up to at most the limit. While a tenant's cost is within its share, no call of another tenant changes
+/// the tenant. `put` says which entries it evicts.
 ///
-/// In the examples of the calls, `pool` has a limit of 5 and two open tenants: 1 with a share of 3 and the entry (7, 2),
-/// and 2 with a share of 1 and no entry.
+/// In the examples of the calls, `pool` has a limit of 5 and two tenants: 1 with a share of 3 and the entry (7, 2), and
+/// 2 with a share of 1 and no entry.
 ///
 /// ```text
 /// let mut pool: TenantPool<u64, u64, u64> = TenantPool::new(alloc, [1, 2, 3, 4], 32, 5);
@@ -45,9 +43,7 @@ pub struct TenantPool<N: Eq + Hash, K: Eq + Hash, V, L: Budgeted<K, V> = ByCost,
 }
 
 impl<N: Eq + Hash, K: Eq + Hash, V: Costed> TenantPool<N, K, V> {
-    /// Makes a pool without tenants, whose entries cost what their values cost.
-    ///
-    /// If strangers choose names or keys, take seeds that nobody can guess. Cost: `O(1)`, and no memory.
+    /// Makes a pool without tenants (see `TenantCache::new`). Cost: `O(1)`, and no memory.
     ///
     /// ```text
     /// let mut pool: TenantPool<u64, u64, u64> = TenantPool::new(alloc, [1, 2, 3, 4], 32, 5);
@@ -59,9 +55,7 @@ impl<N: Eq + Hash, K: Eq + Hash, V: Costed> TenantPool<N, K, V> {
 }
 
 impl<N: Eq + Hash, K: Eq + Hash, V, L: Budgeted<K, V>, S: KeyHasher<K> + Copy> TenantPool<N, K, V, L, S> {
-    /// Makes a pool as `new` does, but under any limiter with a budget, and with this hasher of names and keys.
-    ///
-    /// Each entry takes `entry_bytes` of its table. Cost: `O(1)`, and no memory.
+    /// Makes a pool without tenants (see `TenantCache::with_hasher`). Cost: `O(1)`, and no memory.
     ///
     /// ```text
     /// let mut weighed: TenantPool<u64, u64, u64, ByWeight<16>, _> =
@@ -83,7 +77,7 @@ impl<N: Eq + Hash, K: Eq + Hash, V, L: Budgeted<K, V>, S: KeyHasher<K> + Copy> T
 }
 
 impl<N: Eq + Hash, K: Eq + Hash, V, L: Budgeted<K, V>, S: KeyHasher<K> + Copy> TenantPool<N, K, V, L, S> {
-    /// Opens a tenant with an empty map and a share of the limit that is its own.
+    /// Opens a tenant with an empty map and its own share of the limit.
     ///
     /// ```text
     /// assert_eq!(rt; pool.open(1, 0), Err(TenantError::AlreadyOpen));
@@ -94,8 +88,7 @@ impl<N: Eq + Hash, K: Eq + Hash, V, L: Budgeted<K, V>, S: KeyHasher<K> + Copy> T
     ///
     /// # Errors
     ///
-    /// `AlreadyOpen`; `OverTotal`, if the shares of all tenants would add up to more than the limit; or `Memory`:
-    /// nothing has changed.
+    /// `AlreadyOpen`, `Memory`, or `OverTotal` if all shares would add up to more than the limit: nothing has changed.
     pub fn open(&mut self, name: N, share: u64) -> Result<(), TenantError> {
         if self.tenants.contains(&name) {
             return Err(TenantError::AlreadyOpen);
@@ -114,9 +107,9 @@ impl<N: Eq + Hash, K: Eq + Hash, V, L: Budgeted<K, V>, S: KeyHasher<K> + Copy> T
 
     /// Inserts a key with a value, as the newest entry of the tenant. Returns whether the key is there afterwards.
     ///
-    /// It inserts into the map of the tenant, as `TenantCache::put` does with the limit as the budget. Then, while the
-    /// total is above the limit, the tenant furthest above its share loses its oldest entry. This may be the new entry.
-    /// If several tenants are furthest above their shares, nothing says which of them loses an entry.
+    /// First does what `TenantCache::put` does with the limit as the budget. Then, while the total is above the limit,
+    /// the tenant furthest above its share loses its oldest entry, which may be the new entry. If several tenants are
+    /// furthest above, any of them may lose an entry.
     ///
     /// ```text
     /// assert_eq!(rt; (pool.put(&2, 8, 3), pool.put(&1, 9, 1)), (Ok(true), Ok(true)));
@@ -128,8 +121,7 @@ impl<N: Eq + Hash, K: Eq + Hash, V, L: Budgeted<K, V>, S: KeyHasher<K> + Copy> T
     ///
     /// # Errors
     ///
-    /// `NotOpen`: nothing has changed. `Memory`: out of memory for the entry. Some of the tenant's oldest entries may
-    /// have been evicted, and no other tenant has changed.
+    /// The errors of `TenantCache::put`. No other tenant has changed.
     pub fn put<T: LookupKey<N>>(&mut self, name: &T, key: K, value: V) -> Result<bool, TenantError> {
         let Some(own) = self.tenants.peek_mut(name) else {
             return Err(TenantError::NotOpen);
@@ -148,7 +140,7 @@ impl<N: Eq + Hash, K: Eq + Hash, V, L: Budgeted<K, V>, S: KeyHasher<K> + Copy> T
         Ok(kept & is_left)
     }
 
-    /// Closes a tenant and drops its entries. Returns how many there were. Its share is free afterwards.
+    /// Closes a tenant, drops its entries and frees its share. Returns the number of the entries.
     ///
     /// ```text
     /// assert_eq!(rt; (pool.len(), pool.close(&1), pool.len()), (2, Ok(1), 1));
@@ -158,7 +150,7 @@ impl<N: Eq + Hash, K: Eq + Hash, V, L: Budgeted<K, V>, S: KeyHasher<K> + Copy> T
     ///
     /// # Errors
     ///
-    /// `NotOpen`: nothing has changed.
+    /// `NotOpen`.
     pub fn close<T: LookupKey<N>>(&mut self, name: &T) -> Result<usize, TenantError> {
         let _len = self.tenants.len();
         let Some(own) = self.tenants.remove(name) else {

@@ -13,10 +13,10 @@ use crate::erased::schnellru::KeyHasher;
 use crate::rattle_std::alloc::{AllocError, Global};
 use crate::rattle_std::hash::Hash;
 
-/// Carries out the calls on the cache, one after another, and returns one answer for each call.
+/// Carries out the calls in order, and returns one answer for each.
 ///
-/// The answers to a tenant's calls depend only on these calls, with two exceptions. `open` may return `OverTotal` if
-/// the cache has a total limit. And memory may run out.
+/// The answers to a tenant's calls depend only on these calls, except that memory may run out, and that `open` may
+/// return `OverTotal` if the cache has a total limit.
 ///
 /// ```text
 /// let mut cache: TenantCache<u64, u64, u64> = TenantCache::new(alloc, [1, 2, 3, 4], 32);

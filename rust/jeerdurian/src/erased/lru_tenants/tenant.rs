@@ -1,6 +1,5 @@
 // Erased from crates/lru_tenants/src/tenant.rt: do not edit.
-//! What calls do to the map of a tenant. After each call the running total is still the sum of the costs, and within
-//! the budget.
+//! What calls do to the map of a tenant. Each call keeps `IsTenant`.
 
 #[allow(unused_imports)]
 use crate::rattle_std::prelude::*;

@@ -1,5 +1,5 @@
 // Erased from crates/example_pages/src/disk.rt: do not edit.
-//! A file, or a file in memory that can crash. A crash may lose what was not made durable.
+//! A file, or a file in memory that can crash.
 #[allow(unused_imports)]
 use crate::rattle_std::prelude::*;
 

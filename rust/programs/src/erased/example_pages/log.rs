@@ -1,5 +1,5 @@
 // Erased from crates/example_pages/src/log.rt: do not edit.
-//! A log of pages. A page is written to the log before it is written to its place.
+//! A log of pages.
 #[allow(unused_imports)]
 use crate::rattle_std::prelude::*;
 
@@ -47,7 +47,6 @@ impl<'a> Log<'a> {
         self.device.sync()
     }
 
-    /// Writes empty pages to the whole log.
     pub fn format(&mut self) -> Result<(), FileError> {
         for n in 0..self.device.len() {
             self.write(n, &[0; PAGE])?;
@@ -55,7 +54,6 @@ impl<'a> Log<'a> {
         self.sync()
     }
 
-    /// Appends pages, and syncs the log, so that a crash cannot lose them.
     pub fn append(&mut self, pages: &[Page]) -> Result<(), FileError> {
         for page in pages {
             self.write(self.next, page)?;

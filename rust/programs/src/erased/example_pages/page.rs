@@ -21,7 +21,6 @@ pub type Record = [u8; RECORD];
 pub struct Header {
     /// The transaction that wrote the page, or 0 for a page without records.
     pub transaction: u64,
-    /// The page's own number.
     pub number: u64,
     /// The place of the page among the pages of its transaction.
     pub place: u64,

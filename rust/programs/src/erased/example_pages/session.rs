@@ -18,7 +18,6 @@ enum Command<'a> {
     Crashes(u64),
 }
 
-/// Returns the command that the line spells, if it spells one.
 fn command_of(line: &str) -> Option<Command<'_>> {
     let (word, rest) = line.split_once(" ").unwrap_or((line, ""));
     match word {
@@ -43,7 +42,7 @@ fn record_of(text: &str) -> Record {
     record
 }
 
-/// Returns the text of a record. The text ends before the first byte 0.
+/// Returns the text before the first byte 0.
 fn text_of(record: &[u8]) -> &str {
     let end = record.iter().position(|byte| *byte == 0);
     let text = record.get(..end.unwrap_or(record.len())).unwrap_or(record);

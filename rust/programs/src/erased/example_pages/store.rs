@@ -3,8 +3,7 @@
 //!
 //! A transaction writes its pages to the log, syncs the log, and then writes the pages into the page cache. So the file
 //! of pages never contains a page of a transaction that may still be lost, and the log contains each page that a crash
-//! may tear. A checkpoint flushes the cache, and then the log begins at its front again. After a crash, a page of the
-//! log is written to the file if the page in the file is torn or of an earlier transaction.
+//! may tear.
 #[allow(unused_imports)]
 use crate::rattle_std::prelude::*;
 
@@ -21,7 +20,6 @@ use crate::rattle_std::alloc::{AllocError, Global};
 pub enum StoreError {
     Pages(PageError<FileError>),
     Log(FileError),
-    /// The store has no record of this number.
     NoRecord,
     /// The transaction has more pages than the log.
     TooLarge,
@@ -71,7 +69,6 @@ pub struct Store<'a> {
     len: u64,
     /// The number of the next transaction.
     transaction: u64,
-    /// A commit failed half way.
     is_interrupted: bool,
 }
 
@@ -87,7 +84,6 @@ impl<'a> Store<'a> {
         }
     }
 
-    /// Makes a store of empty records.
     pub fn format(&mut self) -> Result<(), StoreError> {
         self.log.format()?;
         for n in 0..self.len {

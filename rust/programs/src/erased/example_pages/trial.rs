@@ -1,5 +1,5 @@
 // Erased from crates/example_pages/src/trial.rt: do not edit.
-//! Crashes of a store. After each, its records are compared with what was committed.
+//! Crashes of a store.
 #[allow(unused_imports)]
 use crate::rattle_std::prelude::*;
 
@@ -31,13 +31,10 @@ pub struct Counts {
     /// Crashes that interrupted a commit: the commit took place (`kept`), or did not (`dropped`).
     pub kept: u64,
     pub dropped: u64,
-    /// Pages that were torn, and are whole again.
     pub torn: u64,
     /// Crashes after which a committed record was gone, or a part of a transaction was there.
     pub lost: u64,
 }
-
-/// The committed records, and the transaction that is not committed yet.
 
 struct Model {
     records: Vec<Record>,
@@ -112,8 +109,7 @@ fn crash<'a>(store: Store<'a>, random: &mut Random) -> Files<'a> {
     (pages, log)
 }
 
-/// Recovers the store, and compares it with the committed records. If they differ, compares it with these records after
-/// the interrupted transaction.
+/// Recovers the store, and compares it with the committed records, without and with the interrupted transaction.
 fn check(store: &mut Store, model: &mut Model, counts: &mut Counts) {
     match store.recover() {
         Ok(recovered) => counts.torn = counts.torn.saturating_add(recovered.torn),

@@ -94,8 +94,7 @@ impl ResponseCache {
         Ok(())
     }
 
-    /// Opens a host, or sets the budget of an open host. Returns words that say which, and how many entries were
-    /// evicted.
+    /// Opens a host, or sets its budget. Returns words that say which, and how many entries were evicted.
     pub fn set_host(&mut self, host: &str, budget: u64) -> Result<(&'static str, u64), TenantError> {
         let (before, _) = self.size(host);
         if self.entries.set_budget(&host, budget).is_err() {

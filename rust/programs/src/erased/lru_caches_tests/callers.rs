@@ -6,8 +6,7 @@ use crate::rattle_std::prelude::*;
 
 use crate::erased::lru_caches::{BlockDevice, OrderedMap, PageCache, PageError};
 
-/// Copies a block to another number, and changes no other block. If the call fails, the cache shows each block as
-/// before.
+/// Copies a block to another number.
 pub fn copy_block<D: BlockDevice<u64>>(
     cache: &mut PageCache<u64, D>,
     from: u64,

@@ -1,5 +1,5 @@
 // Erased from crates/lru_caches_tests/src/disk.rt: do not edit.
-//! A disk in memory with a volatile cache. The disk can fail and crash.
+//! A disk in memory that can fail and crash.
 
 #[allow(unused_imports)]
 use crate::rattle_std::prelude::*;

@@ -194,20 +194,16 @@ fn of_file_device_hashed() {
 
 #[test]
 fn of_file_device() {
-    let run = |rt: HostRuntime| -> () {
+    let run = |rt: HostRuntime| -> Result<(), Fail> {
         let file = Cursor::new(*b"zeroone.two.");
         let mut device: FileDevice<_, 4> = FileDevice::new(file, 3);
-        let held = all!(device.write(1, b"uno.") == Ok(()), device.read(1) == Ok(*b"uno."));
-        check!(rt; held);
-    };
-    run(HostRuntime).passes();
-}
-
-#[test]
-fn of_file_device_2() {
-    let run = |rt: HostRuntime| -> Result<(), Fail> {
-        let file = Cursor::new(*b"zeroone.two.thr");
-        let held = all!(FileDevice::<_, 4>::open(file)?.len() == 3, device.len() == 3, device.file().position() == 8);
+        let held = all!(
+            device.write(1, b"uno.") == Ok(()),
+            device.read(1) == Ok(*b"uno."),
+            FileDevice::<_, 4>::open(Cursor::new(*b"zeroone.two.thr"))?.len() == 3,
+            device.len() == 3,
+            device.file().position() == 8
+        );
         let bytes = device.into_file().into_inner();
         let held = held & all!(bytes.starts_with(b"zerouno."));
         check!(rt; held);

@@ -19,7 +19,6 @@ fn functions_are_called_if_a_result_is_not_stored() {
     run(HostRuntime).passes();
 }
 
-/// An ordered map can have many keys.
 #[test]
 fn an_ordered_map_of_many_keys() {
     let run = |rt: HostRuntime| -> () {

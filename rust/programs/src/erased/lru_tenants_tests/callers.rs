@@ -1,12 +1,69 @@
 // Erased from crates/lru_tenants_tests/src/callers.rt: do not edit.
-//! A caller of the cache, with its own contract, as in docs/TENANTS.md.
+//! Functions that call a cache and a pool, with contracts of their own.
 
 #[allow(unused_imports)]
 use crate::rattle_std::prelude::*;
 
-use crate::erased::lru_tenants::{TenantCache, TenantError};
+use crate::erased::lru_tenants::{ByCost, TenantCache, TenantError, TenantPool, calls_spare_other_tenants};
+use crate::erased::schnellru::RandomState;
+use crate::programs::test_helpers::{all, check};
+use crate::rattle_std::test::Fail;
 
-/// Puts a value for one tenant. The map of each other tenant does not change.
+/// Puts a value for one tenant.
 fn put_beside(cache: &mut TenantCache<u64, u64, u64>, name: &u64, key: u64, value: u64) -> Result<bool, TenantError> {
     cache.put(name, key, value)
+}
+
+fn page_of(path: &String) -> Result<String, TenantError> {
+    match path.try_clone() {
+        Ok(page) => Ok(page),
+        Err(_) => Err(TenantError::Memory),
+    }
+}
+
+/// Gets the page of each path of a host, or else puts it. Returns how many pages were there.
+fn serve(pool: &mut TenantPool<String, String, String>, host: &str, paths: Vec<String>) -> Result<u64, TenantError> {
+    calls_spare_other_tenants::<String, String, String, ByCost, RandomState>();
+    let mut hits = 0u64;
+    for path in paths {
+        if pool.get(&host, &path)?.is_some() {
+            hits = hits.wrapping_add(1);
+            continue;
+        }
+        let page = page_of(&path)?;
+        pool.put(&host, path, page)?;
+    }
+    Ok(hits)
+}
+
+#[test]
+fn of_pages() {
+    let run = |rt: HostRuntime| -> Result<(), Fail> {
+        let alloc = rt.alloc();
+        let mut pool: TenantPool<String, String, String> = TenantPool::new(alloc, [1, 2, 3, 4], 64, 8);
+        let held = all!(
+            pool.open(String::from_str(alloc, "a")?, 4) == Ok(()),
+            pool.open(String::from_str(alloc, "b")?, 4) == Ok(()),
+            serve(&mut pool, "a", vec![in alloc; String::from_str(alloc, "/one")?]?) == Ok(0),
+            serve(
+                &mut pool,
+                "b",
+                vec![in alloc;
+                    String::from_str(alloc, "/1")?,
+                    String::from_str(alloc, "/2")?
+                ]?
+            ) == Ok(0),
+            serve(
+                &mut pool,
+                "b",
+                vec![in alloc;
+                    String::from_str(alloc, "/3")?,
+                    String::from_str(alloc, "/2")?
+                ]?
+            ) == Ok(1)
+        );
+        check!(rt; held && pool.cost(&"a") == Ok(4) && pool.cost(&"b") == Ok(4));
+        Ok(())
+    };
+    run(HostRuntime).passes();
 }

@@ -1,9 +1,10 @@
 // Erased from crates/lru_tenants_tests/src/numbers.rt: do not edit.
-//! The cache of numbers in the examples of the docs. Tests of the texts of errors, and of texts as names and keys.
+//! The cache and the pool of numbers in the examples of the docs. Tests of the texts of errors, and of names and keys
+//! that are texts.
 #[allow(unused_imports)]
 use crate::rattle_std::prelude::*;
 
-use crate::erased::lru_tenants::{TenantCache, TenantError, costs_are_within_the_total_limit};
+use crate::erased::lru_tenants::{TenantCache, TenantError, TenantPool, costs_are_within_the_total_limit};
 use crate::programs::test_helpers::check;
 use crate::rattle_std::test::Fail;
 
@@ -13,6 +14,14 @@ pub type Numbers = TenantCache<u64, u64, u64>;
 pub fn refill(cache: &mut Numbers) -> bool {
     let _ = (cache.close(&1), cache.close(&2), cache.set_total_limit(None));
     (cache.open(1, 3), cache.put(&1, 7, 2)) == (Ok(()), Ok(true))
+}
+
+pub type Shared = TenantPool<u64, u64, u64>;
+
+/// Leaves two tenants of a pool with a limit of 5: 1 with a share of 3 and the entry (7, 2), and 2 with a share of 1.
+pub fn restock(pool: &mut Shared) -> bool {
+    let _ = (pool.close(&1), pool.close(&2), pool.close(&3));
+    (pool.open(1, 3), pool.open(2, 1), pool.put(&1, 7, 2)) == (Ok(()), Ok(()), Ok(true))
 }
 
 #[test]

@@ -59,7 +59,7 @@ impl Hog {
         drop(self.spare.pop());
     }
 
-    /// Returns whether no memory is left. With an allocator that has checks of its own, some memory may always be left.
+    /// Returns whether all memory was taken. With an allocator that has checks of its own, this may never succeed.
     pub fn took_all(&self) -> bool {
         self.held.len() < MOST
     }

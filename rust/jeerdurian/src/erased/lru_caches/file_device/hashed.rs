@@ -13,9 +13,9 @@ use crate::rattle_std::io::{Read, Seek, Write};
 
 /// A device of the blocks of a file, of `N` bytes each, with a checksum in the last 8 bytes of each block.
 ///
-/// A write replaces the last 8 bytes by the hash of the other bytes and of the block's number. So contracts see the
-/// bytes of a block without the last 8. A read returns `Ok` only if the block has its checksum. So a read detects a
-/// torn or damaged block, or a block of another number, if the hash differs, even after a restart.
+/// A write replaces the last 8 bytes by the hash of the other bytes and of the block's number. Contracts see only the
+/// other bytes. A read returns `Ok` only if the block has its checksum. So a read detects a torn or damaged block, or a
+/// block of another number, if the hash differs.
 ///
 /// [`FileDevice`]: crate::FileDevice
 ///

@@ -8,12 +8,10 @@ use crate::erased::schnellru::{Insertion, KeyHasher, LruMap, RandomState, laws};
 use crate::rattle_std::alloc::Global;
 use crate::rattle_std::hash::Hash;
 
-/// A memo of a function that may fail, such as a read of a file. It stores the newest values that were loaded, up to a
-/// limit, and no failures.
+/// A memo of a function that may fail, such as a read of a file. It stores no failures.
 ///
 /// A call of `load` returns a value of the function (clause `value`), or its failure, which changes nothing. A
-/// successful call is a step of a map: the stored value becomes the newest, or the new value is inserted (clause
-/// `step`).
+/// successful call is a step of a map (clause `step`).
 ///
 /// ```text
 /// let disk = [10, 11, 12];
@@ -84,7 +82,7 @@ impl<K: Eq + Hash, V: Copy, E, F: Fn(&K) -> Result<V, E>, L: Insertion<K, V, K>,
 {
     /// Returns the value of a key. If no value is stored, calls the function, and stores its value.
     ///
-    /// If the loader runs out of memory or its limiter rejects the value, the value is not stored, but still returned.
+    /// If memory runs out or the limiter rejects the value, it is returned but not stored.
     ///
     /// ```text
     /// assert_eq!(rt; (blocks.load(1), blocks.len()), (Ok(11), 1));
@@ -113,7 +111,7 @@ impl<K: Eq + Hash, V, E, F: Fn(&K) -> Result<V, E>, L: Insertion<K, V, K>, S: Ke
     ///
     /// # Errors
     ///
-    /// The function failed, with this error. The closure is not called, and the stored values stay.
+    /// As `load`. The closure is not called.
     pub fn load_with<R, U: FnOnce(&V) -> R>(&mut self, key: K, read: U) -> Result<R, E> {
         read_loaded(&mut self.map, &self.function, key, read)
     }

@@ -7,7 +7,7 @@ use crate::erased::schnellru::KeyHasher;
 use crate::rattle_std::fmt;
 use crate::rattle_std::hash::Hash;
 
-/// Maps are equal if they have equal entries in the same order. Their hashers and tables may differ.
+/// Maps are equal if they have equal entries in the same order.
 ///
 /// ```text
 /// assert!(rt; map == map && map != OrderedMap::new(alloc));

@@ -34,7 +34,6 @@ impl<'a, K, V> Iterator for Entries<'a, K, V> {
         self.newest_first.next_back()
     }
 
-    /// Returns the number of remaining entries as both bounds.
     fn size_hint(&self) -> (usize, Option<usize>) {
         self.newest_first.size_hint()
     }

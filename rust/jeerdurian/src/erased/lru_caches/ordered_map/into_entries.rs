@@ -26,7 +26,6 @@ impl<K: Eq + Hash, V, S: KeyHasher<K>> Iterator for IntoEntries<K, V, S> {
         self.map.pop_first()
     }
 
-    /// Returns the number of remaining entries as both bounds.
     fn size_hint(&self) -> (usize, Option<usize>) {
         let len = self.map.len();
         (len, Some(len))

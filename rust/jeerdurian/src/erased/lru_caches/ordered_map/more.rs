@@ -8,23 +8,19 @@ use crate::rattle_std::alloc::AllocError;
 use crate::rattle_std::hash::Hash;
 
 impl<K: Eq + Hash, V, S: KeyHasher<K>> OrderedMap<K, V, S> {
-    /// Returns the entry of a key.
-    ///
-    /// The returned key is the stored key, which is equal to the looked-up key, but need not be identical.
+    /// Returns the entry of a key, with the stored key.
     ///
     /// ```text
     /// assert!(rt; map.get_key_value(&1) == Some((&1, &11)) && map.get_key_value(&9).is_none());
     /// ```
     ///
     /// Cost: `O(1)` expected.
-    ///
-    /// After std's `HashMap::get_key_value`.
     pub fn get_key_value<Q: LookupKey<K>>(&self, key: &Q) -> Option<(&K, &V)> {
         distinct(&self.map);
         self.map.peek_key_value(key)
     }
 
-    /// Makes the entry of a key the newest, and returns whether the key is there. The other entries keep their order.
+    /// Makes the entry of a key the newest, and returns whether the key is there.
     ///
     /// ```text
     /// assert!(rt; map.move_to_back(&1) && !map.move_to_back(&9));
@@ -50,14 +46,11 @@ impl<K: Eq + Hash, V, S: KeyHasher<K>> OrderedMap<K, V, S> {
     /// # Errors
     ///
     /// The errors of `LruMap::try_reserve`.
-    ///
-    /// After indexmap's `IndexMap::try_reserve`.
     pub fn try_reserve(&mut self, n: usize) -> Result<(), ReserveError> {
         self.map.try_reserve(n)
     }
 
-    /// Shrinks the table to the smallest number of buckets that can hold the entries. Returns whether the table had
-    /// more buckets.
+    /// Shrinks the table to the smallest that can hold the entries. Returns whether the table was larger.
     ///
     /// ```text
     /// assert_eq!(rt; map.try_reserve(100), Ok(()));
@@ -69,8 +62,6 @@ impl<K: Eq + Hash, V, S: KeyHasher<K>> OrderedMap<K, V, S> {
     /// # Errors
     ///
     /// Out of memory.
-    ///
-    /// After indexmap's `IndexMap::shrink_to_fit`.
     pub fn shrink_to_fit(&mut self) -> Result<bool, AllocError> {
         self.map.shrink_to_fit()
     }

@@ -13,7 +13,6 @@ use crate::erased::schnellru::KeyHasher;
 use crate::rattle_std::ops::Range;
 
 impl<B: Copy, D: BlockDevice<B>, S: KeyHasher<u64>> PageCache<B, D, S> {
-    /// Makes a page the newest. If the page is not cached, reads it first.
     pub(super) fn bring(&mut self, n: u64) -> Result<(), PageError<D::Error>> {
         let hash = self.map.hasher().hash_named(&n);
         if promote(&mut self.map, &mut self.counts, hash, n) {
@@ -27,9 +26,9 @@ impl<B: Copy, D: BlockDevice<B>, S: KeyHasher<u64>> PageCache<B, D, S> {
 
     /// Returns a block, and makes its page the newest.
     ///
-    /// If the page is not cached and the cache is full, the oldest page that may be evicted is evicted. If this page is
-    /// dirty, it is written to the device first. A pinned page may not be evicted. If the cache [keeps dirty
-    /// pages](Self::set_keeps_dirty), a dirty page may not be evicted either.
+    /// If the page is not cached and the cache is full, the cache evicts the oldest page that may be evicted, and first
+    /// writes the page to the device if it is dirty. A pinned page may not be evicted, nor a dirty page if the cache
+    /// [keeps dirty pages](Self::set_keeps_dirty).
     ///
     /// ```text
     /// assert_eq!(rt; (cache.read(1), cache.len()), (Ok(20), 1));
@@ -40,9 +39,8 @@ impl<B: Copy, D: BlockDevice<B>, S: KeyHasher<u64>> PageCache<B, D, S> {
     ///
     /// # Errors
     ///
-    /// No error if the page is cached. `Broken`: a `sync` has failed. `NoBlock`: the device has no such number. `Full`:
-    /// no page may be evicted. `Device`: the read failed, or a page could not be written back; no page was evicted.
-    /// `Memory`: out of memory for one more page; a page may have been evicted.
+    /// No error if the page is cached. `Broken`, `NoBlock` or `Full`. `Device`: the read failed, or a page could not be
+    /// written back; no page was evicted. `Memory`: a page may have been evicted.
     pub fn read(&mut self, n: u64) -> Result<B, PageError<D::Error>> {
         self.read_with(n, |block| *block)
     }
@@ -63,9 +61,7 @@ impl<B: Copy, D: BlockDevice<B>, S: KeyHasher<u64>> PageCache<B, D, S> {
         Ok(read_newest(&self.map, read))
     }
 
-    /// Brings the blocks of these numbers into the cache, by a `read` of each, in order.
-    ///
-    /// If there are more blocks than the capacity, later reads evict earlier blocks.
+    /// Calls `read` for each of these numbers, in order.
     ///
     /// ```text
     /// assert!(rt; cache.prefetch(2..4) == Ok(()) && cache.contains(2) && cache.contains(3));
@@ -95,8 +91,7 @@ impl<B: Copy, D: BlockDevice<B>, S: KeyHasher<u64>> PageCache<B, D, S> {
     ///
     /// # Errors
     ///
-    /// `Broken`: a `sync` has failed. `NoBlock`: the device has no such number. No other error if the page is cached.
-    /// `Full`, `Device` and `Memory` as for `read`. After an error the block is not replaced.
+    /// `Broken`: a `sync` has failed. The other errors are as for `read`. After an error the block is not replaced.
     pub fn write(&mut self, n: u64, block: B) -> Result<(), PageError<D::Error>> {
         admit(&self.device, n)?;
         let hash = self.map.hasher().hash_named(&n);
@@ -122,7 +117,7 @@ impl<B: Copy, D: BlockDevice<B>, S: KeyHasher<u64>> PageCache<B, D, S> {
     ///
     /// # Errors
     ///
-    /// `Broken`: a `sync` has failed. The other errors are those of `read`. After an error the closure is not called.
+    /// `Broken`: a `sync` has failed. The other errors are as for `read`. After an error the closure is not called.
     pub fn write_with<R, U: FnOnce(&mut B) -> R>(&mut self, n: u64, write: U) -> Result<R, PageError<D::Error>> {
         if !self.device.is_usable() {
             return Err(PageError::Broken);

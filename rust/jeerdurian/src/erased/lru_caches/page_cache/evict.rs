@@ -49,7 +49,7 @@ fn evict<B: Copy, D: BlockDevice<B>, S: KeyHasher<u64>>(
     Ok(())
 }
 
-/// Evicts the page `gone`, if there is one, and inserts page n as the newest.
+/// Evicts the page `gone`, if any, and inserts page n as the newest.
 pub(super) fn replace<B: Copy, D: BlockDevice<B>, S: KeyHasher<u64>>(
     map: &mut Pages<B, S>,
     device: &mut D,

@@ -1,5 +1,5 @@
 // Erased from crates/lru_caches/src/page_cache/flush.rt: do not edit.
-//! The steps of a flush: the dirty pages are written in the order of their numbers, and then the device is synced.
+//! The steps of a flush.
 
 #[allow(unused_imports)]
 use crate::rattle_std::prelude::*;
@@ -99,7 +99,7 @@ impl<B: Copy, D: BlockDevice<B>, S: KeyHasher<u64>> PageCache<B, D, S> {
     ///
     /// # Errors
     ///
-    /// `Device`: the write failed, and the page stays dirty. `Broken`: a `sync` has failed.
+    /// `Broken`. `Device`: the write failed, and the page stays dirty.
     pub fn flush_page(&mut self, n: u64) -> Result<(), PageError<D::Error>> {
         if !self.device.is_usable() {
             return Err(PageError::Broken);

@@ -52,7 +52,6 @@ fn read_block<B: Copy, D: BlockDevice<B>>(device: &mut D, n: u64) -> Result<B, P
     device.read(n).map_err(PageError::Device)
 }
 
-/// Reads a block, evicts the page `gone`, if there is one, and makes the read page the newest.
 pub(super) fn load<B: Copy, D: BlockDevice<B>, S: KeyHasher<u64>>(
     map: &mut Pages<B, S>,
     device: &mut D,
@@ -66,7 +65,6 @@ pub(super) fn load<B: Copy, D: BlockDevice<B>, S: KeyHasher<u64>>(
     replace(map, device, counts, gone, hash, n, page)
 }
 
-/// Makes a page the newest, and returns whether it is cached.
 pub(super) fn promote<B: Copy, S: KeyHasher<u64>>(
     map: &mut Pages<B, S>,
     counts: &mut Counts,
@@ -86,7 +84,7 @@ fn promote_hashed<B: Copy, S: KeyHasher<u64>>(map: &mut Pages<B, S>, hash: u64, 
     }
 }
 
-/// Replaces the block of a page, makes the page dirty and the newest, and returns whether it is cached.
+/// Returns whether the page is cached.
 pub(super) fn overwrite<B: Copy, S: KeyHasher<u64>>(
     map: &mut Pages<B, S>,
     counts: &mut Counts,
@@ -124,7 +122,6 @@ pub(super) fn read_newest<B: Copy, S: KeyHasher<u64>, R, U: FnOnce(&B) -> R>(map
     }
 }
 
-/// Lends the block of the newest page for writing, and makes the page dirty.
 pub(super) fn write_newest<B: Copy, S: KeyHasher<u64>, R, U: FnOnce(&mut B) -> R>(
     map: &mut Pages<B, S>,
     write: U,

@@ -38,7 +38,7 @@ impl<B: Copy, D: BlockDevice<B>, S: KeyHasher<u64>> PageCache<B, D, S> {
         unpin_page(&mut self.map, n)
     }
 
-    /// Returns whether a page is pinned. Does not change the order of use.
+    /// Returns whether a page is pinned.
     ///
     /// ```text
     /// assert!(rt; cache.is_pinned(0) && cache.unpin(0) && !cache.is_pinned(0));
@@ -62,8 +62,6 @@ impl<B: Copy, D: BlockDevice<B>, S: KeyHasher<u64>> PageCache<B, D, S> {
 
     /// Sets whether dirty pages are kept until a flush. If they are kept, reads, writes and pins write nothing to the
     /// device.
-    ///
-    /// If each page of a full cache is then dirty or pinned, a call that needs one more page returns `Full`.
     ///
     /// ```text
     /// cache.set_keeps_dirty(true);

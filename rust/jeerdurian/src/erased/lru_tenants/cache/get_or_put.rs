@@ -10,11 +10,9 @@ use crate::erased::schnellru::{KeyHasher, LookupKey};
 use crate::rattle_std::hash::Hash;
 
 impl<N: Eq + Hash, K: Eq + Hash, V, L: Budgeted<K, V>, S: KeyHasher<K> + Copy> TenantCache<N, K, V, L, S> {
-    /// Returns a tenant's value of a key. If the key is not there, first puts the key with the value that the closure
-    /// returns.
+    /// Does what `get` does if the key is there. Otherwise puts the value that the closure returns, and returns it.
     ///
-    /// If the key is there, its entry becomes the tenant's newest, and the closure is not called. `None` means that the
-    /// tenant does not keep the new entry.
+    /// If the key is there, the closure is not called. `None` means that the tenant does not keep the new entry.
     ///
     /// ```text
     /// assert_eq!(rt; cache.get_or_put(&1, 7, || 3), Ok(Some(&2)));
@@ -25,7 +23,7 @@ impl<N: Eq + Hash, K: Eq + Hash, V, L: Budgeted<K, V>, S: KeyHasher<K> + Copy> T
     ///
     /// # Errors
     ///
-    /// Fails as `put` does. If the error is `Memory`, the closure was called.
+    /// As `put`. Before `Memory` the closure was called.
     pub fn get_or_put<T: LookupKey<N>, F: FnOnce() -> V>(
         &mut self,
         name: &T,

@@ -1,5 +1,5 @@
 // Erased from crates/lru_tenants/src/cache/passing.rt: do not edit.
-//! Calls that pass the entries that are evicted or removed to a callback.
+//! Calls that pass evicted or removed entries to a callback.
 
 #[allow(unused_imports)]
 use crate::rattle_std::prelude::*;
@@ -15,8 +15,8 @@ use crate::rattle_std::hash::Hash;
 
 impl<N: Eq + Hash, K: Eq + Hash, V, L: Budgeted<K, V>, S: KeyHasher<K> + Copy> TenantCache<N, K, V, L, S> {
     /// Does what `put` does, and passes entries to the callback: the evicted entries, oldest first; an entry that is
-    /// removed because its new value is rejected; and the new entry if it could not be stored. A replaced value is not
-    /// passed on. A rejected entry of a new key is not passed on either.
+    /// removed because its new value is rejected; and the new entry if it could not be stored. Replaced values and
+    /// rejected entries of new keys are not passed on.
     ///
     /// ```text
     /// let mut left = 0u64;
@@ -28,7 +28,7 @@ impl<N: Eq + Hash, K: Eq + Hash, V, L: Budgeted<K, V>, S: KeyHasher<K> + Copy> T
     ///
     /// # Errors
     ///
-    /// Fails as `put` does.
+    /// As `put`.
     pub fn put_with<T: LookupKey<N>, F: FnMut(K, V)>(
         &mut self,
         name: &T,
@@ -60,7 +60,7 @@ impl<N: Eq + Hash, K: Eq + Hash, V, L: Budgeted<K, V>, S: KeyHasher<K> + Copy> T
     ///
     /// # Errors
     ///
-    /// Fails as `put` does. After `NotOpen` the key and the value are dropped; after `Memory` the callback got both.
+    /// As `put`. After `NotOpen` the key and the value are dropped; after `Memory` the callback got both.
     pub fn put_full<T: LookupKey<N>, F: FnMut(K, V)>(
         &mut self,
         name: &T,
@@ -86,7 +86,7 @@ impl<N: Eq + Hash, K: Eq + Hash, V, L: Budgeted<K, V>, S: KeyHasher<K> + Copy> T
     ///
     /// # Errors
     ///
-    /// Fails as `set_budget` does.
+    /// As `set_budget`.
     pub fn set_budget_with<T: LookupKey<N>, F: FnMut(K, V)>(
         &mut self,
         name: &T,
@@ -118,7 +118,7 @@ impl<N: Eq + Hash, K: Eq + Hash, V, L: Budgeted<K, V>, S: KeyHasher<K> + Copy> T
     ///
     /// # Errors
     ///
-    /// `NotOpen`: nothing has changed.
+    /// `NotOpen`.
     pub fn close_with<T: LookupKey<N>, F: FnMut(K, V)>(
         &mut self,
         name: &T,

@@ -23,7 +23,7 @@ impl<N: Eq + Hash, K: Eq + Hash, V, L: Budgeted<K, V>, S: KeyHasher<K> + Copy> T
     ///
     /// # Errors
     ///
-    /// `NotOpen`: nothing has changed.
+    /// `NotOpen`.
     pub fn get<T: LookupKey<N>, Q: LookupKey<K>>(&mut self, name: &T, key: &Q) -> Result<Option<&V>, TenantError> {
         let Some(map) = self.tenants.peek_mut(name) else {
             return Err(TenantError::NotOpen);
@@ -52,7 +52,7 @@ impl<N: Eq + Hash, K: Eq + Hash, V, L: Budgeted<K, V>, S: KeyHasher<K> + Copy> T
         Ok(map.peek(key))
     }
 
-    /// Returns whether a tenant has an entry of a key. The order stays.
+    /// Returns whether a tenant has an entry of a key.
     ///
     /// ```text
     /// assert_eq!(rt; cache.contains(&1, &7), Ok(true));
@@ -70,7 +70,7 @@ impl<N: Eq + Hash, K: Eq + Hash, V, L: Budgeted<K, V>, S: KeyHasher<K> + Copy> T
         Ok(map.contains(key))
     }
 
-    /// Returns an iterator over a tenant's entries, newest first. The order stays.
+    /// Returns an iterator over a tenant's entries, newest first.
     ///
     /// ```text
     /// assert!(rt; cache.iter(&1)?.next() == Some((&7, &2)));

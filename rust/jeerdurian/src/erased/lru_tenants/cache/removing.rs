@@ -22,7 +22,7 @@ impl<N: Eq + Hash, K: Eq + Hash, V, L: Budgeted<K, V>, S: KeyHasher<K> + Copy> T
     ///
     /// # Errors
     ///
-    /// `NotOpen`: nothing has changed.
+    /// `NotOpen`.
     pub fn remove<T: LookupKey<N>, Q: LookupKey<K>>(&mut self, name: &T, key: &Q) -> Result<Option<V>, TenantError> {
         let Some(own) = self.tenants.peek_mut(name) else {
             return Err(TenantError::NotOpen);
@@ -30,9 +30,8 @@ impl<N: Eq + Hash, K: Eq + Hash, V, L: Budgeted<K, V>, S: KeyHasher<K> + Copy> T
         Ok(remove(own, key))
     }
 
-    /// Removes a tenant's entries for which the closure returns false. The others keep their order.
-    ///
-    /// The closure is called with each entry of the tenant, oldest first.
+    /// Removes a tenant's entries for which the closure returns false. The closure is called with each entry, oldest
+    /// first.
     ///
     /// ```text
     /// assert_eq!(rt; (cache.put(&1, 8, 1), cache.retain(&1, |key, _| *key == 8)), (Ok(true), Ok(())));
@@ -43,7 +42,7 @@ impl<N: Eq + Hash, K: Eq + Hash, V, L: Budgeted<K, V>, S: KeyHasher<K> + Copy> T
     ///
     /// # Errors
     ///
-    /// `NotOpen`: nothing has changed.
+    /// `NotOpen`.
     pub fn retain<T: LookupKey<N>, F: FnMut(&K, &V) -> bool>(&mut self, name: &T, keep: F) -> Result<(), TenantError> {
         let Some(own) = self.tenants.peek_mut(name) else {
             return Err(TenantError::NotOpen);
@@ -62,7 +61,7 @@ impl<N: Eq + Hash, K: Eq + Hash, V, L: Budgeted<K, V>, S: KeyHasher<K> + Copy> T
     ///
     /// # Errors
     ///
-    /// `NotOpen`: nothing has changed.
+    /// `NotOpen`.
     pub fn clear<T: LookupKey<N>>(&mut self, name: &T) -> Result<(), TenantError> {
         let Some(own) = self.tenants.peek_mut(name) else {
             return Err(TenantError::NotOpen);

@@ -11,7 +11,7 @@ use crate::erased::schnellru::KeyHasher;
 use crate::rattle_std::hash::Hash;
 
 impl<N: Eq + Hash, K: Eq + Hash, V, L: Budgeted<K, V>, S: KeyHasher<K> + Copy> TenantCache<N, K, V, L, S> {
-    /// Sets the limit of the sum of all tenants' budgets. `None` means that there is no limit.
+    /// Sets the limit of the sum of all tenants' budgets. `None` lifts the limit.
     ///
     /// ```text
     /// assert_eq!(rt; cache.set_total_limit(Some(5)), Ok(()));
@@ -22,7 +22,7 @@ impl<N: Eq + Hash, K: Eq + Hash, V, L: Budgeted<K, V>, S: KeyHasher<K> + Copy> T
     ///
     /// # Errors
     ///
-    /// `OverTotal`: the sum is above the limit, and nothing has changed.
+    /// `OverTotal`: the sum is above the limit.
     pub fn set_total_limit(&mut self, limit: Option<u64>) -> Result<(), TenantError> {
         if is_above(limit, self.budgets) {
             return Err(TenantError::OverTotal);
@@ -54,7 +54,7 @@ impl<N: Eq + Hash, K: Eq + Hash, V, L: Budgeted<K, V>, S: KeyHasher<K> + Copy> T
         self.budgets
     }
 
-    /// Returns the sum of the costs of the entries of all tenants.
+    /// Returns the sum of the costs of all entries.
     ///
     /// ```text
     /// assert_eq!(rt; (cache.total_cost(), cache.total_budget()), (2, 3));

@@ -9,8 +9,8 @@ use crate::erased::lru_tenants::pool::part::{Part, drop_oldest, excess};
 use crate::erased::schnellru::{KeyHasher, LruMap, Unlimited};
 use crate::rattle_std::hash::Hash;
 
-// Returns how far the furthest tenant is above its share, and the hash of the name of such a tenant. The caller cannot
-// keep the name itself, because it is lent by the map that the caller is about to change.
+// Returns the greatest excess and, if it is above 0, the hash of the name of a tenant with this excess. The name itself
+// is lent by the map that the caller is about to change.
 fn furthest<N: Eq + Hash, K: Eq + Hash, V, L: Budgeted<K, V>, S: KeyHasher<K>, H: KeyHasher<N>>(
     tenants: &LruMap<N, Part<K, V, L, S>, Unlimited, H>,
 ) -> (u64, u64) {
@@ -26,8 +26,7 @@ fn furthest<N: Eq + Hash, K: Eq + Hash, V, L: Budgeted<K, V>, S: KeyHasher<K>, H
     (most, hash)
 }
 
-// Evicts the oldest entry of the tenant furthest above its share. Returns by how much the total falls. `None` is for
-// Rust, where hashes and costs may lie.
+// Returns by how much the total falls. `None` is for Rust, where hashes and costs may lie.
 fn evict<N: Eq + Hash, K: Eq + Hash, V, L: Budgeted<K, V>, S: KeyHasher<K>, H: KeyHasher<N>>(
     tenants: &mut LruMap<N, Part<K, V, L, S>, Unlimited, H>,
 ) -> Option<u64> {
@@ -37,7 +36,7 @@ fn evict<N: Eq + Hash, K: Eq + Hash, V, L: Budgeted<K, V>, S: KeyHasher<K>, H: K
     drop_oldest(own)
 }
 
-// Evicts while the total is above the limit. Returns the total that is left.
+// Returns the total that is left.
 pub(super) fn settle<N: Eq + Hash, K: Eq + Hash, V, L: Budgeted<K, V>, S: KeyHasher<K>, H: KeyHasher<N>>(
     tenants: &mut LruMap<N, Part<K, V, L, S>, Unlimited, H>,
     mut total: u128,

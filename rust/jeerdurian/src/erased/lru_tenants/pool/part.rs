@@ -12,7 +12,6 @@ use crate::rattle_std::hash::Hash;
 /// A tenant's share of the limit, and its map.
 pub(super) type Part<K, V, L, S> = (u64, LruMap<K, V, L, S>);
 
-// How far the tenant is above its share.
 pub(super) fn excess<K: Eq + Hash, V, L: Budgeted<K, V>, S: KeyHasher<K>>(own: &Part<K, V, L, S>) -> u64 {
     let (share, map) = own;
     map.limiter().account().saturating_sub(*share)
@@ -22,7 +21,7 @@ pub(super) fn cost_of<K: Eq + Hash, V, L: Budgeted<K, V>, S: KeyHasher<K>>(map: 
     map.limiter().account()
 }
 
-// Drops the oldest entry. Returns by how much the cost falls. `None` is for Rust, where costs may lie.
+// Returns by how much the cost falls. `None` is for Rust, where costs may lie.
 pub(super) fn drop_oldest<K: Eq + Hash, V, L: Budgeted<K, V>, S: KeyHasher<K>>(
     own: &mut Part<K, V, L, S>,
 ) -> Option<u64> {
@@ -35,7 +34,6 @@ pub(super) fn drop_oldest<K: Eq + Hash, V, L: Budgeted<K, V>, S: KeyHasher<K>>(
     Some(before - after)
 }
 
-// The part of a tenant without entries.
 pub(super) fn opened<K: Eq + Hash, V, L: Budgeted<K, V>, S: KeyHasher<K>>(
     alloc: Global,
     hasher: S,

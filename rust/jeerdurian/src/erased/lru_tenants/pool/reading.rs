@@ -35,7 +35,7 @@ impl<N: Eq + Hash, K: Eq + Hash, V, L: Budgeted<K, V>, S: KeyHasher<K> + Copy> T
         self.tenants.is_empty()
     }
 
-    /// Returns the greatest total that the costs of all entries may have.
+    /// Returns the limit of the total cost.
     ///
     /// ```text
     /// assert_eq!(rt; pool.limit(), 5);
@@ -46,7 +46,7 @@ impl<N: Eq + Hash, K: Eq + Hash, V, L: Budgeted<K, V>, S: KeyHasher<K> + Copy> T
         self.limit
     }
 
-    /// Returns the sum of the costs of the entries of all tenants.
+    /// Returns the sum of the costs of all entries.
     ///
     /// ```text
     /// assert_eq!(rt; pool.total_cost(), 2);
@@ -93,7 +93,7 @@ impl<N: Eq + Hash, K: Eq + Hash, V, L: Budgeted<K, V>, S: KeyHasher<K> + Copy> T
         Ok(*share)
     }
 
-    /// Returns whether a tenant has an entry of a key. The order stays.
+    /// Returns whether a tenant has an entry of a key.
     ///
     /// ```text
     /// assert_eq!(rt; pool.contains(&1, &7), Ok(true));
@@ -131,8 +131,6 @@ impl<N: Eq + Hash, K: Eq + Hash, V, L: Budgeted<K, V>, S: KeyHasher<K> + Copy> T
 
     /// Returns a tenant's value of a key, and makes its entry the tenant's newest.
     ///
-    /// The value is lent only for reading, so its cost does not change.
-    ///
     /// ```text
     /// assert_eq!(rt; pool.get(&1, &7), Ok(Some(&2)));
     /// ```
@@ -141,7 +139,7 @@ impl<N: Eq + Hash, K: Eq + Hash, V, L: Budgeted<K, V>, S: KeyHasher<K> + Copy> T
     ///
     /// # Errors
     ///
-    /// `NotOpen`: nothing has changed.
+    /// `NotOpen`.
     pub fn get<T: LookupKey<N>, Q: LookupKey<K>>(&mut self, name: &T, key: &Q) -> Result<Option<&V>, TenantError> {
         let Some(own) = self.tenants.peek_mut(name) else {
             return Err(TenantError::NotOpen);
@@ -165,7 +163,7 @@ impl<N: Eq + Hash, K: Eq + Hash, V, L: Budgeted<K, V>, S: KeyHasher<K> + Copy> T
     ///
     /// # Errors
     ///
-    /// `NotOpen`: nothing has changed.
+    /// `NotOpen`.
     pub fn remove<T: LookupKey<N>, Q: LookupKey<K>>(&mut self, name: &T, key: &Q) -> Result<Option<V>, TenantError> {
         let Some(own) = self.tenants.peek_mut(name) else {
             return Err(TenantError::NotOpen);

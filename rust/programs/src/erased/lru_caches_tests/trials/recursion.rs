@@ -23,8 +23,8 @@ fn fibonacci(table: &mut MemoTable<u64, u64, FibonacciNumbers, ByLength>, n: u64
     value
 }
 
-/// Returns 1 if a recursion with a table of three answers gives the Fibonacci number of 90. Without the table, the
-/// recursion would take years. A table of two answers would evict the answer that the recursion needs next.
+/// Returns 1 if a recursion with a table of three answers gives the Fibonacci number of 90. A table of two answers
+/// would evict the answer that the recursion needs next.
 pub fn answers(alloc: Global) -> u64 {
     let mut table = MemoTable::new(alloc, ByLength::new(3), FibonacciNumbers);
     (fibonacci(&mut table, 90) == 2_880_067_194_370_816_120) as u64
