@@ -4,7 +4,7 @@ ghost use Rattle.lru_replay.specs.Replay.{status_of};
 
 use thiserror::Error;
 
-/// How a replay ends if no read and no write fails.
+/// How a replay ends if it does not fail.
 ///
 /// ```
 /// assert_eq!(rt; status(&Ok(ReplayEnd::NoLimiter)), 1);
@@ -17,7 +17,7 @@ pub enum ReplayEnd {
     NoLimiter,
 }
 
-/// Why a replay stops early.
+/// Why a replay fails.
 ///
 /// ```
 /// let (read, write) = (ReplayError::Read, ReplayError::Write);
@@ -35,8 +35,8 @@ pub enum ReplayError {
     Write = 2,
 }
 
-/// Returns the exit status: 0 if the lines were carried out, 1 if the first line names no limiter, and 2 if a read or a
-/// write failed.
+/// Returns the exit status: 0 if the lines were carried out, 1 if the first line names no limiter, and 2 if a read, a
+/// write or the flush failed.
 ///
 /// ```
 /// assert_eq!(rt; status(&Ok(ReplayEnd::NoLimiter)), 1);

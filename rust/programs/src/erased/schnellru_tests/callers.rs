@@ -85,8 +85,8 @@ fn count_all(alloc: Global, texts: &[String]) -> Result<MoveReport, AllocError> 
     Ok(map.move_report())
 }
 
-/// Puts a number under each new text into a new map, and evicts nothing. The table makes at most three insertions for
-/// each text, including the insertions of moved entries.
+/// Tries to put a number under each text into a new map, and evicts nothing. The table makes at most three insertions
+/// for each text, including the insertions of moved entries.
 fn keep_all(alloc: Global, texts: &[String]) -> Result<LruMap<String, u64>, AllocError> {
     laws::runs_begin_with_maps::<String, u64, ByLength, RandomState>();
     laws::try_inserts_pay_for_moves::<String, u64, ByLength, RandomState>();

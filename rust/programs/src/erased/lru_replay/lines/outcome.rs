@@ -4,7 +4,7 @@
 #[allow(unused_imports)]
 use crate::rattle_std::prelude::*;
 
-/// How a replay ends if no read and no write fails.
+/// How a replay ends if it does not fail.
 ///
 /// ```text
 /// assert_eq!(rt; status(&Ok(ReplayEnd::NoLimiter)), 1);
@@ -17,7 +17,7 @@ pub enum ReplayEnd {
     NoLimiter,
 }
 
-/// Why a replay stops early.
+/// Why a replay fails.
 ///
 /// ```text
 /// let (read, write) = (ReplayError::Read, ReplayError::Write);
@@ -42,8 +42,8 @@ impl ::core::fmt::Display for ReplayError {
     }
 }
 
-/// Returns the exit status: 0 if the lines were carried out, 1 if the first line names no limiter, and 2 if a read or a
-/// write failed.
+/// Returns the exit status: 0 if the lines were carried out, 1 if the first line names no limiter, and 2 if a read, a
+/// write or the flush failed.
 ///
 /// ```text
 /// assert_eq!(rt; status(&Ok(ReplayEnd::NoLimiter)), 1);
