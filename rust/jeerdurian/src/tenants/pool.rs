@@ -17,8 +17,9 @@ use core::hash::{BuildHasher, Hash};
 /// entries are evicted: each time the oldest entry of the tenant that is furthest above its share, the tenant of the
 /// `put` included.
 ///
-/// Proved: the total of all costs stays within the limit. While a tenant's cost is within its share, no call of another
-/// tenant changes it. The proofs assume that a cost never changes while its entry is stored.
+/// Proved of the sources: the total of all costs stays within the limit. While a tenant's cost is within its share, no
+/// call of another tenant changes the tenant. The proofs assume that a cost never changes while its entry is stored. A
+/// panic inside a `put` may leave the total wrong.
 ///
 /// In the examples of the calls, `pool` has a limit of 5 and two open tenants: 1 with a share of 3 and the entry (7, 2),
 /// and 2 with a share of 1 and no entry.
