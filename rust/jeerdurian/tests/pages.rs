@@ -82,6 +82,7 @@ fn a_failed_sync_is_not_forgotten() {
         (cache.flush(), cache.write(1, 6), cache.read(2)),
         (Err(PageError::Broken), Err(PageError::Broken), Err(PageError::Broken))
     );
+    assert_eq!((cache.prefetch(1..2), cache.prefetch(1..3)), (Ok(()), Err(PageError::Broken)));
     assert_eq!((cache.read(1), cache.discard().0), (Ok(5), 1));
 }
 
