@@ -226,12 +226,19 @@ module _ {B D E S : Type 0} (d : device.Ghosts D B E S) where
     pub counted : OnOk result (new.counts ≡ counted n old)
     pub uncounted : OnErr result (new.counts ≡ old.counts)
 
-  -- what a read of page n does if it succeeds
+  -- What a read of page n does if it succeeds. The device is usable, or the page is cached.
   pub record ReadsPage (n : ℕ) (old new : Cached B D) : Type 0 where
     pub block : B
     pub shows : d.IsHonest new.device → shown new n ≡ Some (d.seen block)
     pub pages : new.pages ≡ pages_read n block old
+    pub usable : d.is_usable old.device ≡ false → IsCached n old
     pub uses : UsesPage {A = Unit {0}} n old (Ok tt) new
+
+  -- What a read of page n does if it fails. The page is not cached. If the device is not usable, the error is `Broken`.
+  pub record ReadFails (n : ℕ) (old : Cached B D) (e : PageError E) (new : Cached B D) : Type 0 where
+    pub absent : IsCached n old → ⊥
+    pub broken : d.is_usable old.device ≡ false → e ≡ Broken
+    pub uses : UsesPage {A = Unit {0}} n old (Err e) new
 
   -- `count` pages were read, one after another, from page `start` on
   abbrev pub ReadsPages : ℕ → ℕ → Cached B D → Cached B D → Type 0
@@ -242,4 +249,4 @@ module _ {B D E S : Type 0} (d : device.Ghosts D B E S) where
   -- the pages from `start` on were read, and then a read of a page below `end` failed
   abbrev pub ReadsUntil : ℕ → ℕ → Cached B D → Cached B D → PageError E → Type 0
   ReadsUntil start end old new e = (count : ℕ) × (start + count < end) × (between : Cached B D)
-      × ReadsPages start count old between × UsesPage {A = Unit {0}} (start + count) between (Err e) new
+      × ReadsPages start count old between × ReadFails (start + count) between e new

@@ -1,12 +1,13 @@
 -- What `try_insert` does: it inserts a new pair only if nothing has to be evicted for it.
-use Rattle.std.specs.Prelude.{◌≡◌, ℕ, ◌+◌, ◌<◌, Bool, true, false, not, if◌then◌else◌, length, Some, None}
-use Rattle.std.specs.Prelude.{Result, Ok, Err}
+use Rattle.std.specs.Prelude.{◌≡◌, ℕ, ◌+◌, ◌<◌, ◌∷◌, Bool, true, false, not, if◌then◌else◌, length, Some, None}
+use Rattle.std.specs.Prelude.{Result, Ok, Err, OnOk, OnErr, IfErr}
 use Rattle.lru_limits.specs.Rules.{Rules}
 use Rattle.lru_limits.specs.Admissions.{Terms, offers_of}
 use Rattle.lru_model.specs.Lists.{lookup_entry}
 use Rattle.lru_model.specs.State.{State, Contents, contents, growth_left, IsSized}
 use Rattle.lru_model.specs.Reservations.{Reserve}
 use Rattle.lru_model.specs.Inserts.{Insert}
+use Rattle.lru_model.specs.Runs.{Step, Run}
 use Rattle.lru_model.specs.declared.results.ReserveError.{ReserveError}
 
 -- `ready` is the map just before the insert: `old` if growth is left, and otherwise `old` after a reservation.
@@ -49,3 +50,16 @@ module _ {K V S : Type 0} (terms : Terms K V S) (rules : Rules K V S) where
             (ready : State K V S H) → IsReady rules old ready → can_store key value (contents ready) ≡ true →
             result ≡ Ok tt → Insert rules (offers_of terms) eq hash_of key value ready (Ok true) new →
             TryInsert result new
+
+      -- How `try_insert` ends. At an `Ok`, the pair is the newest, nothing is evicted (`added`), and the limiter is
+      -- within its limit (`within`). At an `Err`, the key and the value come back (`returned`), and the pairs stay
+      -- (`keeps`). If growth was left, nothing has changed (`unchanged`). The hasher stays (`hasher`). In a run, the
+      -- call counts as at most two steps: a reservation, and an insert (`calls`).
+      pub record TryInsertEnds (result : Result (Unit {0}) (K × V)) (new : State K V S H) : Type 0 where
+        pub calls : Run (Step rules (offers_of terms) eq hash_of) new old
+        pub added : OnOk result (new.pairs ≡ (key, value) ∷ old.pairs)
+        pub within : OnOk result (rules.is_over_the_limit new.limiter (length new.pairs) ≡ false)
+        pub returned : IfErr result (λ back. back ≡ (key, value))
+        pub keeps : OnErr result (new.pairs ≡ old.pairs)
+        pub unchanged : 0 < growth_left old → OnErr result (new ≡ old)
+        pub hasher : new.hasher ≡ old.hasher

@@ -7,7 +7,6 @@ pub mod OwnRuns
 pub mod TotalCosts
 pub mod PutFulls
 pub mod Pools
-pub mod Searches
 pub mod PoolEvict
 pub mod PoolKept
 pub mod PoolPuts

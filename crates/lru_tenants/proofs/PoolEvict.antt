@@ -1,16 +1,21 @@
 -- The search for the tenant furthest above its share, and one eviction.
 use Rattle.std.proofs.Common.{◌≡◌, ◌≤◌, ◌<◌, ◌+◌, ℕ, zero, suc, Bool, true, List, [], ◌∷◌, Option, Some, None, length}
 use Rattle.std.proofs.Common.{refl, sym, ap, ◌∙◌, arith, sum_by, nat_eq}
+use Rattle.std.specs.Borrow.{Bor}
+use Rattle.std.specs.Cmp.{IsEquivalence}
+use Rattle.std.specs.Fn.{Mut}
 use Rattle.std.specs.Prelude.{Contains, OnSome}
-use Rattle.std.specs.List.{All}
-use Rattle.std.specs.Map.{lookup, set_value, values_of}
+use Rattle.std.specs.List.{All, IsDistinct}
+use Rattle.std.specs.Map.{keys_of, lookup, set_value, values_of}
 use Rattle.std.proofs.lemmas.Bool.{eqb-true}
 use Rattle.std.proofs.lemmas.List.Elements.{All-nil, All-cons, All-weaker, Contains-append_right}
 use Rattle.std.proofs.lemmas.Map.Entries.{sum_by-set_value}
-use Rattle.std.proofs.lemmas.Map.Views.{All-values-set_value}
+use Rattle.std.proofs.lemmas.Map.Views.{All-values-set_value, lookup-from_Contains}
 use Rattle.lru_limits.specs.Rules.{Rules}
+use Rattle.lru_model.specs.ByHash.{GivesByHash}
 use Rattle.lru_model.specs.Calls.{PopOldest}
 use Rattle.lru_model.specs.State.{State}
+use Rattle.lru_model.proofs.Theorems.KeySearches.{given-there}
 use Rattle.lru_tenants.proofs.Changes.{found-all}
 use Rattle.lru_tenants.proofs.Pools.{some-above}
 use Rattle.lru_tenants.specs.Cache.{IsTenant}
@@ -19,6 +24,13 @@ use Rattle.lru_tenants.specs.Pool.{Part, cost, excess, total_cost, total_share, 
 pub OnSome-some : {X P : Type 0} (o : Option X) (x : X) → o ≡ Some x → OnSome o P → P
 OnSome-some None x is h = absurd (cc)
 OnSome-some (Some y) x is h = h
+
+-- a search by a hash finds the value of the key of the pair that it returns
+pub given-found : {K V F : Type 0} {eq : K → K → Bool} {hash_of : K → ℕ} {all : List (K × V)} {hash : ℕ}
+    {closure : Mut F (Bor K × (Bor V × Unit {0})) Bool} {f : F} → IsEquivalence eq → IsDistinct eq (keys_of all)
+    → (pair : K × V) → GivesByHash eq hash_of all hash closure f pair → lookup (eq pair.0) all ≡ Some pair.1
+given-found {all = all} laws distinct pair given =
+    lookup-from_Contains laws pair.0 pair.1 all distinct (given-there pair given)
 
 module _ {N K V L S : Type 0} (account : L → ℕ) (hash_of : N → ℕ) (all : List (N × Part K V L S)) where
   -- `rest` is left to search, and so far `most` is the greatest excess, of a tenant whose name has the hash

@@ -1,10 +1,10 @@
 -- A pair for which `can_store` is true.
 --     accepts_new      the limiter accepts such a pair when an insert offers it
 --     adds             if growth is left, an insert adds the pair and evicts nothing
---     says             what a caller learns about `try_insert`
+--     try_ends         how `try_insert` ends
 use Rattle.std.proofs.Common.{◌≡◌, ℕ, ◌+◌, ◌<◌, Bool, true, false, ◌∷◌, length, None, Result, Ok, Err, refl}
 use Rattle.std.proofs.Common.{ap, ◌∙◌, subst, arith}
-use Rattle.std.specs.Prelude.{not, if◌then◌else◌, OnOk, OnErr, IfErr}
+use Rattle.std.specs.Prelude.{not, if◌then◌else◌}
 use Rattle.std.proofs.lemmas.Bool.{false≢true}
 use Rattle.std.specs.declared.alloc.AllocError.{AllocError}
 use Rattle.lru_limits.specs.Rules.{Rules}
@@ -14,12 +14,13 @@ use Rattle.lru_model.specs.State.{State, Contents, contents, growth_left, IsSize
 use Rattle.lru_model.specs.Reservations.{Reserve, unchanged, rehashed, reserved as grown, asked_only}
 use Rattle.lru_model.specs.declared.results.ReserveError.{ReserveError}
 use Rattle.lru_model.specs.Inserts.{Insert}
-use Rattle.lru_model.specs.Runs.{Step, reserves, inserts, Run, ends, goes_on}
+use Rattle.lru_model.specs.Runs.{Step, reserves, inserts, calls as any_call, Run, ends, goes_on}
 use Rattle.lru_model.specs.Kept.{AcceptsNew}
 use Rattle.lru_model.specs.TryInserts.{can_store, IsReady, has_growth, reserved, not_reserved, cannot_store_then}
-use Rattle.lru_model.specs.TryInserts.{TryInsert, there, cannot_store, unready, inserted}
+use Rattle.lru_model.specs.TryInserts.{TryInsert, TryInsertEnds, there, cannot_store, unready, inserted}
 use Rattle.lru_model.proofs.Theorems.Reservations.{reserved_list, makes_room}
 use Rattle.lru_model.proofs.Theorems.RoomyInserts.{is_added}
+use Rattle.lru_model.proofs.Theorems.Runs.{any_step_same}
 use Rattle.lru_model.proofs.Theorems.StoringLimiters.{offers_of-accepts}
 
 both : (b d : Bool) → (if b then not d else false) ≡ true → (b ≡ true) × (d ≡ false)
@@ -78,17 +79,11 @@ module _ {K V S H : Type 0} (rules : Rules K V S) (old : State K V S H) where
 
 module _ {K V S H : Type 0} (terms : Terms K V S) (rules : Rules K V S) (eq : K → K → Bool) (hash_of : H → K → ℕ)
     (key : K) (value : V) (old : State K V S H) (ok : IsSized old) where
-  -- what a caller learns about `try_insert`
-  pub record Says (result : Result (Unit {0}) (K × V)) (new : State K V S H) : Type 0 where
-    pub calls : Run (Step rules (offers_of terms) eq hash_of) new old
-    pub added : OnOk result (new.pairs ≡ (key, value) ∷ old.pairs)
-    pub within : OnOk result (rules.is_over_the_limit new.limiter (length new.pairs) ≡ false)
-    pub returned : IfErr result (λ back. back ≡ (key, value))
-    pub keeps : OnErr result (new.pairs ≡ old.pairs)
-    pub unchanged : 0 < growth_left old → OnErr result (new ≡ old)
+  abbrev Ends : Result (Unit {0}) (K × V) → State K V S H → Type 0
+  Ends = TryInsertEnds terms rules key value old eq hash_of
 
   refuses : (answer : Result (Unit {0}) ReserveError) (new : State K V S H) → growth_left old ≡ 0
-      → Reserve rules 1 old answer new → IsSized new → Says (Err (key, value)) new
+      → Reserve rules 1 old answer new → IsSized new → Ends (Err (key, value)) new
   refuses answer new none step sized = record {
     calls = goes_on new (reserves 1 answer step) sized ends;
     added = tt;
@@ -96,14 +91,23 @@ module _ {K V S H : Type 0} (terms : Terms K V S) (rules : Rules K V S) (eq : K 
     returned = refl;
     keeps = (reserved_list rules 1 old answer new step).0;
     unchanged = λ some. absurd (omega (arith, none, some));
+    hasher = hasher_stays rules old answer new step;
   }
 
-  stays : Says (Err (key, value)) old
-  stays = record { calls = ends; added = tt; within = tt; returned = refl; keeps = refl; unchanged = λ some. refl }
+  stays : Ends (Err (key, value)) old
+  stays = record {
+    calls = ends;
+    added = tt;
+    within = tt;
+    returned = refl;
+    keeps = refl;
+    unchanged = λ some. refl;
+    hasher = refl;
+  }
 
   adds_after : (ready new : State K V S H) → IsReady rules old ready
       → can_store terms rules key value (contents ready) ≡ true → lookup_entry (eq key) old.pairs ≡ None
-      → Insert rules (offers_of terms) eq hash_of key value ready (Ok true) new → IsSized new → Says (Ok tt) new
+      → Insert rules (offers_of terms) eq hash_of key value ready (Ok true) new → IsSized new → Ends (Ok tt) new
   adds_after ready new is place absent step sized =
       let same = ready_pairs rules old ready is in
       let added = adds terms rules eq key value ready (Ok true) new place
@@ -119,6 +123,8 @@ module _ {K V S H : Type 0} (terms : Terms K V S) (rules : Rules K V S) (eq : K 
         returned = tt;
         keeps = tt;
         unchanged = λ some. tt;
+        hasher = (any_step_same ready new (any_call (inserts key value (Ok true) step))).0
+            ∙ ready_hasher rules old ready is;
       }
     where
       before : (ready : State K V S H) → IsReady rules old ready → Run (Step rules (offers_of terms) eq hash_of) new ready
@@ -126,13 +132,13 @@ module _ {K V S H : Type 0} (terms : Terms K V S) (rules : Rules K V S) (eq : K 
       before ready (has_growth some e) run = subst (Run (Step rules (offers_of terms) eq hash_of) new) e run
       before ready (reserved none step sized) run = goes_on ready (reserves 1 (Ok tt) step) sized run
 
-  pub says : (result : Result (Unit {0}) (K × V)) (new : State K V S H) → IsSized new
-      → TryInsert terms rules key value old eq hash_of result new → Says result new
-  says result new sized (there pair found r e) = rw (r, e) stays
-  says result new sized (cannot_store absent full r e) = rw (r, e) stays
-  says result new sized (unready absent can (not_reserved none error step) r) = rw r
+  pub try_ends : (result : Result (Unit {0}) (K × V)) (new : State K V S H) → IsSized new
+      → TryInsert terms rules key value old eq hash_of result new → Ends result new
+  try_ends result new sized (there pair found r e) = rw (r, e) stays
+  try_ends result new sized (cannot_store absent full r e) = rw (r, e) stays
+  try_ends result new sized (unready absent can (not_reserved none error step) r) = rw r
       (refuses (Err error) new none step sized)
-  says result new sized (unready absent can (cannot_store_then none step full) r) = rw r
+  try_ends result new sized (unready absent can (cannot_store_then none step full) r) = rw r
       (refuses (Ok tt) new none step sized)
-  says result new sized (inserted absent can ready is place r step) =
+  try_ends result new sized (inserted absent can ready is place r step) =
       rw r (adds_after ready new is place absent step sized)

@@ -1,4 +1,5 @@
--- If the closure of a search by a hash tests for a key and changes nothing, the search finds the pair of this key.
+-- Searches by a hash, whose closure tests each pair and changes nothing. If it tests for a key, the search finds the pair
+-- of this key.
 use Rattle.std.proofs.Common.{◌≡◌, ℕ, zero, suc, Bool, true, false, cond, List, [], ◌∷◌, ◌++◌, Some, refl}
 use Rattle.std.proofs.Common.{sym, ap, ◌∙◌, subst, arith}
 use Rattle.std.specs.Prelude.{Contains, unwrap_or}
@@ -14,11 +15,16 @@ use Rattle.lru_model.specs.Lists.{lookup_entry}
 use Rattle.lru_model.proofs.PairLists.DistinctKeys.{AreDistinct, all_of}
 use Rattle.lru_model.proofs.Theorems.Fronts.{found_named}
 
-module _ {K V F : Type 0} {closure : Mut F (Bor K × (Bor V × Unit {0})) Bool} {f : F} (test : K → Bool)
-    (tests : (key : Bor K) (value : Bor V) (r : Bool) (g : F) → Called closure f (key, (value, tt)) r g
-    → (r ≡ test key.now) × (g ≡ f)) where
-  asks-test : (pair : K × V) (r : Bool) (g : F) → Asks closure f pair r g → (r ≡ test pair.0) × (g ≡ f)
-  asks-test pair r g a = let t = tests a.key a.value r g a.called in (t.0 ∙ ap test a.shows.0, t.1)
+-- The closure tests each pair, and changes nothing.
+abbrev pub Tests : {K V F : Type 0} → Mut F (Bor K × (Bor V × Unit {0})) Bool → F → (K × V → Bool) → Type 0
+Tests {K} {V} {F} closure f test = (key : Bor K) (value : Bor V) (r : Bool) (g : F)
+    → Called closure f (key, (value, tt)) r g → (r ≡ test (key.now, value.now)) × (g ≡ f)
+
+module _ {K V F : Type 0} {closure : Mut F (Bor K × (Bor V × Unit {0})) Bool} {f : F} (test : K × V → Bool)
+    (tests : Tests closure f test) where
+  asks-test : (pair : K × V) (r : Bool) (g : F) → Asks closure f pair r g → (r ≡ test pair) × (g ≡ f)
+  asks-test pair r g a = let t = tests a.key a.value r g a.called in
+      (t.0 ∙ (λ i. test (a.shows.0 i, a.shows.1 i)), t.1)
 
   refused_same : (pairs : List (K × V)) (g : F) → Refuses closure f pairs g → g ≡ f
   refused_same [] g h = sym h
@@ -26,24 +32,24 @@ module _ {K V F : Type 0} {closure : Mut F (Bor K × (Bor V × Unit {0})) Bool} 
       let next = (asks-test pair false h.0 h.1).1 in
       refused_same pairs g (subst (λ j. Refuses closure j pairs g) next h.2)
 
-  refused_fail : (pairs : List (K × V)) (g : F) → Refuses closure f pairs g → All (λ p. test p.0 ≡ false) pairs
-  refused_fail [] g h = All-nil (λ p. test p.0 ≡ false)
+  refused_fail : (pairs : List (K × V)) (g : F) → Refuses closure f pairs g → All (λ p. test p ≡ false) pairs
+  refused_fail [] g h = All-nil (λ p. test p ≡ false)
   refused_fail (pair ∷ pairs) g h =
       let next = (asks-test pair false h.0 h.1).1 in
-      All-cons (λ p. test p.0 ≡ false) pair pairs (sym (asks-test pair false h.0 h.1).0)
+      All-cons (λ p. test p ≡ false) pair pairs (sym (asks-test pair false h.0 h.1).0)
       (refused_fail pairs g (subst (λ j. Refuses closure j pairs g) next h.2))
 
   module _ {eq : K → K → Bool} {hash_of : K → ℕ} {all : List (K × V)} {hash : ℕ} where
-    given-passes : (pair : K × V) → GivesByHash eq hash_of all hash closure f pair → test pair.0 ≡ true
+    pub given-passes : (pair : K × V) → GivesByHash eq hash_of all hash closure f pair → test pair ≡ true
     given-passes pair given =
         let same = refused_same given.before given.between given.refused in
         let accepted = subst (λ j. Asks closure j pair true given.last) same given.accepted in
         sym (asks-test pair true given.last accepted).0
 
-    none-fails : GivesNoneByHash eq hash_of all hash closure f → (pair : K × V) → Contains all pair
-        → hash_of pair.0 ≡ hash → test pair.0 ≡ false
+    pub none-fails : GivesNoneByHash eq hash_of all hash closure f → (pair : K × V) → Contains all pair
+        → hash_of pair.0 ≡ hash → test pair ≡ false
     none-fails none pair there same =
-        All-contains (λ p. test p.0 ≡ false) none.asked pair (refused_fail none.asked none.last none.refused)
+        All-contains (λ p. test p ≡ false) none.asked pair (refused_fail none.asked none.last none.refused)
         (none.complete pair there same)
 
 module _ {K V F : Type 0} {eq : K → K → Bool} {hash_of : K → ℕ} {all : List (K × V)} {hash : ℕ}
@@ -52,7 +58,7 @@ module _ {K V F : Type 0} {eq : K → K → Bool} {hash_of : K → ℕ} {all : L
   given-among : Contains (given.before ++ pair ∷ []) pair
   given-among = Contains-append_right given.before (pair ∷ []) pair (zero, omega arith, refl)
 
-  given-there : Contains all pair
+  pub given-there : Contains all pair
   given-there = given.candidates.there pair given-among
 
   pub given-tag : hash_tag (hash_of pair.0) ≡ hash_tag hash
@@ -84,16 +90,15 @@ found-there names (x ∷ xs) pair e = go (names x.0) e (found-there names xs pai
 
 module _ {K V F : Type 0} {eq : K → K → Bool} (laws : IsEquivalence eq) (key : K) {hash_of : K → ℕ}
     {all : List (K × V)} {hash : ℕ} {closure : Mut F (Bor K × (Bor V × Unit {0})) Bool} {f : F}
-    (tests : (k : Bor K) (value : Bor V) (r : Bool) (g : F) → Called closure f (k, (value, tt)) r g
-    → (r ≡ eq key k.now) × (g ≡ f)) where
+    (tests : Tests closure f (λ p. eq key p.0)) where
   pub given-found : AreDistinct eq all → (pair : K × V) → GivesByHash eq hash_of all hash closure f pair
       → lookup_entry (eq key) all ≡ Some pair
   given-found distinct pair given = there-found laws key all distinct pair (given-there pair given)
-      (given-passes (eq key) tests pair given)
+      (given-passes (λ p. eq key p.0) tests pair given)
 
   pub none-found : GivesNoneByHash eq hash_of all hash closure f → (pair : K × V)
       → lookup_entry (eq key) all ≡ Some pair → hash_of pair.0 ≡ hash → ⊥
   none-found none pair is same =
-      let fails = none-fails (eq key) tests none pair (found-there (eq key) all pair is) same in
+      let fails = none-fails (λ p. eq key p.0) tests none pair (found-there (eq key) all pair is) same in
       let other : true ≡ false = sym (found_named (eq key) all pair is) ∙ fails in
       cc

@@ -13,6 +13,8 @@ use Rattle.lru_model.specs.Inserts.{Settles, NeedsMemory, IsOutOfMemory}
 use Rattle.lru_model.specs.Lists.{IsFront}
 use Rattle.lru_model.proofs.Theorems.Fronts.{front_same, front_trans, front_make_room}
 use Rattle.lru_model.proofs.Theorems.InsertAnswers.{place_comes, insert_says, insert_stores}
+use Rattle.lru_model.proofs.Theorems.Runs.{any_step_same}
+use Rattle.lru_model.specs.Runs.{calls, inserts}
 use Rattle.lru_model.specs.Theorems.{InsertEnds}
 use Rattle.lru_limits.specs.Laws.{IsLookup, IsInsertion}
 use Rattle.lru_limits.specs.Rules.{Rules, Offers}
@@ -101,4 +103,5 @@ module _ {K V S H I : Type 0} {rules : Rules K V S} {offers : Offers K V S I} {n
     stores = λ yes. insert_stores yes step;
     out_of_memory = on_err result (λ failed. err_is failed step);
     keeps = on_err result (λ failed. err_keeps failed step);
+    hasher = (any_step_same old new (calls (inserts i v result step))).0;
   }

@@ -1,10 +1,9 @@
-ghost use Rattle.std.specs.Prelude.{◌≡◌, ◌∷◌, ◌<◌, true, false, None, Ok, OnOk, OnErr, IfErr, IsTrue, length};
+ghost use Rattle.std.specs.Prelude.{◌≡◌, ◌<◌, true, false, None, Ok, IsTrue};
 ghost use Rattle.lru_limits.specs.Admissions.{offers_of};
 ghost use Rattle.lru_model.specs.Lists.{lookup_entry};
 ghost use Rattle.lru_model.specs.State.{IsMap, contents, growth_left};
 ghost use Rattle.lru_model.specs.Inserts.{Insert};
-ghost use Rattle.lru_model.specs.Runs.{Step, Run};
-ghost use Rattle.lru_model.specs.TryInserts.{TryInsert, IsReady, IsUnready, can_store};
+ghost use Rattle.lru_model.specs.TryInserts.{TryInsert, TryInsertEnds, IsReady, IsUnready, can_store};
 
 use crate::map::LruMap;
 use crate::map::remove::discard;
@@ -44,12 +43,7 @@ impl<K: Eq + Hash + Drop, V: Drop, L: Admission<K, V> + Copy, S: KeyHasher<K>> L
     /// Follows std's `HashMap::try_insert`.
     pub fn try_insert(&mut self, key: K, value: V) -> Result<(), (K, V)>
         ensures step { TryInsert L.terms L.rules key value self.old K.eq S.hash_of result self.new }
-        ensures calls { Run (Step L.rules (offers_of L.terms) K.eq S.hash_of) self.new self.old }
-        ensures added { OnOk result (self.new.pairs ≡ (key, value) ∷ self.old.pairs) }
-        ensures within { OnOk result (L.rules.is_over_the_limit self.new.limiter (length self.new.pairs) ≡ false) }
-        ensures returned { IfErr result (λ back. back ≡ (key, value)) }
-        ensures keeps { OnErr result (self.new.pairs ≡ self.old.pairs) }
-        ensures unchanged { 0 < growth_left self.old → OnErr result (self.new ≡ self.old) }
+        ensures ends { TryInsertEnds L.terms L.rules key value self.old K.eq S.hash_of result self.new }
         ensures map { IsMap K.eq self.new }
     {
         let hash = self.hasher.hash_named(&key);
@@ -77,12 +71,7 @@ impl<K: Eq + Hash + Drop, V: Drop, L: Admission<K, V> + Copy, S: KeyHasher<K>> L
     pub fn try_insert_hashed(&mut self, hash: u64, key: K, value: V) -> Result<(), (K, V)>
         requires hash { (k : K) → IsTrue (K.eq key k) → hash ≡ S.hash_of self.old.hasher k }
         ensures step { TryInsert L.terms L.rules key value self.old K.eq S.hash_of result self.new }
-        ensures calls { Run (Step L.rules (offers_of L.terms) K.eq S.hash_of) self.new self.old }
-        ensures added { OnOk result (self.new.pairs ≡ (key, value) ∷ self.old.pairs) }
-        ensures within { OnOk result (L.rules.is_over_the_limit self.new.limiter (length self.new.pairs) ≡ false) }
-        ensures returned { IfErr result (λ back. back ≡ (key, value)) }
-        ensures keeps { OnErr result (self.new.pairs ≡ self.old.pairs) }
-        ensures unchanged { 0 < growth_left self.old → OnErr result (self.new ≡ self.old) }
+        ensures ends { TryInsertEnds L.terms L.rules key value self.old K.eq S.hash_of result self.new }
         ensures map { IsMap K.eq self.new }
     {
         let _ = &self.entries;

@@ -11,7 +11,7 @@ returns-in_default-clause-old g c =
     let key = c.args.key in
     let eq = g.K.PartialEq.eq in
     let pairs = c.self.inside.map.pairs in
-    let distinct = subst (λ l. IsDistinct eq (keys_of l)) c.in_default.ensures.added c.try_insert.ensures.map.distinct
+    let distinct = subst (λ l. IsDistinct eq (keys_of l)) c.in_default.ensures.ends.added c.try_insert.ensures.map.distinct
     in
     let none = none_more (eq key) (g.met.K.Eq.laws.congr key) key pairs (g.met.K.Eq.laws.refl key)
     (IsDistinct-head eq key (keys_of pairs) distinct) in
@@ -22,12 +22,12 @@ returns-in_default-clause-entries g c =
     let key = c.args.key in
     let eq = g.K.PartialEq.eq in
     let pairs = c.self.inside.map.pairs in
-    let distinct = subst (λ l. IsDistinct eq (keys_of l)) c.in_default.ensures.added c.try_insert.ensures.map.distinct
+    let distinct = subst (λ l. IsDistinct eq (keys_of l)) c.in_default.ensures.ends.added c.try_insert.ensures.map.distinct
     in
     let none = none_more (eq key) (g.met.K.Eq.laws.congr key) key pairs (g.met.K.Eq.laws.refl key)
     (IsDistinct-head eq key (keys_of pairs) distinct) in
     rw (← c.self.view_is)
-    (ap reverse c.in_default.ensures.added
+    (ap reverse c.in_default.ensures.ends.added
     ∙ put-new (eq key) (g.met.K.Eq.laws.congr key) pairs c.distinct.ensures key c.args.value none)
 
 pub returns-in-Some-clause-old : goal.returns-in-Some-clause-old
@@ -35,8 +35,8 @@ returns-in-Some-clause-old g c =
     let key = c.args.key in
     let eq = g.K.PartialEq.eq in
     let left = c.try_insert.new.self.pairs in
-    let same = ap (λ k. lookup (eq k) left) (ap (λ back. back.0) c.in-Err.ensures.returned)
-    ∙ ap (lookup (eq key)) c.in-Err.ensures.keeps in
+    let same = ap (λ k. lookup (eq k) left) (ap (λ back. back.0) c.in-Err.ensures.ends.returned)
+    ∙ ap (lookup (eq key)) c.in-Err.ensures.ends.keeps in
     rw (← c.self.view_is)
     (ap Some c.replace.ensures.value ∙ c.in-Some.ensures.value ∙ same
     ∙ sym (lookup-reverse (eq key) (g.met.K.Eq.laws.congr key) c.self.inside.map.pairs c.distinct.ensures))
@@ -47,13 +47,13 @@ returns-in-Some-clause-entries g c =
     let value = c.args.value in
     let eq = g.K.PartialEq.eq in
     let left = c.try_insert.new.self.pairs in
-    let key_is = ap (λ back. back.0) c.in-Err.ensures.returned in
-    let value_is = ap (λ back. back.1) c.in-Err.ensures.returned in
-    let same = ap (λ k. lookup (eq k) left) key_is ∙ ap (lookup (eq key)) c.in-Err.ensures.keeps in
+    let key_is = ap (λ back. back.0) c.in-Err.ensures.ends.returned in
+    let value_is = ap (λ back. back.1) c.in-Err.ensures.ends.returned in
+    let same = ap (λ k. lookup (eq k) left) key_is ∙ ap (lookup (eq key)) c.in-Err.ensures.ends.keeps in
     rw (← c.self.view_is)
     (ap (λ w. reverse (set_value (eq c.in-Err.key) left w)) (c.replace.ensures.after ∙ value_is)
     ∙ ap (λ k. reverse (set_value (eq k) left value)) key_is
-    ∙ ap (λ l. reverse (set_value (eq key) l value)) c.in-Err.ensures.keeps
+    ∙ ap (λ l. reverse (set_value (eq key) l value)) c.in-Err.ensures.ends.keeps
     ∙ put-there (eq key) (g.met.K.Eq.laws.congr key) c.self.inside.map.pairs c.distinct.ensures key value
     c.in-Some.place.now (sym same ∙ sym c.in-Some.ensures.value))
 
@@ -62,8 +62,8 @@ returns-clause-there g c = rw (← c.self.view_is) (λ some.
     let key = c.args.key in
     let eq = g.K.PartialEq.eq in
     let left = c.try_insert.new.self.pairs in
-    let same = ap (λ k. lookup (eq k) left) (ap (λ back. back.0) c.in-Err.ensures.returned)
-    ∙ ap (lookup (eq key)) c.in-Err.ensures.keeps in
+    let same = ap (λ k. lookup (eq k) left) (ap (λ back. back.0) c.in-Err.ensures.ends.returned)
+    ∙ ap (lookup (eq key)) c.in-Err.ensures.ends.keeps in
     let none = lookup-reverse (eq key) (g.met.K.Eq.laws.congr key) c.self.inside.map.pairs c.distinct.ensures
     ∙ sym same ∙ sym c.in_default-peek_mut.ensures.value in
     absurd (true≢false (sym some ∙ ap is_some none)))

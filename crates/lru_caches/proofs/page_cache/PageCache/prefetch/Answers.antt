@@ -1,8 +1,13 @@
-use Rattle.std.proofs.Common.{◌≡◌, ◌⊎◌, ◌≤◌, ◌+◌, ◌-◌, suc, sym, ◌∙◌, subst, inl, inr, Err, arith}
+use Rattle.std.proofs.Common.{◌≡◌, ◌⊎◌, ◌≤◌, ◌+◌, ◌-◌, suc, false, sym, ap, ◌∙◌, subst, inl, inr, Result, Ok, Err, arith}
+use Rattle.std.proofs.lemmas.Bool.{true≢false}
 use Rattle.std.proofs.lemmas.Result.{err_from_is_err_and}
-use Rattle.lru_caches.specs.Pages.{ReadsPage, ReadsPages, UsesPage}
+use Rattle.lru_caches.specs.Pages.{ReadsPage, ReadsPages, ReadFails, IsCached}
 use Rattle.lru_caches.proofs.Blocks.{good-before}
 use Rattle.lru_caches.proofs.page_cache.PageCache.prefetch.Goals as goal
+
+error_or : {A E : Type 0} → E → Result A E → E
+error_or e (Ok x) = e
+error_or e (Err other) = other
 
 pub loop-n-preserved : goal.loop-n-preserved
 loop-n-preserved g c =
@@ -16,6 +21,8 @@ loop-n-preserved g c =
     let (block, shows, pages) = did.page in
     let one : n + 1 - start ≡ suc (n - start) = omega (arith, h.from) in
     let at : start + (n - start) ≡ n = omega (arith, h.from) in
+    let usable : d.is_usable old.device ≡ false → IsCached n old =
+    λ unusable. elim did.broken unusable [| inl cached ↦ cached | inr failed ↦ cc] in
     record {
       from = omega (arith, h.from);
       to = inl (omega (arith, c.loop-n-test.true));
@@ -23,7 +30,7 @@ loop-n-preserved g c =
         old,
         h.reads,
         subst (λ m. ReadsPage d m old new) (sym at)
-            (record { block = block; shows = shows; pages = pages; uses = did.uses }),
+            (record { block = block; shows = shows; pages = pages; usable = usable; uses = did.uses }),
       );
       keeps = λ good m b is. did.keeps good m b (h.keeps (good-before d old.device new.device did.uses.serves good) m b is);
       capacity = did.uses.capacity ∙ h.capacity;
@@ -38,13 +45,21 @@ returns-in_err-bring-clause-failed g c =
     let h = c.loop-n.invariant in
     let at : start + (n - start) ≡ n = omega (arith, h.from) in
     let failed = err_from_is_err_and c.from_residual.result c.from_residual.ensures.1 in
+    let did = c.in_err-bring.ensures in
+    let absent : IsCached n c.loop-n.self → ⊥ = λ cached. true≢false (sym (did.hit cached)) in
     rw (failed.1, failed.2) (
       n - start,
       omega (arith, h.from, c.loop-n-test.true),
       c.loop-n.self,
       h.reads,
-      subst (λ m. UsesPage d {A = Unit {0}} m c.loop-n.self (Err c.in_err-bring.field-0.0) c.bring.new.self) (sym at)
-          c.in_err-bring.ensures.uses,
+      subst (λ m. ReadFails d m c.loop-n.self c.in_err-bring.field-0.0 c.bring.new.self) (sym at) (record {
+        absent = absent;
+        broken = λ unusable. elim did.broken unusable [
+          | inl cached ↦ absurd (absent cached)
+          | inr failed ↦ ap (error_or c.in_err-bring.field-0.0) failed
+        ];
+        uses = did.uses;
+      }),
     )
 
 pub returns-clause-reads : goal.returns-clause-reads

@@ -4,11 +4,11 @@ use Rattle.std.specs.Prelude.{unwrap_or}
 use Rattle.std.specs.List.{All}
 use Rattle.std.specs.Map.{values_of}
 use Rattle.std.specs.Option.{option_copied_mut}
+use Rattle.lru_model.proofs.Theorems.KeySearches.{given-passes, none-fails}
 use Rattle.lru_tenants.proofs.Changes.{found-all}
 use Rattle.lru_tenants.proofs.PoolEvict.{OnSome-some, is-above, evicted, evict-frees, evict-fewer, evict-shares}
-use Rattle.lru_tenants.proofs.PoolEvict.{evict-each}
+use Rattle.lru_tenants.proofs.PoolEvict.{evict-each, given-found}
 use Rattle.lru_tenants.proofs.Pools.{some-above}
-use Rattle.lru_tenants.proofs.Searches.{given-passes, given-found, none-fails}
 use Rattle.lru_tenants.specs.Cache.{IsTenant}
 use Rattle.lru_tenants.specs.Pool.{excess, total_cost, total_share, IsPart, Evicts}
 use Rattle.lru_tenants.proofs.pool.evict.evict.Goals as goal
@@ -19,7 +19,7 @@ returns-in_err-own g c =
     let (pair, there, far, hashed) = c.furthest-most.ensures.there
     (some-above g.L.Summing.account c.args.tenants.now.pairs most c.furthest-most.ensures.most c.requires.above) in
     absurd (true≢false (sym (eq-eqb (excess g.L.Summing.account pair.1) most far)
-    ∙ none-fails (λ own. nat_eq (excess g.L.Summing.account own) most) (λ k v r h called. search rules)
+    ∙ none-fails (λ p. nat_eq (excess g.L.Summing.account p.1) most) (λ k v r h called. search rules)
     c.in_err-own.ensures.none pair there hashed))
 
 pub drop_oldest-requires-clause-above : goal.drop_oldest-requires-clause-above
@@ -29,7 +29,7 @@ drop_oldest-requires-clause-above g c =
     let same : own ≡ pair.1 = ap (λ o. unwrap_or o own) (sym (ap option_copied_mut c.in_ok-own.was) ∙ is) in
     is-above g.L.Summing.account g.N.PartialEq.eq c.args.tenants.now.pairs most c.furthest-most.ensures.most c.requires.above pair own
     (given-found g.met.N.Eq.laws c.len-len.ensures.map.distinct pair given) same
-    (given-passes (λ own. nat_eq (excess g.L.Summing.account own) most) (λ k v r h called. search rules) pair given)
+    (given-passes (λ p. nat_eq (excess g.L.Summing.account p.1) most) (λ k v r h called. search rules) pair given)
 
 pub drop_oldest-requires-clause-tenant : goal.drop_oldest-requires-clause-tenant
 drop_oldest-requires-clause-tenant g c =
@@ -47,7 +47,7 @@ returns g c =
     let (pair, given, is, left) = OnSome-some _ _ c.in_ok-own.was (c.peek_by_hash_mut.follows.holds next) in
     let same : own ≡ pair.1 = ap (λ o. unwrap_or o own) (sym (ap option_copied_mut c.in_ok-own.was) ∙ is) in
     let there = given-found g.met.N.Eq.laws c.len-len.ensures.map.distinct pair given in
-    let passes = given-passes (λ own. nat_eq (excess g.L.Summing.account own) most) (λ k v r h called. search rules)
+    let passes = given-passes (λ p. nat_eq (excess g.L.Summing.account p.1) most) (λ k v r h called. search rules)
     pair given in
     let far = c.furthest-most.ensures.most in
     let high = c.requires.above in
