@@ -1,4 +1,5 @@
-ghost use Rattle.std.specs.Prelude.{◌≡◌, IfOk, List, IsTrue};
+ghost use Rattle.std.specs.Prelude.{◌≡◌, IfOk, List, IsTrue, None};
+ghost use Rattle.lru_model.specs.Lists.{lookup_entry};
 ghost use Rattle.lru_model.specs.State.{contents, IsMap};
 ghost use Rattle.lru_model.specs.Inserts.{Insert, kept_of, unkept_value};
 ghost use Rattle.lru_model.specs.Theorems.{InsertEnds};
@@ -221,6 +222,48 @@ impl<K: Eq + Hash, V, L: Limiter<K, V>, S: KeyHasher<K>> LruMap<K, V, L, S> {
         let inserted = self.insert_or_replace(hash, key, value, sink);
         let _ = &self.entries;
         inserted
+    }
+
+    /// Does what `insert_hashed` does, without a search for the key. The key must not be in the map.
+    ///
+    /// The prover checks this. In Rust nothing does: if the key is in the map, the map then contains the key twice.
+    ///
+    /// ```
+    /// let hash = map.hasher().hash_named(&5);
+    /// if map.peek_by_hash(hash, |key, _| *key == 5).is_none() {
+    ///     assert!(rt; map.insert_absent(hash, 5, 50, &mut |_, _| {})?);
+    /// }
+    /// ```
+    ///
+    /// Cost: as `insert_hashed`, without the search.
+    ///
+    /// # Errors
+    ///
+    /// Fails as `insert` does.
+    #[inline(always)]
+    pub fn insert_absent<I: LookupKey<K>, F: FnMut(K, V)>(
+        &mut self,
+        hash: u64,
+        key: I,
+        value: V,
+        sink: &mut F,
+    ) -> Result<bool, AllocError>
+    where
+        L: Insertion<K, V, I>,
+        requires callable { MayTakeInserted L.rules F.FnMut L.offers I.names key value (contents self.old) sink.old }
+        requires hash { (k : K) → IsTrue (I.names key k) → hash ≡ S.hash_of self.old.hasher k }
+        requires absent { lookup_entry (I.names key) self.old.pairs ≡ None }
+        ensures step { Insert L.rules L.offers I.names S.hash_of key value self.old result self.new }
+        ensures passed { (passed : List (K × V)) × CalledWith F.FnMut sink.old passed sink.new
+            × InsertPasses L.rules L.offers I.names S.hash_of key value self.old result passed self.new }
+        ensures callable { F.IsAlwaysCallable sink.old → F.IsAlwaysCallable sink.new }
+        ensures ends { InsertEnds L.rules L.offers I.names S.hash_of key value self.old result self.new }
+        ensures map { IsMap K.eq self.new }
+    {
+        let _ = &self.entries;
+        let kept = self.insert_new(hash, key, value, sink);
+        let _ = &self.entries;
+        kept
     }
 
     // Does not drop the value that the map does not keep, but returns this value.
