@@ -112,7 +112,7 @@ impl<T> Costed for Vec<T> {
 /// A limiter with a running total. It adds the cost of each accepted entry, and subtracts the cost of each evicted or
 /// removed entry.
 ///
-/// If no caller writes to a stored value, or writes or sets the limiter, the total after each call is the sum of the
+/// Unless a caller writes to a stored value, or writes or sets the limiter, the total after each call is the sum of the
 /// costs of the map's entries.
 ///
 /// ```
