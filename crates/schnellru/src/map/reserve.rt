@@ -13,8 +13,8 @@ impl<K: Eq + Hash, V, L: Limiter<K, V>, S: KeyHasher<K>> LruMap<K, V, L, S> {
     /// Reserves growth for n more entries: afterwards `guaranteed_capacity` is at least `len` + n.
     ///
     /// The entries and the counts of moves stay. If enough growth is left, nothing happens. Otherwise, if `len` + n is
-    /// at most half of the entries that the table may hold, the table is rehashed at its size, and the limiter is not
-    /// queried. If `len` + n is more, the limiter is queried for a larger table.
+    /// at most half of the entries that the table may hold, the table is rehashed at its size. If `len` + n is more,
+    /// the limiter is queried for a larger table.
     ///
     /// ```
     /// let mut map: LruMap<u64, u64, UnlimitedCompact> = LruMap::default(alloc);
