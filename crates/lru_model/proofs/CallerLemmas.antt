@@ -25,7 +25,7 @@
 --     tables_of_next       the same, if there is a table for one pair more, and an entry takes a byte or more
 --     shrink_contents      a shrink keeps the pairs and the limiter
 --     usage_bytes          the usage of a table with buckets is `bytes_of`
---     value_removed        a removal may return only the value of the removed entry
+--     value_removed        a `RemoveEntry` is a `Remove` that returns only the value
 --     step_keeps_number    a `Step` changes a number only if a callback of the limiter does
 --     step_stays_short     a `Step` keeps the map within its limit of length
 --     any_is_map           each call leaves `IsMap`, if the table is sound

@@ -75,7 +75,7 @@ module _ {K V S I : Type 0} (rules : Rules K V S) (offers : Offers K V S I) (nam
   abbrev pub unkept_value : I → V → Contents K V S → Option V
   unkept_value i v c = option_map (λ pair. unkept_of (replacement pair i v c)) (lookup_entry (names i) c.pairs)
 
-  -- if a new key is offered, `on_insert` of the limiter may return `given` (a pair or none) and leave the limiter as s
+  -- if a new key is offered, `on_insert` of the limiter may return `given`, a pair or none, and leave the limiter as s
   abbrev pub MayGive : I → V → Contents K V S → S → Option (K × V) → Type 0
   MayGive i v c s given = offers.on_insert c.limiter (length c.pairs) i v s given
 

@@ -1,4 +1,4 @@
--- What an insert keeps (definitions for `src/laws/kept.rt`).
+-- Definitions for `src/laws/kept.rt`: what an insert keeps.
 use Rattle.std.specs.Prelude.{◌≡◌, ◌⊎◌, ℕ, ◌+◌, ◌-◌, ◌^◌, ◌≤◌, ◌<◌, Bool, true, false, not, List, []}
 use Rattle.std.specs.Prelude.{◌∷◌, ◌++◌, length, reverse, take, fold, nat_lt, Option, Some, None, unwrap_or}
 use Rattle.std.specs.Prelude.{option_map, Result, Ok, IsOk, IsErr, OnOk, OnErr}

@@ -43,7 +43,7 @@ pub record State (K V S H : Type 0) : Type 0 where
   pub hasher : H
   pub table : TableState
   pub counts : Counts
-  -- how many bytes an entry takes in the table, as passed to the constructor
+  -- how many bytes an entry takes in the table, as the constructor got or computed it
   pub entry_bytes : ℕ
   -- the number of the link `MAX`; each bucket has a smaller number
   pub max : ℕ

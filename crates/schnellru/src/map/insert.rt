@@ -36,8 +36,9 @@ impl<K: Eq + Hash + Drop, V: Drop, L: Limiter<K, V>, S: KeyHasher<K>> LruMap<K, 
     /// assert_eq!(rt; map.peek(&1), Some(&20));
     /// ```
     ///
-    /// Cost: `O(1)` expected, amortised over the inserts. An insert that grows the table moves all entries. All inserts
-    /// together move at most two entries for each new entry, plus one for each entry that a shrink rehashed.
+    /// Cost: `O(1)` expected, amortised over the inserts. An insert that grows or rehashes the table moves all entries.
+    /// All inserts together move at most two entries for each new entry, plus one for each entry that a shrink
+    /// rehashed.
     ///
     /// # Errors
     ///
@@ -141,8 +142,8 @@ impl<K: Eq + Hash, V, L: Limiter<K, V>, S: KeyHasher<K>> LruMap<K, V, L, S> {
     /// Does what `insert_with` does. If the key is there, also returns the value that the map does not keep: the old
     /// value, or the new value if the limiter rejects it. `on_replace` may have written to the returned value.
     ///
-    /// If the key is there, the limiter drops the offered key. If `on_insert` rejects the entry or runs out of memory,
-    /// the limiter drops the key and the value.
+    /// If the key is there, the limiter consumes the offered key. If `on_insert` rejects the entry or runs out of
+    /// memory, the limiter consumes the key and the value.
     ///
     /// ```
     /// let inserted = map.insert_full(1, 11, &mut |_, _| {})?;
