@@ -1,4 +1,4 @@
--- Two runs of used buckets around a bucket decide whether every 16 neighbours contain an empty bucket.
+-- Two runs of used buckets around b decide whether each run of 16 buckets around b contains an empty bucket.
 use Rattle.std.proofs.Common.{◌≡◌, ◌≢◌, ℕ, ◌+◌, ◌-◌, ◌%◌, ◌<◌, ◌≤◌, List, get_or, refl, ap, sym, ◌∙◌, arith, nat_lt}
 use Rattle.std.proofs.Common.{MatchBool}
 use Rattle.std.specs.Prelude.{slice_index}

@@ -3,7 +3,7 @@ use Rattle.std.specs.Prelude.{◌≡◌, ℕ, ◌-◌, if◌then◌else◌, Bool
 use Rattle.std.specs.Prelude.{slice_index_or, nat_eq, Option, Some, None, IsTrue}
 use Rattle.group_table.specs.Sizes.{full_capacity}
 
--- a bucket is empty, deleted (a removal emptied it, and searches go on past it), or full
+-- A bucket is empty, deleted or full. A removal emptied a deleted bucket, and searches go on past it.
 pub data Bucket (A : Type 0) : Type 0 where
   empty deleted : Bucket A
   full : A → Bucket A

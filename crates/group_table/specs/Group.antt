@@ -41,8 +41,7 @@ module _ {T : Type 0} (slots : List (Slot T)) where
       → bucket_at (bucket_states slots) ((start + lane) % length slots) ≢ empty
 
 module _ {T F : Type 0} (closure : Mut F (Bor T × Unit {0}) Bool) (slots : List (Slot T)) (tag start : ℕ) (f : F) where
-  -- f was called for the buckets with the tag, in the order of the lanes; it accepted the last, b, and rejected the
-  -- others
+  -- f was called for the buckets with the tag, in the order of the lanes; it rejected each before b, and accepted b
   pub record AcceptsIn (b : ℕ) (g : F) : Type 0 where
     pub lanes : ℕ
     pub in_group : lanes ≤ width slots

@@ -18,8 +18,8 @@ HasLane mask lane = bit_at mask lane ≡ 1
 abbrev pub lowest : ℕ → ℕ
 lowest mask = trailing_zeros w16 mask
 
--- The bytes after the buckets repeat the bytes of the first buckets. In a table of 4 or 8 buckets, empty bytes are in
--- between.
+-- After the bytes of the buckets, the bytes of the first buckets are repeated. In a table of 4 or 8 buckets, empty
+-- bytes are in between.
 pub record IsRepeated (control : List ℕ) (buckets : ℕ) : Type 0 where
   pub again : (p : ℕ) → max 16 buckets ≤ p → p < buckets + 16
       → slice_index control p ≡ slice_index control (p - max 16 buckets)

@@ -37,8 +37,8 @@ module _ {T F : Type 0} (closure : Mut F (Bor T × Unit {0}) Bool) (slots : List
   abbrev pub RejectsEach : F → List ℕ → F → Type 0
   RejectsEach f asked g = FoldsTo (λ p b q. Answers p b false q) f asked g
 
-  -- a search for the hash called f with the entries in the buckets `asked`, which f rejected, and then with the entry
-  -- in b, which f accepted
+  -- A search for the hash called f with the entries in the buckets `asked`, and f rejected each. Then it called f with
+  -- the entry in b, and f accepted.
   pub record Finds (hash : ℕ) (f : F) (b : ℕ) : Type 0 where
     pub asked : List ℕ
     pub search : IsSearch slots hash (asked ++ b ∷ [])

@@ -1,4 +1,4 @@
-//! Control bytes: one for each bucket, and 16 more after the last bucket. So a group is read in one piece.
+//! Control bytes: one for each bucket, and 16 more. So a group that begins at any bucket is read in one piece.
 ghost use Rattle.std.specs.Prelude.{◌≡◌, ℕ, ◌+◌, ◌-◌, ◌%◌, ◌^◌, ◌<◌, ◌≤◌, [], length, max, replicate, slice_index};
 ghost use Rattle.std.specs.Prelude.{slice_set, Bool, if◌then◌else◌, nat_eq, nat_lt, ◌⊎◌, IfOk};
 ghost use Rattle.group_table.specs.Sizes.{IsPowerFromFour};
@@ -71,8 +71,8 @@ impl Control {
     }
 
     // Returns whether there are no buckets. Without buckets, a search begins at bucket 0. With buckets, a search seldom
-    // begins there. So for most searches the first test is enough, and the search needs its value anyway. The sum in
-    // the second test keeps the compiler from joining the tests.
+    // begins there. So for most searches the first test is enough, and the search needs `hash & last` anyway. The sum
+    // in the second test keeps the compiler from joining the tests.
     #[inline]
     pub(crate) fn is_empty_at(&self, hash: u64) -> bool
         ensures { result ≡ nat_eq (buckets_of self.now) 0 }

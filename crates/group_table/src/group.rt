@@ -7,7 +7,7 @@ ghost use Rattle.group_table.specs.Lanes.{IsMaskOf, HasLane, lowest};
 use crate::control::{DELETED, EMPTY};
 use std::simd::prelude::*;
 
-/// Returns the lanes of the tag in the control bytes of sixteen neighbouring buckets: bit i of the result is set if and
+/// Returns the lanes of the tag in the control bytes of sixteen neighbouring buckets. Bit i of the result is set if and
 /// only if byte i is the tag. `docs/TABLE.md` shows masks.
 ///
 /// ```

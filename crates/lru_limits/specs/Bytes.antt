@@ -16,7 +16,8 @@ use Rattle.lru_limits.specs.Stores.{answers, given-adds, refused-keeps, replaced
 abbrev pub in_word : ℕ → ℕ
 in_word n = min n (2 ^ 64 - 1)
 
--- 0 if n is 0, because then no block is allocated; else n rounded up to a multiple of 16, plus 16, at most 2 ^ 64 - 16
+-- 0 if n is 0, because then no block is allocated. Otherwise n, rounded up to a multiple of 16, plus 16, but at most 2
+-- ^ 64 - 16.
 abbrev pub block_bytes : ℕ → ℕ
 block_bytes n = if n == 0 then 0 else in_word (n + 31) / 16 * 16
 

@@ -1,5 +1,5 @@
 -- For proofs of callers of a map.
---     read_back            a get only brings the pair to the front, if its value is not written
+--     read_back            if the value is not written, a get only brings the pair to the front
 --     promoted-summed      a promotion keeps the sum of the costs
 --     promoted-absent, demoted-absent      if the key is not there, nothing moves to the front or to the back
 --     written-absent       if the key is not there, a write changes nothing
@@ -18,14 +18,14 @@
 --     all-without          if P holds of each pair, it does after a removal
 --     given-found          a search by a hash with a closure that tests a key returns the pair of that key
 --     given-tag            this search returns only a pair whose key has a hash of the same tag
---     given-promoted       this search only brings the pair to the front, if its value is not written
+--     given-promoted       if the value is not written, this search only brings the pair to the front
 --     none-found           if this search returns none, no pair of that key has the hash
 --     empty_is_map         `IsMap` holds of a map without pairs and buckets
 --     has_tables           there are tables for the pairs if there is a table for eight times as many
---     tables_of_next       or if there is a table for one pair more, and an entry takes a byte or more
+--     tables_of_next       the same, if there is a table for one pair more, and an entry takes a byte or more
 --     shrink_contents      a shrink keeps the pairs and the limiter
 --     usage_bytes          the usage of a table with buckets is `bytes_of`
---     value_removed        a removal may return only the value of the removed entry
+--     value_removed        a `RemoveEntry` is a `Remove` that returns only the value
 --     step_keeps_number    a `Step` changes a number only if a callback of the limiter does
 --     step_stays_short     a `Step` keeps the map within its limit of length
 --     any_is_map           each call leaves `IsMap`, if the table is sound

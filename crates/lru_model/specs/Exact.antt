@@ -30,7 +30,7 @@ module _ {K V S : Type 0} (rules : Rules K V S) where
   abbrev pub refusal : Option ℕ → ℕ → Contents K V S → Report
   refusal asked n c = record { asked = asked; evicted = n; has_bucket = not (is_empty c.pairs) }
 
-  -- what a table reports if it grows into this `Target`, or if growth is refused
+  -- what a table with this next `Target` reports, if a refused growth evicts the n oldest pairs of c
   abbrev pub report_of : Target → ℕ → Contents K V S → Report
   report_of no_table n c = refusal None n c
   report_of same_table n c = at_once
@@ -75,13 +75,14 @@ module _ {K V S : Type 0} (rules : Rules K V S) where
   abbrev pub not_stored : Report → K × V → Contents K V S → Contents K V S
   not_stored report pair c = let d = met report c in after_removal rules (Some pair) d.pairs d.limiter
 
-  -- if there is a bucket for the pair, it is stored as the newest; otherwise it is not stored
+  -- if there is a bucket for the pair, it is stored as the newest, and a trim follows; otherwise it is not stored
   abbrev pub stored : Report → K × V → Contents K V S → Result Bool AllocError × Contents K V S
   stored report pair c = let d = met report c in
       if report.has_bucket then trimmed (record { pairs = pair ∷ d.pairs; limiter = d.limiter })
       else (Ok false, not_stored report pair c)
 
--- if the limiter accepts the value, the pair gets it and becomes the newest; otherwise the pair is removed
+-- if the limiter accepts the value, the pair gets it and becomes the newest, and a trim follows; otherwise the pair is
+-- removed
 abbrev pub exchanged : {K V S I : Type 0} (rules : Rules K V S) (offers : Offers K V S I) (names : I → K → Bool) (i : I)
     (v : V) → Contents K V S → K × V → Result Bool AllocError × Contents K V S
 exchanged rules offers names i v c pair =
@@ -129,7 +130,7 @@ module _ {K V S I : Type 0} (rules : Rules K V S) (offers : Offers K V S I) (nam
         × Leaves (record old { limiter = s }) (make_room rules (record { pairs = old.pairs; limiter = s })) ready
         × MayReport rules (hash_of ready.hasher pair.0) ready report) i v (contents old)
 
-    -- an insert into the map `old`, if its table has up to 16 buckets
+    -- an insert into the map `old`, with `small_report` as the report
     abbrev pub InsertsInSmallTable : I → V → Result Bool AllocError → Contents K V S → Type 0
     InsertsInSmallTable i v = InsertsGiven (λ s pair. small_report rules old
         (make_room rules (record { pairs = old.pairs; limiter = s }))) i v (contents old)

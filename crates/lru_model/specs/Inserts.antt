@@ -75,7 +75,7 @@ module _ {K V S I : Type 0} (rules : Rules K V S) (offers : Offers K V S I) (nam
   abbrev pub unkept_value : I → V → Contents K V S → Option V
   unkept_value i v c = option_map (λ pair. unkept_of (replacement pair i v c)) (lookup_entry (names i) c.pairs)
 
-  -- if a new key is offered, `on_insert` of the limiter may return `given` (a pair or none) and leave the limiter as s
+  -- if a new key is offered, `on_insert` of the limiter may return `given`, a pair or none, and leave the limiter as s
   abbrev pub MayGive : I → V → Contents K V S → S → Option (K × V) → Type 0
   MayGive i v c s given = offers.on_insert c.limiter (length c.pairs) i v s given
 
@@ -102,15 +102,15 @@ module _ {K V S I : Type 0} (rules : Rules K V S) (offers : Offers K V S I) (nam
           (s : S) → MayGive i v (contents old) s None →
           result ≡ Ok false → new ≡ record old { limiter = s } →
           Insert i v old result new
-      -- The key is new, and the limiter returns a pair. The pair is inserted into the table. The map may evict pairs
-      -- before and after.
+      -- The key is new, and the limiter returns a pair. The pair is inserted into the table, unless this fails. The map
+      -- may evict pairs before and after.
       admitted : lookup_entry (names i) old.pairs ≡ None →
           (s : S) (pair : K × V) → MayGive i v (contents old) s (Some pair) →
           PlacesNew rules hash_of pair (record old { limiter = s }) result new →
           Insert i v old result new
 
     -- Why the table may need memory for the pair that the limiter returned. No growth is left, and either there are no
-    -- buckets, or the map contains a pair after `make_room`. (A rehash of a table without pairs needs no memory.)
+    -- buckets, or the map contains a pair after `make_room`. A rehash of a table without pairs needs no memory.
     pub record NeedsMemory (i : I) (v : V) (old : State K V S H) : Type 0 where
       pub no_growth_left : growth_left old ≡ 0
       pub s : S

@@ -1,4 +1,4 @@
--- What an insert keeps (definitions for `src/laws/kept.rt`).
+-- Definitions for `src/laws/kept.rt`: what an insert keeps.
 use Rattle.std.specs.Prelude.{◌≡◌, ◌⊎◌, ℕ, ◌+◌, ◌-◌, ◌^◌, ◌≤◌, ◌<◌, Bool, true, false, not, List, []}
 use Rattle.std.specs.Prelude.{◌∷◌, ◌++◌, length, reverse, take, fold, nat_lt, Option, Some, None, unwrap_or}
 use Rattle.std.specs.Prelude.{option_map, Result, Ok, IsOk, IsErr, OnOk, OnErr}
@@ -20,8 +20,8 @@ module _ {K V S H I : Type 0} (rules : Rules K V S) (offers : Offers K V S I) (n
   -- a new key, is in the map or was passed to the callback. `passed` lists what the callback got, in order.
   pub data LosesNothing (i : I) (v : V) (old : State K V S H) (result : Result Bool AllocError)
       (passed : List (K × V)) (new : State K V S H) : Type 0 where
-    -- A pair is stored as the newest, before the old pairs of other keys. Then the oldest pairs were evicted. If no
-    -- pair is left, the stored pair was evicted, too.
+    -- A pair is stored as the newest, in front of the old pairs of other keys. The oldest of these pairs may be
+    -- evicted. If no pair is left, the stored pair was evicted, too.
     stored : (pair : K × V) → Stores rules offers names i v old pair →
         result ≡ Ok (not (is_empty new.pairs)) →
         new.pairs ++ reverse passed ≡ pair ∷ without (names i) old.pairs →
@@ -56,8 +56,8 @@ module _ {K V S H I : Type 0} (rules : Rules K V S) (offers : Offers K V S I) (n
     pub growth_left : growth_left old ≤ growth_left new + 1
 
 module _ {K V S I : Type 0} (rules : Rules K V S) (offers : Offers K V S I) (names : I → K → Bool) where
-  -- If this key and value are offered, the limiter does not run out of memory, and returns this pair to store. It is
-  -- then not over its limit with one more pair.
+  -- If this key and value are offered, the limiter does not run out of memory, and returns this pair to store. The
+  -- limiter is then not over its limit with one more pair.
   pub record AcceptsNew (i : I) (v : V) (c : Contents K V S) (pair : K × V) : Type 0 where
     pub finds : offers.may_run_out c.limiter (length c.pairs) i v → ⊥
     pub gives : (s : S) (given : Option (K × V)) → MayGive rules offers names i v c s given →
@@ -84,8 +84,8 @@ pub record LeavesTheNewest {K V : Type 0} (eq : K → K → Bool) (most : ℕ) (
 abbrev pub most_exact_length : ℕ
 most_exact_length = 939524096
 
--- The map is within its maximum length. There is a table for each length up to this maximum, because the maximum is at
--- most `most_exact_length`, links have 32 bits, and an entry takes fewer than 2 ^ 32 - 1 bytes.
+-- The map is within its maximum length. The other fields imply that there is a table for each length up to this
+-- maximum.
 pub record KeepsToLength {K V H : Type 0} (st : State K V ℕ H) : Type 0 where
   pub within : length st.pairs ≤ st.limiter
   pub half : st.limiter ≤ most_exact_length

@@ -48,7 +48,7 @@ module _ {K V : Type 0} where
   abbrev pub back : (K → Bool) → List (K × V) → List (K × V)
   back names pairs = without names pairs ++ option_to_list (lookup_entry names pairs)
 
-  -- the bucket number (the place) of the pair of the named key; `places` lists the place of each pair, in order
+  -- the place of the named key's pair, which is a bucket number; `places` lists the place of each pair, in order
   abbrev pub place_of : (K → Bool) → List (K × V) → List ℕ → Option ℕ
   place_of names [] places = None
   place_of names (pair ∷ pairs) [] = None

@@ -113,8 +113,8 @@ module _ {K V S H : Type 0} (rules : Rules K V S) where
         mid ≡ asked bytes old → CannotGrow old mid
 
   -- The oldest pairs of `mid` are evicted until a bucket takes the new pair. Once the pairs fill less than half of the
-  -- capacity, the table is rehashed, and no more pairs are evicted. If there is no pair to evict, the new pair is not
-  -- stored. `old` and `mid` are the maps of `CannotGrow`.
+  -- capacity, no more pairs are evicted. Then the table is rehashed, or the map runs out of memory. If there is no pair
+  -- to evict, the new pair is not stored. `old` and `mid` are the maps of `CannotGrow`.
   pub data Evicts (hash : ℕ) (pair : K × V) (old mid : State K V S H) (outcome : Outcome)
       (new : State K V S H) : Type 0 where
     nothing_to_evict : old.pairs ≡ [] →
@@ -139,13 +139,14 @@ module _ {K V S H : Type 0} (rules : Rules K V S) (hash_of : H → K → ℕ) wh
         FillsBucket (hash_of old.hasher pair.0) old.table new.table →
         outcome ≡ placed → IsPlacedInTable pair old new →
         Place pair old outcome new
-    -- Or no bucket takes the pair, and the table would be at most half full with the pair. Then the table is rehashed.
-    -- If the map has no pairs, the rehash needs no memory.
+    -- Or no bucket takes the pair, and the table would be at most half full with the pair. Then the table is rehashed,
+    -- or the map runs out of memory. If the map has no pairs, the rehash needs no memory.
     rehashed : HasNoBucket (hash_of old.hasher pair.0) old → length old.pairs + 1 ≤ full_capacity (buckets old) / 2 →
         (outcome ≡ no_memory → 0 < length old.pairs) →
         IsPlacedByMove rules pair (buckets old) old outcome new →
         Place pair old outcome new
-    -- Or the table is too small, there is a larger table, and the limiter permits it. Then the table grows.
+    -- Or the table is too small, there is a larger table, and the limiter permits it. Then the table grows, or the map
+    -- runs out of memory.
     grown : IsOutgrown (hash_of old.hasher pair.0) old →
         (count bytes : ℕ) → table_for 1 old ≡ new_table count bytes → Grants rules bytes old →
         IsPlacedByMove rules pair count (asked rules bytes old) outcome new →

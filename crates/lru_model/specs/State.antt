@@ -43,7 +43,7 @@ pub record State (K V S H : Type 0) : Type 0 where
   pub hasher : H
   pub table : TableState
   pub counts : Counts
-  -- how many bytes an entry takes in the table, as passed to the constructor
+  -- how many bytes an entry takes in the table, as the constructor got or computed it
   pub entry_bytes : ℕ
   -- the number of the link `MAX`; each bucket has a smaller number
   pub max : ℕ
@@ -84,8 +84,9 @@ pub record GivesBack (was n : ℕ) (old new : List BucketState) : Type 0 where
 abbrev pub FirstFreeIs : BucketState → ℕ → List BucketState → Type 0
 FirstFreeIs state hash states = (b : ℕ) × IsFirstFree states hash b × (bucket_at states b ≡ state)
 
--- The pair at `place` was removed, and its bucket is free now. If each run of 16 neighbouring buckets that includes it
--- contained an empty bucket, this bucket is empty now. Otherwise it is deleted. The other buckets keep their states.
+-- The pair at `place` was removed, and its bucket is free now. If each run of 16 neighbouring buckets that includes
+-- this bucket contained an empty bucket, this bucket is empty now. Otherwise it is deleted. The other buckets keep
+-- their states.
 pub record Frees (place : Option ℕ) (old new : TableState) : Type 0 where
   pub bucket : ℕ
   pub there : place ≡ Some bucket

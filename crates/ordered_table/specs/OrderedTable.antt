@@ -57,7 +57,7 @@ module _ {K V : Type 0} where
   abbrev pub KeysFit : (K → ℕ) → List (Slot (K × V)) → Type 0
   KeysFit hash_of slots = Fits slots (hash_in hash_of slots)
 
-  -- the pair is now the newest, in the first free bucket b in the order of a search for its hash
+  -- the pair is now the newest, in bucket b, the first free bucket in a search for its hash
   pub record Lands (old new : OrderedTable K V) (hash : ℕ) (pair : K × V) (b : ℕ) : Type 0 where
     pub first : IsFirstFree (bucket_states old.slots) hash b
     pub may : MayFill (bucket_states old.slots) b

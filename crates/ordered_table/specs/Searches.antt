@@ -15,7 +15,8 @@ module _ {K V F : Type 0} (closure : Mut F (Bor K × (Bor V × Unit {0})) Bool) 
     pub there : entry_at slots b ≡ Some pair
     pub asked : Asks closure f pair answer g
 
-  -- a search for the hash called f for the buckets `before`, which f rejected, and then for b, which f accepted
+  -- a search for the hash passed f the pairs in the buckets `before`, which f rejected, and then the pair in b, which f
+  -- accepted
   pub record FindsPair (hash : ℕ) (f : F) (b : ℕ) : Type 0 where
     pub before : List ℕ
     pub search : IsSearch slots hash (before ++ b ∷ [])
@@ -24,8 +25,8 @@ module _ {K V F : Type 0} (closure : Mut F (Bor K × (Bor V × Unit {0})) Bool) 
     pub last : F
     pub accepted : AnswersPair between b true last
 
-  -- A search for the hash called f for the buckets `asked`, and f rejected each. For any hashes that fit the table,
-  -- `asked` contains each bucket whose entry has the hash.
+  -- A search for the hash passed f the pairs in the buckets `asked`, and f rejected each. For any hashes that fit the
+  -- table, `asked` contains each bucket whose entry has the hash.
   pub record FindsNoPair (hash : ℕ) (f : F) : Type 0 where
     pub asked : List ℕ
     pub search : IsSearch slots hash asked

@@ -13,7 +13,7 @@ use std::marker::Model;
 
 pub(crate) mod keys;
 
-/// An iterator over the pairs of a table or a map, newest first, from both ends.
+/// A double-ended iterator over the pairs of a table or a map, newest first.
 ///
 /// ```
 /// let mut walk = map.iter();

@@ -2,7 +2,7 @@
 //!
 //! [`LruMap`] is the map, and [`ByLength`] is one of its limiters. `docs/LIMITERS.md` shows how to write a limiter and
 //! a look-up key. `docs/CALLING.md` shows how to prove code that calls the map. `docs/DIFFERENCES.md` lists what
-//! differs from the Rust crate. The contract of each function of [`laws`] is a theorem about calls.
+//! differs from the crate `schnellru` for Rust. The contract of each function of [`laws`] is a theorem about calls.
 #![tactic(auto)]
 
 // Marks code that is never reached. `group_table` has the same macro.

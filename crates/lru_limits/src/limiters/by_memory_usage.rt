@@ -35,7 +35,7 @@ impl Model for ByMemoryUsage {
 }
 
 impl ByMemoryUsage {
-    /// Makes a limiter that permits a table of `max_bytes` bytes.
+    /// Makes a limiter that permits tables of at most `max_bytes` bytes.
     ///
     /// ```
     /// let mut limiter = ByMemoryUsage::new(152);

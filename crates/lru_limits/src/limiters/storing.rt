@@ -4,7 +4,7 @@ ghost use Rattle.lru_limits.specs.Stores.{rules_at};
 use crate::admission::Admission;
 use crate::limiter::Limiter;
 
-/// Wraps a limiter, so that it accepts each entry unchanged, and every new value of a stored key.
+/// Wraps a limiter. The wrapper accepts each entry unchanged, and every new value of a stored key.
 ///
 /// Put your [`Limiter`] into a map as `Storing(limiter)`, which implements [`Admission`]. `map.limiter().0` is your
 /// limiter.

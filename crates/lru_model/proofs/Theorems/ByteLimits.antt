@@ -23,7 +23,7 @@ use Rattle.lru_model.specs.Theorems.{UsesAtMost}
 use Rattle.lru_model.proofs.TableSizes.Budgets.{usage_fewer}
 use Rattle.lru_model.proofs.TableSizes.Growth.{target_doubles, target_usage}
 
--- c is b after pairs may have been removed
+-- c is b, perhaps after removals of pairs
 pub record Frees (b c : Bytes) : Type 0 where
   pub limit : c.limit ≡ b.limit
   pub table : c.table ≡ b.table

@@ -1,4 +1,4 @@
--- A deleted bucket takes the new pair if it is the first free bucket that a search finds.
+-- If the first free bucket that a search finds is deleted, it takes the new pair.
 use Rattle.std.proofs.Common.{◌≡◌, ℕ, ◌+◌, ◌<◌, inl, inr, length, sym, ap, ◌∙◌, subst, arith}
 use Rattle.group_table.specs.Sizes.{IsBucketCount}
 use Rattle.group_table.proofs.SizeLemmas.{power_pos}

@@ -8,8 +8,8 @@ use Rattle.lru_model.proofs.TableSizes.SizedStates.{fits}
 use Rattle.lru_model.proofs.TableSizes.Growth.{full_capacity-at_most}
 
 module _ {K V S H : Type 0} where
-  -- `moved` plus the potential rises by at most 2 for each entry that is stored, plus `anew`, the number of entries
-  -- that shrinks rehashed. This holds until the count of stored entries stops at its maximum.
+  -- `moved` plus the potential rises by at most 2 for each stored entry, plus `anew`, the number of entries that
+  -- shrinks rehashed. This holds until the count `placed` stops at its maximum.
   pub record Pays (anew : ℕ) (old new : State K V S H) : Type 0 where
     pub placed : old.counts.placed ≤ new.counts.placed
     pub shrunk : new.counts.shrunk ≡ count_up old.counts.shrunk anew

@@ -25,7 +25,7 @@ pub distinct_cons : (c : ℕ) (cs : List ℕ) → (Contains cs c → ⊥) → Al
 distinct_cons c cs absent d = AllPairs-cons ◌≢◌ c cs
     (λ k e p same. absent (subst (Contains cs) (sym same) (Contains-get_or cs k e p))) d
 
--- the bucket before b, and the last bucket, if `prev` comes before the first bucket
+-- if `prev` comes before the first bucket: the bucket before b, and the last bucket
 abbrev pub before_from : Option ℕ → ℕ → List ℕ → Option ℕ
 before_from prev b [] = None
 before_from prev b (c ∷ cs) = cond (nat_eq c b) prev (before_from (Some c) b cs)

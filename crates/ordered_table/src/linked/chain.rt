@@ -1,4 +1,4 @@
-//! `Chain`: a table whose entries have links to their neighbours. Reordering writes at most four entries.
+//! `Chain`: a table whose entries have links to their neighbours. A promotion or demotion writes at most four entries.
 ghost use Rattle.std.specs.Prelude.{◌≡◌, ◌≢◌, ◌⊎◌, ◌<◌, ◌≤◌, ℕ, [], ◌∷◌, ◌++◌, List, Some, Contains, map, length};
 ghost use Rattle.std.specs.Prelude.{IsTrue, MatchBool};
 ghost use Rattle.group_table.specs.Bucket.{Slot, IsFull};
@@ -53,8 +53,8 @@ impl<K, V, N: LinkType> Chain<K, V, N> {
         }
     }
 
-    // Returns whether the link leads to a bucket. Compares the link with the number of buckets instead of `MAX`, which
-    // saves an instruction.
+    // Returns whether the link leads to a bucket. To save an instruction, compares the link with the number of buckets
+    // instead of `MAX`.
     #[inline]
     pub(crate) fn leads(&self, link: N) -> bool
         requires some { 0 < length self.now.table.slots }
@@ -98,8 +98,8 @@ impl<K, V, N: LinkType> Chain<K, V, N> {
         self.oldest = link;
     }
 
-    // Puts a bucket in front of this chain. Its entry already has the links of a newest entry: the older link leads to
-    // `first`, the newest entry so far.
+    // Puts a bucket in front of this chain. The entry in the bucket already has the links of a newest entry: its older
+    // link is `first`.
     #[inline]
     pub(crate) fn link_placed(&mut self, b: usize, first: N)
         requires first { first ≡ self.old.newest }
@@ -151,7 +151,8 @@ impl<K, V, N: LinkType> Chain<K, V, N> {
         }
     }
 
-    // Rewrites the links of the moved entries, and the two ends. `links` contains the new bucket for each old bucket.
+    // Rewrites the links of the moved entries, and the two ends. `links` contains the new bucket for each old bucket
+    // that was full.
     pub(crate) fn rewrite(&mut self, links: &[N])
         requires reached { length self.old.table.slots < N.number N.MAX }
         requires moved { Moved N.number N.link N.MAX self.old links.now }

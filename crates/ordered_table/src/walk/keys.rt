@@ -12,7 +12,7 @@ use std::alloc::AllocError;
 use std::iter::FusedIterator;
 use std::marker::Model;
 
-/// An iterator over the keys of a table or a map, newest first, from both ends.
+/// A double-ended iterator over the keys of a table or a map, newest first.
 ///
 /// ```
 /// assert!(rt; map.keys().next() == Some(&3) && map.keys().next_back() == Some(&1));
@@ -86,7 +86,7 @@ impl<'a, K, V, N: LinkType> Clone for Keys<'a, K, V, N> {
     }
 }
 
-/// An iterator over the values of a table or a map, newest first, from both ends.
+/// A double-ended iterator over the values of a table or a map, newest first.
 ///
 /// ```
 /// assert!(rt; map.values().next() == Some(&30) && map.values().len() == 3);

@@ -34,7 +34,7 @@ impl<K: Eq + Hash + Drop, V: Drop, L: Admission<K, V> + Copy, S: KeyHasher<K>> L
     /// - The key is there.
     /// - The limiter rejects the entry, before or after the table grew.
     /// - The limiter would be over its limit with the entry, before or after the table grew.
-    /// - No growth is left, and there is no larger table, or the limiter refuses it.
+    /// - No growth is left, and either there is no larger table, or the limiter refuses it.
     /// - No growth is left, and the allocation of the table fails.
     ///
     /// If growth was left, nothing has changed. Otherwise the table may be larger or rehashed, and `on_grow` may have
