@@ -221,9 +221,9 @@ impl<
 
     /// Inserts a key with a value, as the newest entry of the tenant. Returns whether the key is there afterwards.
     ///
-    /// The limiter rejects an entry if its cost alone is above the budget, or if the tenant's total would be above
+    /// The limiter rejects the entry if its cost alone is above the budget, or if the tenant's total would be above
     /// `u64::MAX`. A rejection removes the key's old entry. If the limiter accepts the entry, the tenant's oldest
-    /// entries are evicted until the total is within the budget.
+    /// entries are evicted until its total is within the budget.
     ///
     /// ```
     /// assert_eq!(rt; cache.put(&1, 8, 1), Ok(true));
@@ -234,7 +234,7 @@ impl<
     ///
     /// # Errors
     ///
-    /// `NotOpen`, or `Memory`: some of the tenant's oldest entries may have been evicted.
+    /// `NotOpen` or `Memory`. After `Memory`, some of the tenant's oldest entries may have been evicted.
     pub fn put<T: LookupKey<N>>(&mut self, name: &T, key: K, value: V) -> Result<bool, TenantError>
         ensures puts { On N.eq (T.names name.now) (OfOpen (Puts L.rules (offers_of L.terms) L.budget_of K.eq S.hash_of key value))
             self.old result self.new }
