@@ -97,7 +97,7 @@ module _ {B D : Type 0} where
   pages_after n page cache =
       (n, page) ∷ with_room cache.capacity cache.keeps_dirty (without (nat_eq n) cache.pages)
 
-  -- the counts after a call on page n that succeeds
+  -- the counts after a successful call on page n
   abbrev pub counted : ℕ → Cached B D → Counts
   counted n cache = if is_some (lookup (nat_eq n) cache.pages) then hit cache.counts else missed cache.counts
 
@@ -118,7 +118,7 @@ module _ {B D : Type 0} where
       × (victim cache.keeps_dirty cache.pages ≡ None)
 
 module _ {B D E S : Type 0} (d : device.Ghosts D B E S) where
-  -- The block of the page, if there is a page. Otherwise the device's block, if it is known.
+  -- If there is a page, its block. Otherwise the device's block, if it is known.
   abbrev pub block_or : Option (Page B) → Option S → Option S
   block_or None block = block
   block_or (Some page) block = Some (d.seen page.block)
@@ -179,7 +179,7 @@ module _ {B D E S : Type 0} (d : device.Ghosts D B E S) where
     pub writes : AreWritten numbers pages old written
     pub synced : d.sync_gives written new
 
-  -- a flush that was cut off after some of its writes, or in the sync after all of them
+  -- a flush that stopped after some of its writes, or in the `sync` after all of them
   pub record IsCutOff (pages : List (ℕ × Page B)) (old new : D) : Type 0 where
     pub numbers : List ℕ
     pub rest : List ℕ
@@ -226,7 +226,7 @@ module _ {B D E S : Type 0} (d : device.Ghosts D B E S) where
     pub counted : OnOk result (new.counts ≡ counted n old)
     pub uncounted : OnErr result (new.counts ≡ old.counts)
 
-  -- what a read of page n does if it succeeds
+  -- what a successful read of page n does
   pub record ReadsPage (n : ℕ) (old new : Cached B D) : Type 0 where
     pub block : B
     pub shows : d.IsHonest new.device → shown new n ≡ Some (d.seen block)
