@@ -51,7 +51,7 @@ impl Best {
 
     /// Returns how often MIN with `places` places misses, if it begins with no keys. MIN stores each referenced key. If
     /// it then has too many keys, it evicts the other key whose next reference comes last. No policy that stores each
-    /// key misses less often.
+    /// referenced key misses less often.
     ///
     /// Cost: `O(log n)` for each reference and n places. The memory is in proportion to the smaller of n and the number
     /// of keys.
