@@ -1,4 +1,4 @@
--- Other policies of eviction. The order of the keys of their caches means nothing.
+-- Other eviction policies. The order of the keys in their caches means nothing.
 --     eq        when two keys are equal
 use Rattle.std.specs.Prelude.{◌≡◌, ℕ, ◌+◌, ◌≤◌, Bool, true, false, List, [], ◌∷◌, length}
 use Rattle.std.specs.Set.{remove_key}
