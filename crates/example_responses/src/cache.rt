@@ -134,8 +134,8 @@ impl ResponseCache {
         Ok(("budget set", evicted))
     }
 
-    /// Stores a response. Returns a word that says whether the response was stored, and how many old entries were
-    /// removed.
+    /// Stores a response. Returns how many old entries were removed, behind a word that says whether the response was
+    /// stored.
     pub fn put(
         &mut self,
         host: &str,
@@ -193,7 +193,7 @@ impl ResponseCache {
     }
 }
 
-/// Shows that a look-up of a path that was just purged returns no response.
+/// Shows that a look-up of a just purged path returns no response.
 fn look_up_purged(
     cache: &mut ResponseCache,
     host: &str,
