@@ -1,8 +1,8 @@
 //! A store of records. A transaction survives a crash whole or not at all.
 //!
 //! A transaction writes its pages to the log, syncs the log, and then writes the pages into the page cache. So the file
-//! of pages never contains a page of a transaction that may still be lost, and the log contains each page that a crash
-//! may tear.
+//! of pages never contains a page of a transaction that may still be lost. The log contains each page that a crash may
+//! tear.
 use crate::counted::Counted;
 use crate::disk::Disk;
 use crate::log::Log;

@@ -164,7 +164,7 @@ module _ {B D E S : Type 0} (d : device.Ghosts D B E S) where
     pub usable : d.is_usable new ≡ d.is_usable old
     pub honest : d.IsHonest new → d.IsHonest old
 
-  -- The pages of these numbers were written to the device, one after another, and nothing else was done to it.
+  -- The pages of these numbers were written to the device, one after another, and the device got no other call.
   abbrev pub AreWritten : List ℕ → List (ℕ × Page B) → D → D → Type 0
   AreWritten [] pages old new = new ≡ old
   AreWritten (n ∷ numbers) pages old new = (page : Page B) × (between : D) × (lookup (nat_eq n) pages ≡ Some page)

@@ -44,7 +44,7 @@ module _ {N K V L S : Type 0} where
   -- the named tenant is `left` afterwards, and the other tenants do not change
   pub record Leaves (eq : N → N → Bool) (names : N → Bool) (left : Option (State K V L S)) (old new : Cache N K V L S)
       : Type 0 where
-    -- all named names are equal, and each equal name is named
+    -- if the call names x, it names exactly the names equal to x
     pub one : (x y : N) → names x ≡ true → names y ≡ eq x y
     pub own : tenant names new ≡ left
     pub tenants : (other : N) → tenant (eq other) new ≡ cond (names other) left (tenant (eq other) old)

@@ -29,8 +29,8 @@ use part::{Part, cost_of, opened};
 /// All costs add up to at most the limit. While a tenant's cost is within its share, no call of another tenant changes
 /// the tenant. `put` says which entries it evicts.
 ///
-/// In the examples of the calls, `pool` has a limit of 5 and two tenants: 1 with a share of 3 and the entry (7, 2), and
-/// 2 with a share of 1 and no entry.
+/// In the examples of the calls, `pool` has a limit of 5 and two tenants. Tenant 1 has a share of 3 and the entry
+/// (7, 2). Tenant 2 has a share of 1 and no entry.
 ///
 /// ```
 /// let mut pool: TenantPool<u64, u64, u64> = TenantPool::new(alloc, [1, 2, 3, 4], 32, 5);
@@ -194,7 +194,7 @@ impl<
     ///
     /// # Errors
     ///
-    /// As `TenantCache::put`. After an error, no other tenant has changed.
+    /// As `TenantCache::put`. No other tenant has changed.
     pub fn put<T: LookupKey<N>>(&mut self, name: &T, key: K, value: V) -> Result<bool, TenantError>
         ensures puts { PutsIfOpen (Puts L.rules (offers_of L.terms) L.account N.eq K.eq S.hash_of (T.names name.now) key value)
             (part (T.names name.now) self.old) self.old result self.new }

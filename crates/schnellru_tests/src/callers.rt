@@ -136,7 +136,7 @@ fn keep_all(alloc: Global, texts: &[String]) -> Result<LruMap<String, u64>, Allo
     Ok(map)
 }
 
-/// Puts an entry into a map that is within its maximum length. Then the map still is.
+/// Puts an entry into a map. If the map was within its maximum length, it still is.
 fn put_within(map: &mut LruMap<String, u64>, key: String, value: u64) -> Result<bool, AllocError>
     requires { length map.old.pairs ≤ map.old.limiter }
     ensures { length map.new.pairs ≤ map.new.limiter }
@@ -145,7 +145,7 @@ fn put_within(map: &mut LruMap<String, u64>, key: String, value: u64) -> Result<
     map.insert(key, value)
 }
 
-/// Does what `put_within` does, under two limits: of the length and of the bytes of the table.
+/// Does what `put_within` does, under limits of the length and of the table's bytes.
 fn put_within_both(
     map: &mut LruMap<String, u64, Both<ByLength, ByMemoryUsage>>,
     key: String,

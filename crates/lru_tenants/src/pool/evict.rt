@@ -31,7 +31,7 @@ fn furthest<N: Eq + Hash, K: Eq + Hash, V, L: Budgeted<K, V>, S: KeyHasher<K>, H
     (most, hash)
 }
 
-// Returns by how much the total falls, or `None` in Rust, where hashes and costs may break their laws.
+// Returns by how much the total falls. Only in Rust, where hashes and costs may be wrong, returns `None`.
 fn evict<
     N: Eq + Hash,
     K: Eq + Hash + Drop,
