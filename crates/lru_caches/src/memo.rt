@@ -211,7 +211,7 @@ impl<K: Eq + Hash + Drop, V: Drop, F: Fn(&K) -> V, L: Insertion<K, V, K>, S: Key
     /// squares.clear();
     /// ```
     ///
-    /// Cost: `O(n)` for n results.
+    /// Cost: as `LruMap::clear`.
     pub fn clear(&mut self)
         ensures step { self.new.map ≡ cleared L.rules self.old.map }
         ensures map { IsMap K.eq self.new.map }

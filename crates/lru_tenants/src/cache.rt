@@ -221,9 +221,9 @@ impl<
 
     /// Inserts a key with a value, as the newest entry of the tenant. Returns whether the key is there afterwards.
     ///
-    /// The limiter rejects the entry if its cost alone is above the budget, or if the tenant's total would be above
-    /// `u64::MAX`. A rejection removes the key's old entry. If the limiter accepts the entry, the tenant's oldest
-    /// entries are evicted until its total is within the budget.
+    /// `ByCost` and `ByWeight` reject the entry if its cost alone is above the budget, or if the tenant's total would
+    /// be above `u64::MAX`. A rejection removes the key's old entry. If the limiter accepts the entry, the tenant's
+    /// oldest entries are evicted until its total is within the budget.
     ///
     /// ```
     /// assert_eq!(rt; cache.put(&1, 8, 1), Ok(true));
