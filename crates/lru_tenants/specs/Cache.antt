@@ -29,7 +29,7 @@ pub record Cache (N K V L S : Type 0) : Type 0 where
   -- the hasher of names and keys, and the bytes of an entry
   pub hasher : S
   pub entry_bytes : ℕ
-  -- the limit of the sum of all budgets, if there is one
+  -- if there is one, the limit of the sum of all budgets
   pub total_limit : Option ℕ
 
 module _ {N K V L S : Type 0} where

@@ -26,8 +26,8 @@ use totals::is_above;
 
 /// A cache for many tenants. Each tenant has a name, and a map limited by its own budget.
 ///
-/// The limiter `L` says what an entry costs. `S` hashes names and keys. The budgets of all tenants add up to at most
-/// the total limit, if `set_total_limit` set one.
+/// The limiter `L` says what an entry costs. `S` hashes names and keys. If `set_total_limit` set a total limit, the
+/// budgets of all tenants add up to at most this limit.
 ///
 /// In the examples of the calls, `cache` has one tenant, 1, with a budget of 3 and the entry (7, 2).
 ///
