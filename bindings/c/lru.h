@@ -1,29 +1,30 @@
 /* Maps that remember the order of use and evict the least recently used entries: `struct lru`, from numbers to numbers
  * under a maximum length, and `struct lru_bytes`, from byte strings to byte strings under a budget of bytes.
  *
- * Link it by -llru after `make -C bindings install`, which docs/FROM_C.md shows. The map calls malloc, realloc and free.
+ * Link the library by -llru after `make -C bindings install`, as docs/FROM_C.md shows. It calls malloc, realloc and
+ * free.
  *
  * What is proved. Each function meets its contract in crates/lru_c/src/exports.rt or crates/lru_c/src/bytes/exports.rt,
  * for every input: it is safe, it ends, and it does to the map what the comment here says, unless the comment says
- * "tested". A map is a list of entries with distinct keys, the most recently used first. The map of a `struct lru` never
- * has more entries than its maximum length, and the entries of a `struct lru_bytes` together never weigh more than its
- * budget: these are invariants of the handles. Nothing is proved of what C and its compiler do.
+ * "tested". A map is a list of entries with distinct keys, the most recently used first. The map of a `struct lru`
+ * never has more entries than its maximum length, and the entries of a `struct lru_bytes` together never weigh more
+ * than its budget: these are invariants of the handles. Nothing is proved of what C and its compiler do.
  *
  * What the caller must guarantee, since nothing checks it:
- * - A handle is LRU_NONE, or what the last call left in it. Nothing writes its field, and no copy of a handle is
- *   used besides it. A handle may be moved, as by memcpy, if the old place is not used any more.
+ * - A handle is LRU_NONE, or what the last call left in it. Nothing else writes its field, and no copy of a handle is
+ *   used. A handle may be moved, as by memcpy, if the old place is not used any more.
  * - No pointer is null, except one whose length is 0. A handle is writable and aligned. A pointer with a length points
- *   to that number of elements. What a pointer points to has been written before, as by an initializer, also if the
+ *   to that number of elements. What a pointer points to has been written before, as by an initializer, even if the
  *   call only writes it. What a call writes overlaps nothing else of the call.
- * - There is one call on a handle at a time. A thread that takes a handle over from another one synchronises with it.
+ * - There is one call on a handle at a time. A thread that takes a handle over from another thread synchronises with
+ *   that thread.
  * - No call comes from a signal handler, or from the forked child of a process with threads.
  * - malloc, realloc and free belong together, and align a block of n bytes to each power of two up to 16 that
  *   divides n.
  *
- * A handle without a map is fine for every call. lru_new and lru_bytes_new make a map, lru_clone and lru_bytes_clone
- * free the map of the copy, and every other call changes nothing. Each but the first two returns that there is nothing.
- * So a call after lru_free and a second lru_free are harmless. A handle that is lost without lru_free or lru_bytes_free
- * leaks its map.
+ * A handle without a map is fine for every call. lru_new and lru_bytes_new make a map. lru_clone and lru_bytes_clone
+ * free the map of the copy. Every other call changes nothing, and its result, if any, says that there is nothing. So
+ * any call after lru_free is harmless. A handle that is lost without lru_free or lru_bytes_free leaks its map.
  *
  * No call ends the process. A call that runs out of memory says so in its result, and leaves a map that works.
  * Running out of memory evicts nothing by itself.
@@ -85,32 +86,32 @@ struct lru_inserted {
 #define LRU_NO_MAP 3u        /* the handle has no map */
 
 /* Makes an empty map of at most `max_length` entries, and returns whether it did; false says that there was no memory
- * (tested). A map that the handle had is dropped in either case. The seeds are those of the hasher: if strangers choose
- * the keys, take four numbers that nobody can guess. The table takes memory at the first insert. */
+ * (tested). A map that the handle had is dropped in either case. The hasher uses the seeds: if strangers choose the
+ * keys, take four numbers that nobody can guess. The table takes memory at the first insert. */
 bool lru_new(struct lru *lru, uint32_t max_length, const uint64_t seeds[4]);
 
 /* Drops the map, and gives back its memory. The handle has no map then. Returning the memory is tested. */
 void lru_free(struct lru *lru);
 
-/* Makes `copy` a copy of the map: the same entries in the same order, maximum length, seeds and capacity. Returns
+/* Makes `copy` a copy of the map, with the same maximum length, seeds, capacity, and entries in the same order. Returns
  * whether it did; false says that there was no map, or no memory (tested). A map that `copy` had is dropped in either
  * case; `lru` stays as it is. */
 bool lru_clone(struct lru *lru, struct lru *copy);
 
-/* Inserts a key with a value, as the newest entry. A key that is there gets the new value, and the old one is
- * returned. If the map is full, the oldest entry is evicted first, and written to `*evicted`, which otherwise stays as
- * it is. One insert evicts at most one entry, unless max_length is above 939,524,096.
+/* Inserts a key with a value, as the newest entry. If the key is there, its value is replaced, and returned. If the key
+ * is new and the map is full, the oldest entry is evicted first, and written to `*evicted`, which otherwise stays as it
+ * is. One insert evicts at most one entry, unless max_length is above 939,524,096.
  *
- * LRU_OUT_OF_MEMORY: the key was new, and is not there; an evicted entry would have been evicted by a successful insert
- * too. LRU_REJECTED: max_length is 0. */
+ * LRU_OUT_OF_MEMORY: the key was new, and is not there. If an entry was evicted, a successful insert would have evicted
+ * it, too. LRU_REJECTED: max_length is 0. */
 struct lru_inserted lru_insert(struct lru *lru, uint64_t key, uint64_t value, struct lru_entry *evicted);
 
 /* If the key is there, makes its entry the newest, and returns its value as the old value (`replaced` is true).
  * Otherwise inserts this value, as lru_insert does. */
 struct lru_inserted lru_get_or_insert(struct lru *lru, uint64_t key, uint64_t value, struct lru_entry *evicted);
 
-/* The same as lru_insert, but returns the code alone. Do not call it if you own what the values point to: nothing says
- * which entry was evicted. */
+/* Does what lru_insert does, but returns only the code. Do not call it if you own what the values point to: nothing
+ * says which entry was evicted. */
 uint32_t lru_put(struct lru *lru, uint64_t key, uint64_t value);
 
 /* Returns the value of a key, and makes its entry the newest. */
@@ -160,11 +161,11 @@ size_t lru_capacity(struct lru *lru);
 size_t lru_memory_usage(struct lru *lru);
 
 /* Makes the table large enough for `additional` more entries. Returns whether it is: false says that there was no
- * memory (tested), or that no table is as large. The entries stay in any case. */
+ * memory (tested), or that no table is large enough. The entries stay in any case. */
 bool lru_reserve(struct lru *lru, size_t additional);
 
-/* Shrinks the table to as few buckets as hold the entries. Returns false, and changes nothing, if there was no
- * memory for the smaller table (tested). */
+/* Shrinks the table to the fewest buckets that hold the entries. If there was no memory for the smaller table
+ * (tested), returns false, and changes nothing. */
 bool lru_shrink(struct lru *lru);
 
 /* A handle of a map from byte strings to byte strings: the address of a map on the heap, or null. Begin with LRU_NONE.
@@ -175,8 +176,8 @@ struct lru_bytes {
     void *map;
 };
 
-/* What an entry weighs besides the bytes of its key and its value: its bytes in the table. What malloc adds to each
- * block is not counted, nor are empty buckets. */
+/* What an entry weighs in addition to the bytes of its key and its value: its bytes in the table. What malloc adds to
+ * each block is not counted, nor are empty buckets. */
 #define LRU_BYTES_OVERHEAD 64u
 
 /* A value, if `found`. Otherwise `len` is 0. */
@@ -194,8 +195,8 @@ struct lru_popped {
 };
 
 /* Makes an empty map whose entries weigh at most `budget` together, and returns whether it did; false says that there
- * was no memory (tested). A map that the handle had is dropped in either case. The seeds are those of the hasher, as
- * for lru_new. */
+ * was no memory (tested). A map that the handle had is dropped in either case. The hasher uses the seeds, as in
+ * lru_new. */
 bool lru_bytes_new(struct lru_bytes *lru, uint64_t budget, const uint64_t seeds[4]);
 
 /* Drops the map, and gives back its memory. The handle has no map then. Returning the memory is tested. */
@@ -207,17 +208,17 @@ void lru_bytes_free(struct lru_bytes *lru);
  *
  * LRU_REJECTED: the entry alone weighs more than the budget. Then the value is not read (both are tested), and the
  * entry of the key is removed, so no old value stays under the key. LRU_OUT_OF_MEMORY: all memory is taken first, so
- * nothing has changed. A key that is there takes memory for the two copies alone, and none for the table. */
+ * nothing has changed. If the key is there, only the two copies take memory. */
 uint32_t lru_bytes_put(struct lru_bytes *lru, const uint8_t *key, size_t key_len, const uint8_t *value,
                        size_t value_len);
 
-/* Copies the value of a key to the front of `buffer` if it has at most `size` bytes, and makes its entry the newest.
- * Returns the length of the value: if it is above `size`, nothing is copied, and a larger buffer is needed. The other
- * bytes of `buffer` stay as they are. */
+/* Makes the entry of a key the newest, and returns the length of its value. If the value has at most `size` bytes,
+ * copies it to the front of `buffer`. Otherwise nothing is copied, and a larger buffer is needed. The other bytes of
+ * `buffer` stay as they are. */
 struct lru_value lru_bytes_get(struct lru_bytes *lru, const uint8_t *key, size_t key_len, uint8_t *buffer,
                                size_t size);
 
-/* The same as lru_bytes_get, but the order stays. */
+/* Does what lru_bytes_get does, but the order stays. */
 struct lru_value lru_bytes_peek(struct lru_bytes *lru, const uint8_t *key, size_t key_len, uint8_t *buffer,
                                 size_t size);
 
@@ -227,25 +228,24 @@ bool lru_bytes_contains(struct lru_bytes *lru, const uint8_t *key, size_t key_le
 /* Removes the entry of a key. Returns whether there was one. */
 bool lru_bytes_remove(struct lru_bytes *lru, const uint8_t *key, size_t key_len);
 
-/* Copies the key and the value of the oldest entry to the fronts of `key` and `value`, and removes the entry, if the
- * key has at most `key_size` bytes and the value at most `value_size`. Returns both lengths. If one does not fit,
- * nothing changes. */
+/* If the key of the oldest entry has at most `key_size` bytes and its value at most `value_size`, copies both to the
+ * fronts of `key` and `value`, and removes the entry. Returns both lengths. If one does not fit, nothing changes. */
 struct lru_popped lru_bytes_pop_oldest(struct lru_bytes *lru, uint8_t *key, size_t key_size, uint8_t *value,
                                        size_t value_size);
 
-/* Copies the key and the value of the oldest entry to the fronts of `key` and `value`, if both fit, as
- * lru_bytes_pop_oldest does. Returns both lengths, and `removed` is false. Nothing changes in the map. */
+/* Does what lru_bytes_pop_oldest does, but removes nothing: `removed` is false. Nothing changes in the map. */
 struct lru_popped lru_bytes_peek_oldest(struct lru_bytes *lru, uint8_t *key, size_t key_size, uint8_t *value,
                                         size_t value_size);
 
-/* The same for the entry at this index in the order of use, counted from 0, the newest. It takes a step for each entry
- * before the index: to go over a large map, make a copy with lru_bytes_clone, and pop from it. */
+/* Does what lru_bytes_peek_oldest does, for the entry at an index in the order of use. The newest has the index 0.
+ * Takes a step for each entry before the index: to go over a large map, make a copy with lru_bytes_clone, and pop from
+ * it. */
 struct lru_popped lru_bytes_peek_at(struct lru_bytes *lru, size_t index, uint8_t *key, size_t key_size, uint8_t *value,
                                     size_t value_size);
 
-/* Makes `copy` a copy of the map: entries with the same bytes in the same order, budget, seeds and capacity. Returns
- * whether it did; false says that there was no map, or no memory (tested). A map that `copy` had is dropped in either
- * case; `lru` stays as it is. `copy` is another handle than `lru`. */
+/* Makes `copy` a copy of the map, with the same budget, seeds, capacity, and bytes of entries in the same order.
+ * Returns whether it did; false says that there was no map, or no memory (tested). A map that `copy` had is dropped in
+ * either case; `lru` stays as it is. `copy` is another handle than `lru`. */
 bool lru_bytes_clone(struct lru_bytes *lru, struct lru_bytes *copy);
 
 /* Returns the number of entries. */
@@ -264,9 +264,9 @@ void lru_bytes_set_budget(struct lru_bytes *lru, uint64_t budget);
 /* Removes all entries. The map keeps the memory of its table. */
 void lru_bytes_clear(struct lru_bytes *lru);
 
-/* The functions of the library take no null. These macros, which have the functions' names, pass an address that nothing
- * reads or writes instead of a null whose length is 0. So lru_bytes_peek(&lru, key, len, NULL, 0) returns the length of a
- * value. A program that calls the functions by their addresses passes no null. */
+/* The functions of the library take no null. These macros have the functions' names. Instead of a null whose length is
+ * 0, they pass an address that nothing reads or writes. So lru_bytes_peek(&lru, key, len, NULL, 0) returns the length
+ * of a value. A program that calls the functions by their addresses passes no null. */
 static inline const uint8_t *lru_bytes_in(const uint8_t *bytes) {
     static const uint8_t none = 0;
     return bytes ? bytes : &none;

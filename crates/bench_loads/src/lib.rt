@@ -41,8 +41,8 @@ pub extern "C" fn rattle_load(alloc: Global, length: u32, kinds: &[u8], keys: &[
     if kinds.len() != keys.len() {
         return sum;
     }
-    // The loop has one counter, because the compiled loop over the other crate also has one. A zip of the two slices
-    // would have two.
+    // The loop has one counter, because the compiled loop of the other crate also has one. A zip of the slices would
+    // have two.
     for i in 0..kinds.len() {
         sum = step_of_load(&mut map, kinds[i], keys[i], sum);
     }

@@ -1,7 +1,7 @@
 -- The map from byte strings to byte strings, and what its calls do.
 --     names_bytes bytes k        the key k has these bytes
 --     weight key value           the weight of an entry with a key and a value of these lengths
---     poured bytes buffer        the buffer after the bytes were copied to its front, if they fit
+--     poured bytes buffer        if the bytes fit, the buffer with a copy of them at its front
 use Rattle.std.specs.Prelude.{◌≡◌, ◌++◌, ◌<◌, ◌≤◌, ◌&&◌, ℕ, Bool, true, false, List, length, drop, Option, Some, None}
 use Rattle.std.specs.Prelude.{nat_le, option_map, vec_items, vec_len, is_some, if◌then◌else◌, map, sum_by, Ok}
 use Rattle.std.proofs.Common.{ap}
@@ -82,7 +82,7 @@ abbrev pub answer_of : Option Bytes → Value
 answer_of None = record { len = 0; found = false }
 answer_of (Some value) = record { len = length value.items; found = true }
 
--- If a look-up finds a value, the length is returned, and the value is copied into the buffer if it fits.
+-- If a look-up finds a value, its length is returned. If the value fits into the buffer, it is copied.
 abbrev pub Reads : Option Bytes → Value → List ℕ → List ℕ → Type 0
 Reads value answer buffer left = (answer ≡ answer_of value) × (left ≡ poured_from value buffer)
 

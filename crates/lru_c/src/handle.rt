@@ -94,8 +94,8 @@ impl Slot {
     }
 }
 
-/// A handle: a map on the heap, or none. The number of entries of the map is at most its maximum length (`FitsHandle`).
-/// A contract sees the map; C sees an address, which is null if there is no map.
+/// A handle: a map on the heap, or none. The map has at most its maximum length of entries (`FitsHandle`). A contract
+/// sees the map. C sees an address, or if there is no map, null.
 ///
 /// Nothing drops a handle, because its map cannot be freed without an allocator.
 #[repr(C)]

@@ -1,4 +1,4 @@
--- What a cache shows and a crash may leave after a write of its device, or after its pages were made clean.
+-- What a cache shows, and what a crash may leave, after a write to its device, or after its pages were made clean.
 use Rattle.std.proofs.Common.{◌≡◌, ◌⊎◌, inl, inr, ℕ, Bool, true, false, cond, nat_eq, List, [], ◌∷◌, Option}
 use Rattle.std.proofs.Common.{Some, None, IsTrue, refl, sym, ap, ◌∙◌, subst}
 use Rattle.std.proofs.lemmas.Option.{none-some}

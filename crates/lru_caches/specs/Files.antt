@@ -42,12 +42,12 @@ known_after (suc (suc zero)) same bytes old = if same then None else old
 known_after (suc (suc (suc zero))) same bytes old = if same then Some bytes else old
 known_after (suc (suc (suc (suc more)))) same bytes old = old
 
--- the block of each number after these events (newest first), if it is known
+-- the block of each number after these events, newest first, if the block is known
 abbrev pub known : List Event → ℕ → Option (List ℕ)
 known [] n = None
 known (e ∷ earlier) n = known_after e.0 (nat_eq n e.1) e.2 (known earlier n)
 
--- What a crash after an event leaves of a block, if the events determine it. `block` is the block, if it is known.
+-- What a crash after an event leaves of a block, if the events determine it. `block` is what is known of the block.
 abbrev pub left_after : ℕ → Bool → Option (List ℕ) → Option (List ℕ) → Option (List ℕ)
 left_after zero same block old = old
 left_after (suc zero) same block old = old

@@ -97,7 +97,7 @@ module _ {B D : Type 0} where
   pages_after n page cache =
       (n, page) ∷ with_room cache.capacity cache.keeps_dirty (without (nat_eq n) cache.pages)
 
-  -- the counts after a call on page n that succeeds
+  -- the counts after a successful call on page n
   abbrev pub counted : ℕ → Cached B D → Counts
   counted n cache = if is_some (lookup (nat_eq n) cache.pages) then hit cache.counts else missed cache.counts
 
@@ -118,7 +118,7 @@ module _ {B D : Type 0} where
       × (victim cache.keeps_dirty cache.pages ≡ None)
 
 module _ {B D E S : Type 0} (d : device.Ghosts D B E S) where
-  -- The block of the page, if there is a page. Otherwise the device's block, if it is known.
+  -- If there is a page, its block. Otherwise the device's block, if it is known.
   abbrev pub block_or : Option (Page B) → Option S → Option S
   block_or None block = block
   block_or (Some page) block = Some (d.seen page.block)
@@ -164,7 +164,7 @@ module _ {B D E S : Type 0} (d : device.Ghosts D B E S) where
     pub usable : d.is_usable new ≡ d.is_usable old
     pub honest : d.IsHonest new → d.IsHonest old
 
-  -- The pages of these numbers were written to the device, one after another, and nothing else was done to it.
+  -- The pages of these numbers were written to the device, one after another, and the device got no other call.
   abbrev pub AreWritten : List ℕ → List (ℕ × Page B) → D → D → Type 0
   AreWritten [] pages old new = new ≡ old
   AreWritten (n ∷ numbers) pages old new = (page : Page B) × (between : D) × (lookup (nat_eq n) pages ≡ Some page)
@@ -179,7 +179,7 @@ module _ {B D E S : Type 0} (d : device.Ghosts D B E S) where
     pub writes : AreWritten numbers pages old written
     pub synced : d.sync_gives written new
 
-  -- a flush that was cut off after some of its writes, or in the sync after all of them
+  -- a flush that stopped after some of its writes, or in the `sync` after all of them
   pub record IsCutOff (pages : List (ℕ × Page B)) (old new : D) : Type 0 where
     pub numbers : List ℕ
     pub rest : List ℕ
@@ -226,7 +226,7 @@ module _ {B D E S : Type 0} (d : device.Ghosts D B E S) where
     pub counted : OnOk result (new.counts ≡ counted n old)
     pub uncounted : OnErr result (new.counts ≡ old.counts)
 
-  -- What a read of page n does if it succeeds. The device is usable, or the page is cached.
+  -- What a successful read of page n does. If the device is not usable, the page is cached.
   pub record ReadsPage (n : ℕ) (old new : Cached B D) : Type 0 where
     pub block : B
     pub shows : d.IsHonest new.device → shown new n ≡ Some (d.seen block)
@@ -234,7 +234,7 @@ module _ {B D E S : Type 0} (d : device.Ghosts D B E S) where
     pub usable : d.is_usable old.device ≡ false → IsCached n old
     pub uses : UsesPage {A = Unit {0}} n old (Ok tt) new
 
-  -- What a read of page n does if it fails. The page is not cached. If the device is not usable, the error is `Broken`.
+  -- What a failed read of page n does. The page is not cached. If the device is not usable, the error is `Broken`.
   pub record ReadFails (n : ℕ) (old : Cached B D) (e : PageError E) (new : Cached B D) : Type 0 where
     pub absent : IsCached n old → ⊥
     pub broken : d.is_usable old.device ≡ false → e ≡ Broken

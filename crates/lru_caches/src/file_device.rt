@@ -74,7 +74,7 @@ impl<F: Read + Write + Seek, const N: usize> FileDevice<F, N> {
         }
     }
 
-    /// Makes a device of all blocks that the file has whole. Nothing is proved of their number.
+    /// Makes a device of all blocks that are whole in the file. Nothing is proved about their number.
     ///
     /// ```
     /// assert_eq!(rt; FileDevice::<_, 4>::open(Cursor::new(*b"zeroone.two.thr"))?.len(), 3);
@@ -121,7 +121,7 @@ impl<F: Read + Write + Seek, const N: usize> FileDevice<F, N> {
 
     /// Returns the file.
     ///
-    /// Call `sync` first. If the device was in a page cache, `close` has called it.
+    /// Call `sync` first. If the device was in a page cache, `close` has called `sync`.
     ///
     /// ```
     /// let bytes = device.into_file().into_inner();

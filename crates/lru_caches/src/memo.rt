@@ -132,13 +132,13 @@ impl<
     /// Returns a result of the function at a key or at an equal key. If no result is stored, calls the function and
     /// stores the result.
     ///
-    /// If memory runs out or the limiter rejects the result, it is returned but not stored.
+    /// If memory runs out or the limiter rejects the result, returns it without storing it.
     ///
     /// ```
     /// assert_eq!(rt; (squares.answer(3), squares.len()), (9, 1));
     /// ```
     ///
-    /// Cost: a get, and if no result is stored, a call of the function and an insert.
+    /// Cost: a get. If no result is stored, also a call of the function and an insert.
     pub fn answer(&mut self, key: K) -> V
         requires callable { F.IsAlwaysCallable self.old.function }
         requires known { AreAnswers K.eq (FnReturnsAt F.Fn self.old.function) self.old.map.pairs }
@@ -211,7 +211,7 @@ impl<K: Eq + Hash + Drop, V: Drop, F: Fn(&K) -> V, L: Insertion<K, V, K>, S: Key
     /// squares.clear();
     /// ```
     ///
-    /// Cost: `O(n)` for n results.
+    /// Cost: as `LruMap::clear`.
     pub fn clear(&mut self)
         ensures step { self.new.map ≡ cleared L.rules self.old.map }
         ensures map { IsMap K.eq self.new.map }

@@ -1,4 +1,4 @@
-//! Tests of what no contract of `lru_replay` says: runs that run out of memory, and the printed texts.
+//! Callers of the laws of `lru_replay`, and tests of what none of its contracts says.
 #![tactic(auto)]
 
 #[cfg(test)]

@@ -15,7 +15,7 @@ use lru_replay::references::{
 use schnellru::{ByLength, GetOrInsertError, LruMap, RandomState};
 use std::alloc::AllocError;
 
-/// Makes a text the newest, and computes its value if the text is not there. A successful call is a reference.
+/// Makes a text the newest. If the text is not there, computes its value. A successful call is a reference.
 fn remember<F: FnOnce() -> u64>(
     map: &mut LruMap<String, u64>,
     text: String,

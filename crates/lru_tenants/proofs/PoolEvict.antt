@@ -33,7 +33,7 @@ given-found {all = all} laws distinct pair given =
     lookup-from_Contains laws pair.0 pair.1 all distinct (given-there pair given)
 
 module _ {N K V L S : Type 0} (account : L → ℕ) (hash_of : N → ℕ) (all : List (N × Part K V L S)) where
-  -- `rest` is left to search, and so far `most` is the greatest excess, of a tenant whose name has the hash
+  -- `rest` is left to search. The greatest excess so far is `most`, of a tenant whose name has the hash.
   pub record IsScan (rest : List (N × Part K V L S)) (most hash : ℕ) : Type 0 where
     pub among : (pair : N × Part K V L S) → Contains rest pair → Contains all pair
     pub bound : (n : ℕ) → most ≤ n → All (λ own. excess account own ≤ n) (values_of rest)

@@ -1,4 +1,4 @@
--- The pairs of a tenant that pops remove one after another, from the oldest on.
+-- The pairs that pops remove from the map of a tenant, oldest first.
 use Rattle.std.proofs.Common.{◌≡◌, Option, Some, None, List, [], ◌∷◌, ◌++◌, reverse, refl, sym, ap, ◌∙◌, arith}
 use Rattle.std.proofs.lemmas.List.{reverse-append}
 use Rattle.lru_limits.specs.Rules.{Rules}

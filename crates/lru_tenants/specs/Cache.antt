@@ -1,5 +1,5 @@
 -- A cache of tenants: a map for each open tenant.
---     names name      whether the call names this name
+--     names name      whether the call names the tenant of this name
 use Rattle.std.specs.Prelude.{◌≡◌, ℕ, ◌≤◌, ◌<◌, ◌+◌, ◌-◌, ◌^◌, nat_lt, Bool, true, false, List, cond, Option, Some, None}
 use Rattle.std.specs.Prelude.{sum_by}
 use Rattle.std.specs.Option.{option_map, unwrap_or}
@@ -26,10 +26,10 @@ is_above (Some limit) sum = nat_lt limit sum
 pub record Cache (N K V L S : Type 0) : Type 0 where
   -- the open tenants by their names, in no particular order
   pub tenants : List (N × State K V L S)
-  -- what builds the hashers of names and keys, and the bytes of an entry
+  -- the hasher of names and keys, and the bytes of an entry
   pub hasher : S
   pub entry_bytes : ℕ
-  -- the limit of the sum of all budgets, if there is one
+  -- if there is one, the limit of the sum of all budgets
   pub total_limit : Option ℕ
 
 module _ {N K V L S : Type 0} where
@@ -44,7 +44,7 @@ module _ {N K V L S : Type 0} where
   -- the named tenant is `left` afterwards, and the other tenants do not change
   pub record Leaves (eq : N → N → Bool) (names : N → Bool) (left : Option (State K V L S)) (old new : Cache N K V L S)
       : Type 0 where
-    -- all named names are equal, and each equal name is named
+    -- if the call names x, it names exactly the names equal to x
     pub one : (x y : N) → names x ≡ true → names y ≡ eq x y
     pub own : tenant names new ≡ left
     pub tenants : (other : N) → tenant (eq other) new ≡ cond (names other) left (tenant (eq other) old)

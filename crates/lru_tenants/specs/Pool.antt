@@ -1,5 +1,5 @@
 -- A pool: tenants with their shares of one limit.
---     names name          whether the name is the one that the call names
+--     names name          whether the call names the tenant of this name
 --     rules, offers       the limiter's `Rules` and `Offers` (`lru_limits`)
 --     own.0, own.1        the share and the map of a tenant
 --     account s           the sum of the costs of the entries, by the limiter s
@@ -36,7 +36,7 @@ module _ {K V L S : Type 0} (account : L → ℕ) where
   abbrev pub excess : Part K V L S → ℕ
   excess own = cost own - own.0
 
-  -- What calls that name other tenants may do to a tenant: evict its oldest entries, if its cost is above its share.
+  -- What calls that name other tenants may do to a tenant: if its cost is above its share, evict its oldest entries.
   pub record Spares (own left : Part K V L S) : Type 0 where
     pub share : left.0 ≡ own.0
     pub front : IsFront left.1.pairs own.1.pairs
@@ -62,8 +62,8 @@ abbrev pub with_map : {K V L S : Type 0} → State K V L S → Part K V L S → 
 with_map map own = (own.0, map)
 
 module _ {N K V L S : Type 0} (rules : Rules K V L) (account : L → ℕ) (eq : N → N → Bool) where
-  -- The tenant furthest above its share loses its oldest entry. If several tenants are furthest above, any of them may
-  -- lose an entry.
+  -- The oldest entry of the tenant furthest above its share is evicted. If several tenants are furthest above, any of
+  -- them may lose an entry.
   pub record Evicts (old new : List (N × Part K V L S)) : Type 0 where
     pub name : N
     pub own : Part K V L S
@@ -163,7 +163,7 @@ module _ {N K V L S : Type 0} where
     pub said : answer ≡ put_answer result (has_key (same key) (part names new))
     pub is : new ≡ record old { tenants = new.tenants }
 
-  -- `does` if the tenant is open; otherwise nothing changes
+  -- If the tenant is open, the call does what `does` says. Otherwise nothing changes.
   abbrev pub PutsIfOpen : (Part K V L S → Pool N K V L S → Result Bool TenantError → Pool N K V L S → Type 0)
       → Option (Part K V L S) → Pool N K V L S → Result Bool TenantError → Pool N K V L S → Type 0
   PutsIfOpen does None old answer new = (answer ≡ Err NotOpen) × (new ≡ old)

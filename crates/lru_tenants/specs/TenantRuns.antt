@@ -31,7 +31,7 @@ abbrev pub put_answer : {R : Type 0} → Result R AllocError → Result R Tenant
 put_answer (Ok inserted) = Ok inserted
 put_answer (Err e) = Err Memory
 
--- Below: what each call may answer, and how it leaves its tenant. `None` is a tenant that is not open.
+-- Below: what each call may answer, and how it leaves the tenant that it names. `None` is a tenant that is not open.
 
 -- A tenant that is not open opens with `fresh`. If the sum would be over the limit, or memory runs out, the tenant stays
 -- closed.
@@ -57,14 +57,14 @@ module _ {K V L S : Type 0} where
   IfOpen {R} does = OfOpen (λ map answer new.
       (result : R) × (left : State K V L S) × does map result left × (answer ≡ Ok result) × (new ≡ Some left))
 
-  -- if the total limit permits the budget, the tenant gets it, and the oldest entries over the budget are evicted
+  -- if the total limit permits the budget, the tenant gets it, and its oldest entries above the budget are evicted
   abbrev pub SetsBudget : Rules K V L → (L → L) → Bool → State K V L S → Result (Unit {0}) TenantError
       → Option (State K V L S) → Type 0
   SetsBudget rules rebudgeted true map answer new = (answer ≡ Err OverTotal) × (new ≡ Some map)
   SetsBudget rules rebudgeted false map answer new = (left : State K V L S)
       × Trims rules (with_limiter (rebudgeted map.limiter) map) left × (answer ≡ Ok tt) × (new ≡ Some left)
 
-  -- what a call passes to its callback: nothing, if the tenant is not open
+  -- what a call passes to its callback: if the tenant is not open, nothing
   abbrev pub PassesOn : (State K V L S → List (K × V) → Option (State K V L S) → Type 0) → Option (State K V L S)
       → List (K × V) → Option (State K V L S) → Type 0
   PassesOn does None passed new = (passed ≡ []) × (new ≡ None)

@@ -24,13 +24,13 @@ mod reading;
 use evict::settle;
 use part::{Part, cost_of, opened};
 
-/// A cache for many tenants. Each tenant has its own share of one limit; the rest is for whoever needs it.
+/// A cache for many tenants. Each tenant has its own share of one limit, and any tenant may use the rest.
 ///
 /// All costs add up to at most the limit. While a tenant's cost is within its share, no call of another tenant changes
 /// the tenant. `put` says which entries it evicts.
 ///
-/// In the examples of the calls, `pool` has a limit of 5 and two tenants: 1 with a share of 3 and the entry (7, 2), and
-/// 2 with a share of 1 and no entry.
+/// In the examples of the calls, `pool` has a limit of 5 and two tenants. Tenant 1 has a share of 3 and the entry
+/// (7, 2). Tenant 2 has a share of 1 and no entry.
 ///
 /// ```
 /// let mut pool: TenantPool<u64, u64, u64> = TenantPool::new(alloc, [1, 2, 3, 4], 32, 5);
@@ -156,7 +156,7 @@ impl<
     ///
     /// # Errors
     ///
-    /// `AlreadyOpen`, `Memory`, or `OverTotal` if all shares would add up to more than the limit: nothing has changed.
+    /// `AlreadyOpen`, `OverTotal` or `Memory`: nothing has changed.
     pub fn open(&mut self, name: N, share: u64) -> Result<(), TenantError>
         ensures opens { On N.eq (N.eq name) (Opens (is_over self.old share)
             (opened L.made (L.LinkType.number L.LinkType.MAX) self.old share)) self.old result self.new }
@@ -181,8 +181,8 @@ impl<
     /// Inserts a key with a value, as the newest entry of the tenant. Returns whether the key is there afterwards.
     ///
     /// First does what `TenantCache::put` does with the limit as the budget. Then, while the total is above the limit,
-    /// the tenant furthest above its share loses its oldest entry, which may be the new entry. If several tenants are
-    /// furthest above, any of them may lose an entry.
+    /// the oldest entry of the tenant furthest above its share is evicted. It may be the new entry. If several tenants
+    /// are furthest above, any of them may lose an entry.
     ///
     /// ```
     /// assert_eq!(rt; (pool.put(&2, 8, 3), pool.put(&1, 9, 1)), (Ok(true), Ok(true)));
@@ -194,7 +194,7 @@ impl<
     ///
     /// # Errors
     ///
-    /// The errors of `TenantCache::put`. No other tenant has changed.
+    /// As `TenantCache::put`. No other tenant has changed.
     pub fn put<T: LookupKey<N>>(&mut self, name: &T, key: K, value: V) -> Result<bool, TenantError>
         ensures puts { PutsIfOpen (Puts L.rules (offers_of L.terms) L.account N.eq K.eq S.hash_of (T.names name.now) key value)
             (part (T.names name.now) self.old) self.old result self.new }
@@ -218,7 +218,7 @@ impl<
         Ok(kept & is_left)
     }
 
-    /// Closes a tenant, drops its entries and frees its share. Returns the number of the entries.
+    /// Closes a tenant, drops its entries and frees its share. Returns how many entries there were.
     ///
     /// ```
     /// assert_eq!(rt; (pool.len(), pool.close(&1), pool.len()), (2, Ok(1), 1));

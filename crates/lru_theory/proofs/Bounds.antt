@@ -1,5 +1,5 @@
--- LRU against other policies: the other policy pays k + b - h times for each k misses of LRU, counted from the end of
--- the trace.
+-- LRU against other policies: for each k misses of LRU, counted from the end of the trace, the other policy pays at
+-- least k + b - h times. If it stores each referenced key, b is 1, else 0.
 use Rattle.std.proofs.Common.{◌≡◌, ℕ, zero, suc, ◌+◌, ◌-◌, ◌*◌, ◌≤◌, ◌<◌, Bool, true, false, cond, List, [], ◌∷◌}
 use Rattle.std.proofs.Common.{length, sym, ap, ◌∙◌, subst, arith, ◌⊎◌, inl, inr}
 use Rattle.std.proofs.lemmas.Bool.{cases_lt}

@@ -15,7 +15,7 @@ module _ {K : Type 0} (eq : K → K → Bool) where
   Later trace key (other ∷ keys) =
       (until eq key trace ≤ until eq other trace) × (eq key other ≡ false) × Later trace key keys
 
-  -- The keys are different, and in the order of their next references.
+  -- The keys are distinct, and in the order of their next references.
   abbrev pub Ordered : List K → List K → Type 0
   Ordered trace [] = Unit {0}
   Ordered trace (key ∷ keys) = Later trace key keys × Ordered trace keys
@@ -87,7 +87,7 @@ module _ {K : Type 0} {eq : K → K → Bool} (laws : IsEquivalence eq) where
       let parts = or_parts (eq key x) (is_in eq key xs) none in
       rw (parts.0) (ap (λ ys. x ∷ ys) (without_absent key xs parts.1))
 
-  -- the keys `xs` without the key of the first reference
+  -- about `xs` without the key of the first reference
   pub record Left (key : K) (trace xs : List K) : Type 0 where
     pub absent : is_in eq key (remove_key (eq key) xs) ≡ false
     pub ordered : Ordered eq trace (remove_key (eq key) xs)

@@ -5,7 +5,7 @@ use Rattle.std.specs.Set.{remove_key}
 use Rattle.lru_theory.specs.Traces.{fault}
 
 module _ {K : Type 0} (eq : K → K → Bool) where
-  -- how many references come before the next reference to the key, or the length of the trace if there is none
+  -- how many references come before the next reference to the key; if there is none, the length of the trace
   abbrev pub until : K → List K → ℕ
   until key [] = 0
   until key (other ∷ trace) = if eq key other then 0 else suc (until key trace)
@@ -32,7 +32,7 @@ module _ {K : Type 0} (eq : K → K → Bool) where
   faults_ahead refer keys [] = 0
   faults_ahead refer keys (key ∷ trace) = fault eq key keys + faults_ahead refer (refer key trace keys) trace
 
-  -- how often MIN (and below, MIN with bypass) with n places misses, if it begins with no keys
+  -- how often MIN with n places misses, if it begins with no keys; below, MIN with bypass
   abbrev pub min_misses : ℕ → List K → ℕ
   min_misses n trace = faults_ahead (min_refer n) [] trace
 

@@ -34,8 +34,7 @@ module _ {K : Type 0} (eq : K → K → Bool) where
     both : (x y : K) (xs ys : List K) → eq x y ≡ true → IsSubsequence xs ys → IsSubsequence (x ∷ xs) (y ∷ ys)
     skips : (y : K) (xs ys : List K) → IsSubsequence xs ys → IsSubsequence xs (y ∷ ys)
 
-  -- A cache of n places is included in a cache of m places: its keys are keys of the larger cache, in the same order,
-  -- and the larger cache contains at most m - n more keys.
+  -- a cache of n places is included in a cache of m places
   pub record IsIncluded (n m : ℕ) (small large : List K) : Type 0 where
     pub keys : IsSubsequence small large
     pub more : length large ≤ length small + (m - n)

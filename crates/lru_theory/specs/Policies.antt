@@ -1,4 +1,4 @@
--- Other policies of eviction. The order of the keys of their caches means nothing.
+-- Other eviction policies. The order of the keys in their caches means nothing.
 --     eq        when two keys are equal
 use Rattle.std.specs.Prelude.{◌≡◌, ℕ, ◌+◌, ◌≤◌, Bool, true, false, List, [], ◌∷◌, length}
 use Rattle.std.specs.Set.{remove_key}
@@ -11,7 +11,7 @@ module _ {K : Type 0} (eq : K → K → Bool) where
   outside others (key ∷ keys) = fault eq key others + outside others keys
 
 module _ {K : Type 0} (eq : K → K → Bool) (places : ℕ) where
-  -- How a demand policy may change its cache at a reference, and whether it missed (1) or not (0). If the key is there,
+  -- How a demand policy may change its cache at a reference. The number is 1 if it missed, else 0. If the key is there,
   -- the policy changes nothing. Otherwise it stores the key, and evicts any one key or none.
   pub data Demands (key : K) (old : List K) : ℕ → List K → Type 0 where
     finds : is_in eq key old ≡ true → Demands key old 0 old

@@ -33,8 +33,8 @@ module _ {K : Type 0} (eq : K → K → Bool) where
   abbrev pub distance : K → List K → ℕ
   distance key past = length (recency (since key past))
 
-  -- a reference to the key misses in a cache of n places: it is the first reference, or its reuse distance is at least
-  -- n
+  -- whether a reference to the key misses in a cache of n places: it is the first reference to the key, or its reuse
+  -- distance is at least n
   abbrev pub is_far : ℕ → K → List K → Bool
   is_far n key past = not (is_in key past) || nat_le n (distance key past)
 
@@ -43,12 +43,12 @@ module _ {K : Type 0} (eq : K → K → Bool) where
   misses n past [] = 0
   misses n past (key ∷ trace) = (if is_far n key past then 1 else 0) + misses n (key ∷ past) trace
 
-  -- The keys of an LRU cache of n places after a reference, newest first. The key becomes the newest, and the oldest
-  -- key is evicted if there are more than n keys.
+  -- The keys of an LRU cache of n places after a reference, newest first. The key becomes the newest. If there are then
+  -- more than n keys, the oldest is evicted.
   abbrev pub refer : ℕ → K → List K → List K
   refer n key keys = take n (key ∷ remove_key (eq key) keys)
 
-  -- 1 if the key is not there, and 0 if it is
+  -- if the key is there, 0, else 1
   abbrev pub fault : K → List K → ℕ
   fault key keys = if is_in key keys then 0 else 1
 

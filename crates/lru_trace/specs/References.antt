@@ -25,7 +25,7 @@ module _ (options : Options) (lines : List (List ℕ)) where
   abbrev pub warm_in : List (List ℕ)
   warm_in = sampled (bits_of options) (take (warm_up_of options.policies) keys_read)
 
-  -- the references behind the warm-up
+  -- the references after the warm-up
   abbrev pub counted_in : List (List ℕ)
   counted_in = sampled (bits_of options) (drop (warm_up_of options.policies) keys_read)
 
@@ -36,7 +36,7 @@ module _ (options : Options) (lines : List (List ℕ)) where
     skipped = skipped (bits_of options) (drop (warm_up_of options.policies) keys_read);
   }
 
-  -- `others_in`, if all lines are in the warm-up (`warm`), or all are behind it
+  -- `others_in` of lines that are all in the warm-up, if `warm` is true, or all after it
   abbrev pub others_so : Bool → Others
   others_so warm = record {
     malformed = malformed_in (texts_of options.column lines);

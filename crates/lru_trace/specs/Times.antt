@@ -1,5 +1,5 @@
--- The times of next references. A policy that knows the rest of the trace knows them. A reference at time i comes after
--- i other references.
+-- The times of next references. A policy that knows the rest of the trace knows these times. A reference at time i
+-- comes after i other references.
 use Rattle.std.specs.Prelude.{◌≡◌, ℕ, suc, ◌+◌, nat_lt, Bool, if◌then◌else◌, List, [], ◌∷◌, Option, IfSome}
 use Rattle.std.specs.Ordering.{nat_cmp}
 use Rattle.std.specs.BTreeSet.{insert_key}
@@ -12,7 +12,7 @@ abbrev pub next_times : {K : Type 0} (eq : K → K → Bool) → ℕ → List K 
 next_times eq i [] = []
 next_times eq i (key ∷ trace) = (suc i + until eq key trace) ∷ next_times eq (suc i) trace
 
--- inserts `time` into the rising list `times`, if it comes before the end
+-- if `time` comes before `end`, inserts it into the rising list `times`
 abbrev pub with_time : ℕ → ℕ → List ℕ → List ℕ
 with_time end time times = if nat_lt time end then insert_key nat_cmp times time else times
 

@@ -53,7 +53,7 @@ pub fn put(alloc: Global, map: &mut BytesMap, key: &[u8], value: &[u8]) -> u32
     }
 }
 
-// Reserves growth for the key if it is not in the map. Returns whether there was enough memory.
+// If the key is not in the map, reserves growth for it. Returns whether there was enough memory.
 fn get_ready_for(map: &mut BytesMap, key: &[u8]) -> bool
     ensures ready { result ≡ true → IsReady key.now map.old map.new }
     ensures finds { result ≡ true → FindsMemory key.now map.new }
@@ -95,8 +95,7 @@ pub fn get(map: &mut BytesMap, key: &[u8], buffer: &mut [u8]) -> Value
     }
 }
 
-/// Returns the length of the value of a key, and copies the value into the buffer if it fits. Does not change the
-/// order.
+/// Returns the length of the value of a key. If the value fits into the buffer, copies it. Does not change the order.
 pub fn peek(map: &BytesMap, key: &[u8], buffer: &mut [u8]) -> Value
     ensures { Reads (lookup (names_bytes key.now) map.now.pairs) result buffer.old buffer.new }
 {

@@ -1,4 +1,4 @@
-//! A list of calls that only contracts see. It takes no memory.
+//! A list of calls that only contracts see.
 ghost use Rattle.std.specs.Prelude.{◌≡◌, List, [], ◌∷◌};
 ghost use Rattle.std.specs.Borrow.{ftrue};
 ghost use Rattle.lru_caches.specs.Files.{Event, event_of};

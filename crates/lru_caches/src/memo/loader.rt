@@ -14,7 +14,7 @@ use std::marker::Model;
 
 /// A memo of a function that may fail, such as a read of a file. It stores no failures.
 ///
-/// A call of `load` returns a value of the function (clause `value`), or its failure, which changes nothing. A
+/// A call of `load` returns a value of the function (clause `value`), or its error. An error changes nothing. A
 /// successful call is a step of a map (clause `step`).
 ///
 /// ```
@@ -143,13 +143,13 @@ impl<
 > Loader<K, V, F, L, S> {
     /// Returns the value of a key. If no value is stored, calls the function, and stores its value.
     ///
-    /// If memory runs out or the limiter rejects the value, it is returned but not stored.
+    /// If memory runs out or the limiter rejects the value, returns it without storing it.
     ///
     /// ```
     /// assert_eq!(rt; (blocks.load(1), blocks.len()), (Ok(11), 1));
     /// ```
     ///
-    /// Cost: a get, and if no value is stored, a call of the function and an insert.
+    /// Cost: a get. If no value is stored, also a call of the function and an insert.
     ///
     /// # Errors
     ///
@@ -191,7 +191,7 @@ impl<
     ///
     /// # Errors
     ///
-    /// As `load`. The closure is not called.
+    /// As `load`. After an error, the closure is not called.
     pub fn load_with<R, U: FnOnce(&V) -> R>(&mut self, key: K, read: U) -> Result<R, E>
         requires callable { F.IsAlwaysCallable self.old.function }
         requires readable { U.IsAlwaysCallable read }

@@ -25,8 +25,7 @@ pub trait Question<K, V> {
     ghost answers: { K → V → Type 0 };
 }
 
-/// A table of the newest answers to a question, up to a limit. A function that calls itself can store its results in
-/// the table.
+/// A table of the newest answers to a question, up to a limit. A function that calls itself can store its results here.
 ///
 /// The caller of `store` proves that the value is an answer. So each value that `get` returns is an answer.
 ///

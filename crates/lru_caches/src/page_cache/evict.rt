@@ -1,4 +1,4 @@
-//! Which page is evicted if the cache is full, and how.
+//! If the cache is full: which page is evicted, and how.
 ghost use Rattle.std.specs.Prelude.{◌≡◌, ◌≢◌, ◌⊎◌, ◌≤◌, ◌<◌, ◌+◌, ℕ, ◌∷◌, length, nat_eq, None, Some, false};
 ghost use Rattle.std.specs.Prelude.{IsTrue, IfErr, IfOk, OnOk, OnErr};
 ghost use Rattle.std.specs.Map.{lookup};
@@ -23,7 +23,7 @@ fn find_victim<B: Copy, S: KeyHasher<u64>>(map: &Pages<B, S>, keeps_dirty: bool)
     None
 }
 
-/// Returns the number of the page to evict for a new page, if the cache is full.
+/// If the cache is full, returns the number of the page to evict for a new page.
 pub(super) fn find_room<B: Copy, E, S: KeyHasher<u64>>(
     map: &Pages<B, S>,
     capacity: usize,

@@ -17,7 +17,7 @@ impl<N: Eq + Hash, K: Eq + Hash, V, L: Budgeted<K, V>, S: KeyHasher<K> + Copy> T
     L,
     S,
 > {
-    /// Sets the limit of the sum of all tenants' budgets. `None` lifts the limit.
+    /// Limits the sum of all tenants' budgets. `None` lifts the limit.
     ///
     /// ```
     /// assert_eq!(rt; cache.set_total_limit(Some(5)), Ok(()));

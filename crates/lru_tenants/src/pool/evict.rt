@@ -1,4 +1,4 @@
-//! Evictions: while the total is above the limit, the tenant furthest above its share loses its oldest entry.
+//! Evictions from a pool: each evicts the oldest entry of the tenant furthest above its share.
 ghost use Rattle.std.specs.Prelude.{◌≡◌, ℕ, ◌+◌, ◌≤◌, ◌<◌, length, sum_by, Contains, Some};
 ghost use Rattle.std.specs.List.{All};
 ghost use Rattle.std.specs.Map.{values_of};
@@ -10,8 +10,8 @@ use lru_limits::Budgeted;
 use schnellru::{KeyHasher, LruMap, Unlimited};
 use std::hash::Hash;
 
-// Returns the greatest excess and, if it is above 0, the hash of the name of a tenant with this excess. The name itself
-// is lent by the map that the caller is about to change.
+// Returns the greatest excess. If it is above 0, also returns the hash of the name of a tenant with this excess. Does
+// not return the name, because the caller changes the map that lends it.
 fn furthest<N: Eq + Hash, K: Eq + Hash, V, L: Budgeted<K, V>, S: KeyHasher<K>, H: KeyHasher<N>>(
     tenants: &LruMap<N, Part<K, V, L, S>, Unlimited, H>,
 ) -> (u64, u64)
@@ -31,7 +31,7 @@ fn furthest<N: Eq + Hash, K: Eq + Hash, V, L: Budgeted<K, V>, S: KeyHasher<K>, H
     (most, hash)
 }
 
-// Returns by how much the total falls. `None` is for Rust, where hashes and costs may lie.
+// Returns by how much the total falls. Only in Rust, where hashes and costs may be wrong, returns `None`.
 fn evict<
     N: Eq + Hash,
     K: Eq + Hash + Drop,

@@ -1,4 +1,4 @@
--- The powers so far, and then the remaining powers, are all powers.
+-- The powers so far, followed by the remaining powers, are `powers`.
 use Rattle.std.proofs.Common.{◌≡◌, ◌-◌, ◌<◌, ◌++◌}
 use Rattle.std.specs.List.{All}
 use Rattle.lru_trace.specs.Rows.{powers}
