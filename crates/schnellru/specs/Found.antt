@@ -60,3 +60,8 @@ module _ (K V L S N H : RattleType) (key : HashMembers K.Denot)
   -- after the loan the entry has the last value written through r
   abbrev pub lends_found : MutBor Entry → MutBor V.Denot → Fml
   lends_found e r = Lends entry_row V e r (λ last. entry_written e.now last)
+
+  -- after the loan the map has the last value written through r
+  abbrev pub lends_into : Entry → MutBor V.Denot → Fml
+  lends_into e r = Lends (map_row K V L S N H key limits links hashed hash) V e.map r
+      (λ last. entry_map (entry_written e last))
