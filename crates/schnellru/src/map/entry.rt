@@ -157,6 +157,30 @@ impl<'a, K: Eq + Hash, V, L: Limiter<K, V>, S: KeyHasher<K>> OccupiedEntry<'a, K
         self.map.value_in_mut(bucket)
     }
 
+    /// Lends the value for writing, until the loan of the map ends. The order stays. The limiter is not notified of
+    /// writes.
+    ///
+    /// ```
+    /// if let Some(value) = map.find_entry(&1).map(|entry| entry.into_mut()) {
+    ///     *value = 100;
+    /// }
+    /// assert!(rt; map.peek_oldest() == Some((&1, &100)));
+    /// ```
+    ///
+    /// Cost: `O(1)`.
+    #[inline]
+    pub fn into_mut(self) -> &'a mut V
+        ensures* writes_back { sem 𝓛 (lends_into K.row V.row L.row S.row L.LinkType.row S.Hasher.row K.Hash L.Limiter
+            L.LinkType.LinkType S.KeyHasher S.Hasher.Hasher self.entry result) }
+        ensures value { (names : K → Bool) → IsOn self.entry names →
+            lookup names (entry_map self.entry).pairs ≡ Some result.now }
+        ensures written { (names : K → Bool) → IsOn self.entry names → (last : V) →
+            entry_map (entry_written self.entry last) ≡ written names last (entry_map self.entry) }
+    {
+        let OccupiedEntry { map, bucket } = self;
+        map.value_in_mut(bucket)
+    }
+
     /// Makes the entry the newest.
     ///
     /// ```
