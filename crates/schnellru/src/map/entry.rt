@@ -152,6 +152,7 @@ impl<'a, K: Eq + Hash, V, L: Limiter<K, V>, S: KeyHasher<K>> OccupiedEntry<'a, K
             entry_map (entry_written self.old last) ≡ written names last (entry_map self.old) }
         ensures same_entry { (names : K → Bool) → IsOn self.old names → (last : V) →
             IsOn (entry_written self.old last) names }
+        ensures map { (last : V) → IsMap K.eq (entry_map (entry_written self.old last)) }
     {
         let bucket = self.bucket;
         self.map.value_in_mut(bucket)
@@ -161,7 +162,8 @@ impl<'a, K: Eq + Hash, V, L: Limiter<K, V>, S: KeyHasher<K>> OccupiedEntry<'a, K
     /// writes.
     ///
     /// ```
-    /// if let Some(value) = map.find_entry(&1).map(|entry| entry.into_mut()) {
+    /// if let Some(entry) = map.find_entry(&1) {
+    ///     let value = entry.into_mut();
     ///     *value = 100;
     /// }
     /// assert!(rt; map.peek_oldest() == Some((&1, &100)));
@@ -176,6 +178,7 @@ impl<'a, K: Eq + Hash, V, L: Limiter<K, V>, S: KeyHasher<K>> OccupiedEntry<'a, K
             lookup names (entry_map self.entry).pairs ≡ Some result.now }
         ensures written { (names : K → Bool) → IsOn self.entry names → (last : V) →
             entry_map (entry_written self.entry last) ≡ written names last (entry_map self.entry) }
+        ensures map { (last : V) → IsMap K.eq (entry_map (entry_written self.entry last)) }
     {
         let OccupiedEntry { map, bucket } = self;
         map.value_in_mut(bucket)
@@ -225,10 +228,8 @@ impl<'a, K: Eq + Hash, V, L: Limiter<K, V>, S: KeyHasher<K>> OccupiedEntry<'a, K
     /// Removes the entry. Returns the stored key and its value. The other entries keep their order.
     ///
     /// ```
-    /// if let Some(entry) = map.find_entry(&1) {
-    ///     assert_eq!(rt; entry.remove_entry(), (1, 10));
-    /// }
-    /// assert!(rt; !map.contains(&1));
+    /// let removed = map.find_entry(&1).map(|entry| entry.remove_entry());
+    /// assert!(rt; removed == Some((1, 10)) && !map.contains(&1));
     /// ```
     ///
     /// Cost: `O(1)`.

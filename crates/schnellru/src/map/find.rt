@@ -55,6 +55,7 @@ impl<K: Eq + Hash, V, L: Limiter<K, V>, S: KeyHasher<K>> LruMap<K, V, L, S> {
             (key : K) × (lookup_entry names self.old.pairs ≡ Some (key, result.now)) }
         ensures written { (names : K → Bool) (last : V) → place_in names self.old ≡ Some b →
             written_in b last self.old ≡ written names last self.old }
+        ensures map { (last : V) → IsMap K.eq (written_in b last self.old) }
     {
         &mut self.entries.pair_mut(b).value
     }

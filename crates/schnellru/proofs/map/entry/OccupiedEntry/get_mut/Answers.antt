@@ -20,5 +20,6 @@ returns g c = let e = c.args.self.now in let lent = c.value_in_mut in (
       place = written_place names e.map.now (entry_map (entry_written e last)) e.bucket on.place last
           (lent.ensures.written names last on.place);
     };
+    map = lent.ensures.map;
   },
 )

@@ -14,5 +14,6 @@ returns g c = let e = c.args.self in let lent = c.value_in_mut in (
     value = λ names on. let (key, found) = lent.ensures.pair names on.one on.place in
         named_value names e.map.now.pairs (key, lent.result.now) found;
     written = λ names on last. lent.ensures.written names last on.place;
+    map = lent.ensures.map;
   },
 )
