@@ -3,7 +3,7 @@ use Rattle.lru_limits.specs.Rules.{Rules, Offers}
 use Rattle.lru_model.proofs.CallerLemmas.{any_step_same}
 use Rattle.lru_model.specs.Runs.{Run, Step, calls, ends, goes_on}
 use Rattle.lru_model.specs.State.{State}
-use Rattle.schnellru_tests.proofs.examples.map_14.Goals as goal
+use Rattle.schnellru_tests.proofs.examples.map_17.Goals as goal
 
 run_same : {K V S H : Type 0} {rules : Rules K V S} {offers : Offers K V S K} {eq : K → K → Bool} {hash_of : H → K → ℕ}
     {new old : State K V S H} → Run (Step rules offers eq hash_of) new old → new.hasher ≡ old.hasher
