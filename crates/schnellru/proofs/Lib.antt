@@ -1,5 +1,6 @@
 pub mod Maps
 mod SameWalks
+mod FoundEntries
 mod Positions
 mod OutlivedLifetimes
 mod LentPairs

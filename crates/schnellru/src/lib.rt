@@ -26,6 +26,7 @@ pub use lru_limits::{
 };
 pub use lru_model::{GetOrInsertError, Inserted, MoveReport, ReserveError, Updated, laws};
 pub use map::LruMap;
+pub use map::entry::OccupiedEntry;
 pub use ordered_table::{Keys, Values, Walk};
 pub use walk::Iter;
 pub use walk::drain::Drain;

@@ -14,6 +14,7 @@ use std::marker::Model;
 
 mod by_hash;
 mod clone;
+pub(crate) mod entry;
 mod equal;
 mod extend;
 mod figures;

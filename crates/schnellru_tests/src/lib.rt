@@ -14,6 +14,8 @@ mod exact;
 #[cfg(test)]
 mod examples;
 #[cfg(test)]
+mod found;
+#[cfg(test)]
 mod memory;
 #[cfg(test)]
 mod sizes;

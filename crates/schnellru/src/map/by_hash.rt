@@ -101,7 +101,7 @@ impl<K: Eq + Hash, V, L: Limiter<K, V>, S: KeyHasher<K>> LruMap<K, V, L, S> {
     }
 
     #[inline]
-    fn find_by<F: FnMut(&K, &V) -> bool>(&self, hash: u64, is_eq: F) -> Option<usize>
+    pub(super) fn find_by<F: FnMut(&K, &V) -> bool>(&self, hash: u64, is_eq: F) -> Option<usize>
         requires callable { F.IsAlwaysCallable is_eq }
         ensures found { IfSome result (λ b. (pair : K × V)
             × GivesByHash K.eq (S.hash_of self.now.hasher) self.now.pairs hash F.FnMut is_eq pair

@@ -55,6 +55,7 @@ impl<K: Eq + Hash, V, L: Limiter<K, V>, S: KeyHasher<K>> LruMap<K, V, L, S> {
             (key : K) × (lookup_entry names self.old.pairs ≡ Some (key, result.now)) }
         ensures written { (names : K → Bool) (last : V) → place_in names self.old ≡ Some b →
             written_in b last self.old ≡ written names last self.old }
+        ensures map { (last : V) → IsMap K.eq (written_in b last self.old) }
     {
         &mut self.entries.pair_mut(b).value
     }
@@ -83,6 +84,9 @@ impl<K: Eq + Hash, V, L: Limiter<K, V>, S: KeyHasher<K>> LruMap<K, V, L, S> {
         requires { Contains self.old.table.places b }
         ensures demoted { (names : K → Bool) → ((x y : K) → IsTrue (names x) → names y ≡ K.eq x y) →
             place_in names self.old ≡ Some b → self.new ≡ demoted names self.old }
+        ensures place { (names : K → Bool) → ((x y : K) → IsTrue (names x) → names y ≡ K.eq x y) →
+            place_in names self.old ≡ Some b → place_in names self.new ≡ Some b }
+        ensures there { Contains self.new.table.places b }
         ensures map { IsMap K.eq self.new }
     {
         self.entries.demote(b);

@@ -1,4 +1,6 @@
 use Rattle.std.proofs.Common.{◌≡◌, true, refl, sym, ap, ◌∙◌, subst, unwrap_or}
+use Rattle.lru_model.specs.State.{IsMap}
+use Rattle.lru_model.proofs.States.Promotions.{written_is_map}
 use Rattle.ordered_table.specs.OrderedTable.{pairs_of}
 use Rattle.ordered_table.proofs.Tables.BucketPairs.{pair_found, place_found}
 use Rattle.ordered_table.proofs.Tables.Searches.{pair_of_place}
@@ -47,5 +49,8 @@ returns g c =
             );
         written = λ names last at. ap (λ ps. record (state_of t rest) { pairs = ps })
             (written_there names last (pairs_of t) t.order b holds.linked.distinct at);
+        map = λ last. subst (λ ps. IsMap g.K.PartialEq.eq (record (state_of t rest) { pairs = ps }))
+            (sym (written_there equal last (pairs_of t) t.order b holds.linked.distinct place))
+            (written_is_map _ equal last holds.map);
       },
     )
