@@ -160,9 +160,9 @@ fn map_9(map: &mut LruMap<u64, u64>) -> Result<bool, AllocError> {
 fn map_10<S: KeyHasher<u64>>(map: &mut LruMap<u64, u64, ByLength, S>) -> Result<bool, AllocError> {
     let hash = map.hasher().hash_named(&5);
     if map.peek_key_value(&5).is_none() {
-        assert!(rt; map.insert_absent(hash, 5, 50, &mut |_, _| {})?);
+        map.insert_absent(hash, 5, 50, &mut |_, _| {})?;
     }
-    Ok(true)
+    Ok(is_pair(map.peek_newest(), 5, 50))
 }
 
 fn map_11(map: &mut LruMap<u64, u64>) -> Result<bool, AllocError> {

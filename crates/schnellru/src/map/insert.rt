@@ -232,8 +232,9 @@ impl<K: Eq + Hash, V, L: Limiter<K, V>, S: KeyHasher<K>> LruMap<K, V, L, S> {
     /// ```
     /// let hash = map.hasher().hash_named(&5);
     /// if map.peek_key_value(&5).is_none() {
-    ///     assert!(rt; map.insert_absent(hash, 5, 50, &mut |_, _| {})?);
+    ///     map.insert_absent(hash, 5, 50, &mut |_, _| {})?;
     /// }
+    /// assert!(rt; map.peek_newest() == Some((&5, &50)));
     /// ```
     ///
     /// Cost: as `insert_hashed`, without the search.
