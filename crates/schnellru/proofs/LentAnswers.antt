@@ -1,5 +1,5 @@
 -- One proof for `get_or_insert` and `get_or_insert_fallible`: each passes its arguments to a function that lends, and
--- makes an `Option` of the result. Assumes `Logic`.
+-- makes an `Option` of the result.
 use mathlib.Core.Path.{◌≡◌, refl, sym, subst}
 use mathlib.Core.List.{List, [], ◌∷◌}
 use Prim.Native.Nat.{ℕ}

@@ -1,4 +1,4 @@
--- `get_or_insert` lends what `lend_or_insert` lends. Assumes `Logic`.
+-- `get_or_insert` lends what `lend_or_insert` lends.
 use mathlib.Core.Path.{refl}
 use mathlib.Core.List.{[], ◌∷◌, ◌++◌}
 use base.Fml.{ftrue, flft}

@@ -1,4 +1,4 @@
--- `get_or_insert_fallible` lends what `lend_or_insert_fallible` lends. Assumes `Logic`.
+-- `get_or_insert_fallible` lends what `lend_or_insert_fallible` lends.
 use mathlib.Core.Path.{refl}
 use mathlib.Core.List.{[], ◌∷◌, ◌++◌}
 use base.Fml.{ftrue, flft}
