@@ -42,8 +42,8 @@ pub trait BlockDevice<B> {
     /// A number that changes exactly when a call fails, such as the number of failed calls.
     ghost faults: { Self → ℕ };
 
-    /// What a crash in the middle of a write may leave, other than the old and the new block. By default this is any
-    /// block. A device that writes blocks whole defines `⊥`.
+    /// What a crash during a write may leave, other than the old and the new block. By default this is any block. A
+    /// device that writes blocks whole defines `λ _. ⊥` (none).
     ghost IsTorn: { Self.Seen → Type 0 } = { λ _. Unit {0} };
 
     /// Each read of a known block has returned this block. For a file this is a premise.

@@ -132,7 +132,7 @@ impl<
     /// Returns a result of the function at a key or at an equal key. If no result is stored, calls the function and
     /// stores the result.
     ///
-    /// If memory runs out or the limiter rejects the result, returns it without storing it.
+    /// If memory runs out, or a limit prevents storing the result, returns it anyway.
     ///
     /// ```
     /// assert_eq!(rt; (squares.answer(3), squares.len()), (9, 1));

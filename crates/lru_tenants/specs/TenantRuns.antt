@@ -31,7 +31,7 @@ abbrev pub put_answer : {R : Type 0} → Result R AllocError → Result R Tenant
 put_answer (Ok inserted) = Ok inserted
 put_answer (Err e) = Err Memory
 
--- Below: what each call may answer, and how it leaves the tenant that it names. `None` is a tenant that is not open.
+-- Below: what each call may return, and how it leaves the tenant that it names. `None` is a tenant that is not open.
 
 -- A tenant that is not open opens with `fresh`. If the sum would be over the limit, or memory runs out, the tenant stays
 -- closed.

@@ -44,7 +44,7 @@ unfoldable pub powers : ℕ → ℕ → ℕ → List ℕ
 powers most zero level = []
 powers most (suc n) level = 2 ^ level ∷ (if nat_le most (2 ^ level) then [] else powers most n (suc level))
 
--- the powers of two from 1 to the first power that is at least the number of keys times 2 ^ bits
+-- the powers of two from 1 to the first that is at least the number of keys, or 1, times 2 ^ bits
 abbrev pub axis_in : ℕ → List (List ℕ) → List (List ℕ) → List ℕ
 axis_in bits warm trace = powers (max (keys warm trace) 1 * 2 ^ bits) 64 0
 

@@ -163,7 +163,7 @@ impl<
         self.get_with(key, |value| *value)
     }
 
-    /// Lends a closure the answer that `get` would return, and returns what the closure returns. The answers need not
+    /// Does what `get` does, but lends the answer to a closure, and returns the closure's result. The answers need not
     /// be `Copy`.
     ///
     /// ```
@@ -181,8 +181,8 @@ impl<
         read_stored::<K, V, Q, L, S, R, U>(&mut self.map, key, read)
     }
 
-    /// Stores an answer at a key as the newest, and returns true. If memory runs out or the limiter rejects the answer,
-    /// returns false, and no answer is stored at the key.
+    /// Stores an answer at a key as the newest, and returns true. If memory runs out, or a limit prevents this, returns
+    /// false, and no answer is stored at the key.
     ///
     /// ```
     /// squares.store(3, 9);

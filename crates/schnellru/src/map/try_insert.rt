@@ -11,8 +11,8 @@ use lru_limits::{Admission, KeyHasher};
 use std::hash::Hash;
 
 impl<K: Eq + Hash + Drop, V: Drop, L: Admission<K, V> + Copy, S: KeyHasher<K>> LruMap<K, V, L, S> {
-    /// Inserts a new key with its value, as the newest entry, if nothing has to be evicted. Otherwise returns the key
-    /// and the value.
+    /// Inserts a new key with its value, as the newest entry, without an eviction. If this fails, returns the key and
+    /// the value.
     ///
     /// If no growth is left, `try_insert` reserves growth instead of filling a deleted bucket. So if the limiter
     /// refuses a larger table, `try_insert` may return an entry that `insert` would store without an eviction.

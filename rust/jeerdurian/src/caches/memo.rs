@@ -77,7 +77,7 @@ impl<K: Eq + Hash, V, F: Fn(&K) -> V, L: Admission<K, V>, S: BuildHasher> Memo<K
 
     /// Returns what the function returns at a key: the stored result, or else the result of a call, which is stored.
     ///
-    /// If the memo runs out of memory or its limiter rejects the result, the result is returned without being stored.
+    /// If the memo runs out of memory, or a limit prevents storing the result, the result is returned anyway.
     ///
     /// Cost: a get, and if no result is stored, a call of the function and an insert.
     ///
@@ -190,7 +190,7 @@ where
 
     /// Returns the stored value of a key, or else the result of a call of the function. A value is stored then.
     ///
-    /// If the loader runs out of memory or its limiter rejects the value, the value is returned without being stored.
+    /// If the loader runs out of memory, or a limit prevents storing the value, the value is returned anyway.
     ///
     /// Cost: a get, and if no value is stored, a call of the function and an insert.
     ///
