@@ -43,6 +43,7 @@ mod erased;
 pub mod caches;
 #[cfg(any(feature = "lru", feature = "hashlink"))]
 mod doors;
+mod entry;
 mod fallible;
 mod hasher;
 #[cfg(feature = "hashlink")]
@@ -59,6 +60,7 @@ pub mod tenants;
 #[cfg(feature = "std")]
 pub mod trace;
 
+pub use entry::OccupiedEntry;
 pub use erased::lru_limits::{
     ByBytes, ByCost, ByLength, ByMemoryUsage, ByWeight, Costed, DefaultHasher, OwnedBytes, Unlimited, UnlimitedCompact,
 };

@@ -1,5 +1,6 @@
 //! The calls that `schnellru` lacks, as a trait: inherent methods would hide those of a trait of yours.
 
+use crate::entry::OccupiedEntry;
 use crate::fallible::Fallible;
 use crate::iter::{Keys, Values};
 use crate::keys::{Named, Offered};
@@ -47,6 +48,34 @@ where
     /// Makes the entry of a key the oldest, the next to be evicted. Returns whether the key is there. Proved: the other
     /// entries keep their order, and without this key nothing changes.
     fn demote(&mut self, key: &(impl Hash + PartialEq<K> + ?Sized)) -> bool;
+
+    /// Searches for a key once, and returns a handle that reads, writes, moves or removes its entry. The order of use
+    /// stays. Proved: it is this key's entry, and `None` exactly if there is none.
+    ///
+    /// ```
+    /// use jeerdurian::{ByLength, LruMap, More};
+    ///
+    /// let mut map = LruMap::new(ByLength::new(3));
+    /// map.insert("a".to_string(), 1);
+    /// if let Some(mut entry) = map.find_entry("a") {
+    ///     *entry.get_mut() += 1;
+    ///     if *entry.get() < 3 {
+    ///         entry.promote();
+    ///     } else {
+    ///         entry.remove();
+    ///     }
+    /// }
+    /// assert_eq!(map.peek("a"), Some(&2));
+    /// ```
+    fn find_entry(&mut self, key: &(impl Hash + PartialEq<K> + ?Sized)) -> Option<OccupiedEntry<'_, K, V, L, S>>;
+
+    /// Returns a handle on the entry with this hash that the closure accepts. Proved: as of [`LruMap::get_by_hash`], but
+    /// the entry is not promoted.
+    fn find_entry_by_hash(
+        &mut self,
+        hash: u64,
+        is_eq: impl FnMut(&K, &V) -> bool,
+    ) -> Option<OccupiedEntry<'_, K, V, L, S>>;
 
     /// Lends the newest value for writing. Proved: what is written is the value of the newest entry, and no other entry
     /// changes.
@@ -185,6 +214,19 @@ where
 
     fn demote(&mut self, key: &(impl Hash + PartialEq<K> + ?Sized)) -> bool {
         self.map.demote(&Named(key))
+    }
+
+    #[inline]
+    fn find_entry(&mut self, key: &(impl Hash + PartialEq<K> + ?Sized)) -> Option<OccupiedEntry<'_, K, V, L, S>> {
+        Some(OccupiedEntry { entry: self.map.find_entry(&Named(key))? })
+    }
+
+    fn find_entry_by_hash(
+        &mut self,
+        hash: u64,
+        is_eq: impl FnMut(&K, &V) -> bool,
+    ) -> Option<OccupiedEntry<'_, K, V, L, S>> {
+        Some(OccupiedEntry { entry: self.map.find_entry_by_hash(hash, is_eq)? })
     }
 
     fn newest_mut(&mut self) -> Option<&mut V> {

@@ -92,6 +92,7 @@ fn step_more(map: &mut LruMap<String, u64>, list: &mut List, kind: u64, k: &str,
         5 => assert_eq!(map.pop_oldest_if(|_, it| it % 2 == 0), list.pairs.pop_if(|it| it.1 % 2 == 0)),
         6 => assert_eq!(map.pop_newest(), (!list.pairs.is_empty()).then(|| list.pairs.remove(0))),
         7 => assert_eq!(map.newest_mut(), list.pairs.first_mut().map(|it| &mut it.1)),
+        8 => step_found(map, list, k, v),
         _ => {
             let old = map.set_limiter(ByLength::new(v as u32 % 40));
             assert_eq!((old.max_length() as usize, map.limiter().max_length()), (list.most, v as u32 % 40));
@@ -99,6 +100,31 @@ fn step_more(map: &mut LruMap<String, u64>, list: &mut List, kind: u64, k: &str,
             list.pairs.truncate(list.most);
         }
     }
+}
+
+/// What a handle on an entry does.
+fn step_found(map: &mut LruMap<String, u64>, list: &mut List, k: &str, v: u64) {
+    let hash = map.hasher().hash_one(k);
+    let found = if v % 2 == 0 { map.find_entry(k) } else { map.find_entry_by_hash(hash, |key, _| key == k) };
+    let Some(at) = list.at(k) else { return assert!(found.is_none()) };
+    let mut entry = found.unwrap();
+    assert_eq!((entry.key(), entry.get()), (&list.pairs[at].0, &list.pairs[at].1));
+    match v % 7 {
+        0 => return assert_eq!(entry.remove_entry(), list.pairs.remove(at)),
+        1 => return assert_eq!(entry.remove(), list.pairs.remove(at).1),
+        2 => *entry.get_mut() = v,
+        3 => {
+            entry.promote();
+            list.promote(k);
+        }
+        _ => {
+            entry.demote();
+            list.demote(k);
+        }
+    }
+    let at = list.at(k).unwrap();
+    list.pairs[at].1 = v + 1;
+    *entry.into_mut() = v + 1;
 }
 
 fn update(map: &mut LruMap<String, u64>, list: &mut List, k: &str, v: u64) {
@@ -139,8 +165,8 @@ fn other_calls_as_of_a_list() {
             let (k, kind) = (random.below(50).to_string(), random.below(100));
             match kind {
                 0..=40 => step(&mut map, &mut list, kind % 24, &k, v),
-                41..=98 => step_more(&mut map, &mut list, kind % 8, &k, v),
-                _ => step_more(&mut map, &mut list, 8, &k, v),
+                41..=98 => step_more(&mut map, &mut list, kind % 9, &k, v),
+                _ => step_more(&mut map, &mut list, 9, &k, v),
             }
             assert!(map.iter().eq(list.pairs.iter().map(|it| (&it.0, &it.1))));
         }

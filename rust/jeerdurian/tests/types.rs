@@ -1,8 +1,8 @@
 //! Signatures, auto traits, variance, layouts and constants, as those of schnellru.
 
 use jeerdurian::{
-    ByLength, ByMemoryUsage, Drain, IntoIter, Iter, IterMut, Keys, Limiter, LruMap, RandomState, Unlimited,
-    UnlimitedCompact, Values, caches, tenants,
+    ByLength, ByMemoryUsage, Drain, IntoIter, Iter, IterMut, Keys, Limiter, LruMap, OccupiedEntry, RandomState,
+    Unlimited, UnlimitedCompact, Values, caches, tenants,
 };
 use std::cell::{Cell, RefCell, UnsafeCell};
 use std::fmt::Debug;
@@ -86,7 +86,9 @@ macro_rules! lend_alike {
             Values<'static, u8, $type, ByLength>, Values<'static, $type, u8, ByLength>,
             caches::Entries<'static, $type, u8>, caches::Entries<'static, u8, $type>,
             caches::Keys<'static, $type, u8>, caches::Values<'static, u8, $type>);
-        same!(&'static mut Vec<$type>: IterMut<'static, $type, u8, ByLength>);
+        same!(&'static mut Vec<$type>: IterMut<'static, $type, u8, ByLength>,
+            OccupiedEntry<'static, $type, u8, ByLength, RandomState>,
+            OccupiedEntry<'static, u8, $type, ByLength, RandomState>);
         same!(Vec<$type>:
             IntoIter<$type, u8, ByLength, RandomState>, IntoIter<u8, $type, ByLength, RandomState>,
             caches::OrderedMap<u8, $type>, caches::IntoEntries<u8, $type, RandomState>,

@@ -1,5 +1,5 @@
 // Erased from crates/group_table/src/control.rt: do not edit.
-//! Control bytes: one for each bucket, and 16 more after the last bucket. So a group is read in one piece.
+//! Control bytes: one for each bucket, and 16 more. So a group that begins at any bucket is read in one piece.
 
 #[allow(unused_imports)]
 use crate::rattle_std::prelude::*;
@@ -37,8 +37,8 @@ impl Control {
     }
 
     // Returns whether there are no buckets. Without buckets, a search begins at bucket 0. With buckets, a search seldom
-    // begins there. So for most searches the first test is enough, and the search needs its value anyway. The sum in
-    // the second test keeps the compiler from joining the tests.
+    // begins there. So for most searches the first test is enough, and the search needs `hash & last` anyway. The sum
+    // in the second test keeps the compiler from joining the tests.
     #[inline]
     pub(crate) fn is_empty_at(&self, hash: u64) -> bool {
         hash as usize & self.last == 0 && self.bytes.len() + self.last == 0

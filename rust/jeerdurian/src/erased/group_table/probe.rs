@@ -56,8 +56,7 @@ fn search_group<T, F: FnMut(&T) -> bool>(
 }
 
 // Calls `f` with the entries that have the tag of the hash, group by group, until `f` accepts one, or a group has an
-// empty bucket. `inline(always)`, because a call would read its arguments before the search, even if the search
-// compares no entry.
+// empty bucket. It is inlined, because a call would read its arguments even if the search compares no entry.
 #[inline(always)]
 pub(crate) fn find_bucket<T, F: FnMut(&T) -> bool>(
     control: &Control,
@@ -65,7 +64,7 @@ pub(crate) fn find_bucket<T, F: FnMut(&T) -> bool>(
     hash: u64,
     mut f: F,
 ) -> Option<usize> {
-    // The first group is not part of the loop, because most searches end there, and then need no stride.
+    // The first group is not part of the loop, because most searches end there and need no stride.
     let tag = tag_of(hash);
     let mut probe = Probe::of(control, hash);
     match search_group(control, entries, probe.start, tag, &mut f) {

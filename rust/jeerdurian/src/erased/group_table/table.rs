@@ -23,9 +23,9 @@ mod relocation;
 /// A table sees no key and stores no hash. The caller passes the hash, and a search calls the caller's closure. An
 /// entry keeps its bucket until the entry is taken out, or all entries are moved. `docs/TABLE.md` explains the rules.
 ///
-/// Only `with_buckets`, `relocate`, `rehash` and `clone_with` allocate. `new`, `get`, `get_mut`, `take` and the
-/// figures, such as `len`, take O(1). `find`, `place` and `try_place` take O(1) if the hashes are spread, and at worst
-/// O(B) for B buckets. All other calls take O(B).
+/// Only `with_buckets`, `relocate`, `rehash` and `clone_with` allocate. `new`, `get`, `get_mut`, `take` and figures
+/// such as `len` take O(1). `find`, `place` and `try_place` take O(1) if the hashes are spread, and at worst O(B) for B
+/// buckets. All other calls take O(B).
 ///
 /// ```text
 /// let mut table = Table::with_buckets(alloc, 8)?;
@@ -33,8 +33,7 @@ mod relocation;
 /// assert_eq!(rt; table.find(7, |entry| *entry == "a"), Some(b));
 /// ```
 pub struct Table<T> {
-    // Not next to `len`, because the compiler would join the changes of both into one load and one store, which is
-    // slower.
+    // If this field were next to `len`, the compiler would join their changes into one slower load and store.
     growth_left: usize,
     control: Control,
     entries: Entries<T>,
@@ -44,8 +43,7 @@ pub struct Table<T> {
 }
 
 impl<T> Table<T> {
-    /// Makes a table without buckets, and allocates nothing. `try_place` returns every entry until `relocate` adds
-    /// buckets.
+    /// Makes a table without buckets, and allocates nothing. `try_place` fails until `relocate` adds buckets.
     pub const fn new(alloc: Global) -> Self {
         Table {
             control: Control::new(alloc),
@@ -85,7 +83,7 @@ impl<T> Table<T> {
     /// Returns the bucket of the first entry that `f` accepts.
     ///
     /// `f` is called with entries whose tag is the hash's top 7 bits, in the order of the search. Only tests show that
-    /// `f` is called at most once with each entry. Returns `None` if `f` rejected each entry with this hash.
+    /// `f` is called at most once with each entry. If the result is `None`, `f` rejected each entry with this hash.
     #[inline]
     pub fn find<F: FnMut(&T) -> bool>(&self, hash: u64, f: F) -> Option<usize> {
         if self.control.is_empty_at(hash) {
@@ -220,7 +218,7 @@ impl<T> Table<T> {
 impl<T> Table<T> {
     /// Drops all entries. Every bucket is empty afterwards. The number of buckets and the counts of insertions stay.
     ///
-    /// Does nothing if all growth is left, because then no bucket is full or deleted.
+    /// Does nothing if no bucket is full or deleted.
     pub fn clear(&mut self) {
         let most = full_capacity(self.control.buckets());
         if self.growth_left == most {
@@ -233,7 +231,7 @@ impl<T> Table<T> {
     }
 }
 
-// Returns whether there are no buckets. If growth is left, there are buckets, and the control bytes are not read.
+// Returns whether there are no buckets. If growth is left, there are buckets, and `control` is not read.
 #[inline]
 fn is_without_buckets(control: &Control, growth_left: usize) -> bool {
     growth_left == 0 && control.is_empty()

@@ -72,7 +72,7 @@ impl<F: Read + Write + Seek, const N: usize> FileDevice<F, N> {
         FileDevice { file: RecordedFile::new(file), count, is_usable: true }
     }
 
-    /// Makes a device of all blocks that the file has whole. Nothing is proved of their number.
+    /// Makes a device of all blocks that are whole in the file. Nothing is proved about their number.
     ///
     /// ```text
     /// assert_eq!(rt; FileDevice::<_, 4>::open(Cursor::new(*b"zeroone.two.thr"))?.len(), 3);
@@ -113,7 +113,7 @@ where {
 
     /// Returns the file.
     ///
-    /// Call `sync` first. If the device was in a page cache, `close` has called it.
+    /// Call `sync` first. If the device was in a page cache, `close` has called `sync`.
     ///
     /// ```text
     /// let bytes = device.into_file().into_inner();

@@ -81,13 +81,13 @@ impl<K: Eq + Hash, V: Copy, F: Fn(&K) -> V, L: Insertion<K, V, K>, S: KeyHasher<
     /// Returns a result of the function at a key or at an equal key. If no result is stored, calls the function and
     /// stores the result.
     ///
-    /// If memory runs out or the limiter rejects the result, it is returned but not stored.
+    /// If memory runs out, or a limit prevents storing the result, returns it anyway.
     ///
     /// ```text
     /// assert_eq!(rt; (squares.answer(3), squares.len()), (9, 1));
     /// ```
     ///
-    /// Cost: a get, and if no result is stored, a call of the function and an insert.
+    /// Cost: a get. If no result is stored, also a call of the function and an insert.
     pub fn answer(&mut self, key: K) -> V {
         self.answer_with(key, |value| *value)
     }
@@ -126,7 +126,7 @@ impl<K: Eq + Hash, V, F: Fn(&K) -> V, L: Insertion<K, V, K>, S: KeyHasher<K>> Me
     /// squares.clear();
     /// ```
     ///
-    /// Cost: `O(n)` for n results.
+    /// Cost: as `LruMap::clear`.
     pub fn clear(&mut self) {
         self.map.clear();
     }

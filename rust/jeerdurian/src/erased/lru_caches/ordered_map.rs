@@ -19,7 +19,7 @@ mod more;
 
 /// A hash map whose entries are in the order of insertion, oldest first.
 ///
-/// The map evicts nothing. An insert that cannot grow the table fails and changes nothing.
+/// The map evicts nothing. If memory runs out, an insert fails and changes nothing.
 ///
 /// A call follows indexmap's `IndexMap` call of the same name, unless its comment names another call. In the examples,
 /// `map` contains (1, 11) and then (2, 20).
@@ -247,7 +247,7 @@ impl<K: Eq + Hash, V, S: KeyHasher<K>> OrderedMap<K, V, S> {
     ///
     /// # Errors
     ///
-    /// Out of memory for a new key, or the link type cannot number the buckets of a larger table. Nothing has changed.
+    /// Out of memory for a new key, or there is no larger table. Nothing has changed.
     pub fn insert(&mut self, key: K, value: V) -> Result<Option<V>, AllocError> {
         distinct(&self.map);
         let Err((key, value)) = self.map.try_insert(key, value) else {

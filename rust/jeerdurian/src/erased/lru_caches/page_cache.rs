@@ -57,11 +57,11 @@ where
 
 /// A write-back cache of the blocks of a device.
 ///
-/// The cache keeps the pinned pages and the pages that were used last, at most `capacity` pages in all. A write makes
-/// the cached page dirty. The cache writes a dirty page to the device when it evicts or flushes the page.
+/// The cache contains at most `capacity` pages. If it is full, it evicts the oldest page that may be evicted. A write
+/// makes the cached page dirty. The cache writes a dirty page to the device when it evicts or flushes the page.
 ///
 /// After a `flush` that returned `Ok`, a crash leaves each block as the cache showed it then, unless a later call wrote
-/// the block. `docs/CACHES.md` says what this requires of a disk.
+/// the block. `docs/CACHES.md` names the premises.
 ///
 /// Call `close` or `discard` in the end. Code that drops or forgets a cache does not compile, because its dirty pages
 /// would be lost.
@@ -165,7 +165,8 @@ impl<B: Copy, D: BlockDevice<B>, S: KeyHasher<u64>> PageCache<B, D, S> {
         self.counts.hits
     }
 
-    /// Returns how many successful reads, writes and pins did not find their page cached (see `hits`).
+    /// Returns how many successful reads, writes and pins did not find their page cached. The count stops at
+    /// `u64::MAX`.
     ///
     /// Cost: `O(1)`.
     ///
@@ -199,7 +200,7 @@ impl<B: Copy, D: BlockDevice<B>, S: KeyHasher<u64>> PageCache<B, D, S> {
     ///
     /// # Errors
     ///
-    /// `Broken`. `Device`: a write or the `sync` failed, and the dirty pages stay dirty. After a failed `sync` the
+    /// `Broken`. `Device`: a write or the `sync` failed, and the dirty pages stay dirty. After a failed `sync`, the
     /// device is not usable.
     pub fn flush(&mut self) -> Result<(), PageError<D::Error>> {
         if !self.device.is_usable() {

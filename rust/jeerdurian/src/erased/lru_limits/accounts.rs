@@ -17,8 +17,8 @@ pub use by_cost::ByCost;
 pub use by_weight::ByWeight;
 pub use owned_bytes::OwnedBytes;
 
-/// A value with a cost. The cost of an unsigned number of up to 64 bits is the number. The cost of a text is the number
-/// of its bytes, and the cost of a vector is the number of its items.
+/// A value with a cost. An unsigned number of up to 64 bits costs itself. A text costs the number of its bytes, and a
+/// vector costs the number of its items.
 ///
 /// The limiter reads the cost again when the entry is evicted or removed, or when the value is replaced. So if the cost
 /// of a stored value changes, the running total is no longer the sum of the costs.
@@ -95,8 +95,8 @@ impl<T> Costed for Vec<T> {
 /// A limiter with a running total. It adds the cost of each accepted entry, and subtracts the cost of each evicted or
 /// removed entry.
 ///
-/// If no caller writes to a stored value, or writes or sets the limiter, the total after each call is the sum of the
-/// costs of the map's entries.
+/// The total after each call is the sum of the costs of the map's entries. This holds until a caller writes to a stored
+/// value, or writes or sets the limiter.
 ///
 /// ```text
 /// let limiter = ByCost::new(3);

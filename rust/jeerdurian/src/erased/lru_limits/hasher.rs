@@ -18,9 +18,8 @@ const REST_FACTOR: u64 = 0xa54f_f53a_5f1d_36f1;
 
 /// Builds hashers with four seeds. A contract sees a `RandomState` as the hasher before the first write.
 ///
-/// So `state.hash_one(&key)` is the hash of the key in a map with an equal state. Every value that names the key has
-/// the same hash. The default seeds are 1, 2, 3, 4: they are not random, and nothing is claimed about keys chosen to
-/// collide.
+/// `state.hash_one(&key)` is the hash of the key in a map with an equal `RandomState`. Every value that names the key
+/// has the same hash. The default seeds are 1, 2, 3, 4, so strangers can choose keys that collide.
 ///
 /// ```text
 /// let state = RandomState::with_seeds([5, 6, 7, 8]);

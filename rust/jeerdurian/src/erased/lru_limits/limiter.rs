@@ -21,15 +21,15 @@ use crate::rattle_std::hash::Hash;
 /// assert!(rt; Limiter::<u64, u64>::is_over_the_limit(&limiter, 4));
 /// ```
 pub trait Limiter<K, V> {
-    /// The type of the links of the map, which limits the number of its entries.
+    /// The type of the map's links. It limits the number of entries.
     type LinkType: LinkType;
 
     /// Returns whether a map of `length` entries is over the limit. If so, the map evicts its oldest entry.
     ///
     /// Called in two cases:
     ///
-    /// - Before an insert stores a new entry in a map that is not empty, with the length after the insert. `try_insert`
-    ///   calls it on a copy of the limiter, even if the map is empty.
+    /// - Before an insert stores a new entry in a map that is not empty, with the map's length plus 1. `try_insert`
+    ///   calls it on a copy of the limiter, even if the map is empty, and then evicts nothing.
     /// - In `trim` and `set_limiter`, and after an insert or an update stored an entry or replaced a value, with the
     ///   length of the map. Called again after each eviction, but not for an empty map.
     fn is_over_the_limit(&self, length: usize) -> bool;

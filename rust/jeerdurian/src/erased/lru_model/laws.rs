@@ -43,10 +43,11 @@ pub fn inserts_pass_few<K: Eq + Hash, V, I: LookupKey<K>, L: Insertion<K, V, I>,
 pub fn small_inserts_are_exact<K: Eq + Hash, V, I: LookupKey<K>, L: Insertion<K, V, I>, S: KeyHasher<K>>() {}
 
 /// An insert changes the entries as the report of the table says (`exact`). The report says for how many bytes the
-/// limiter was queried, if it was, and how many entries were evicted because growth was refused. Every insert has a
-/// report (`given`). Suppose that two inserts have equal arguments and reports, and equal entries and limiters before
-/// them. If both return `Ok`, they return the same, and leave the same entries and limiter (`alike`). The limiter and
-/// the arguments must determine what `on_insert` does (`IsDetermined`).
+/// limiter was queried, if it was. It also says how many entries were evicted because growth was refused, and whether
+/// there is a bucket for the entry. Every insert has a report (`given`). Suppose that two inserts have equal arguments
+/// and reports, and equal entries and limiters before them. If both return `Ok`, they return the same, and leave the
+/// same entries and limiter (`alike`). The limiter and the arguments must determine what `on_insert` does
+/// (`IsDetermined`).
 pub fn inserts_are_exact_unless_refused<K: Eq + Hash, V, I: LookupKey<K>, L: Insertion<K, V, I>, S: KeyHasher<K>>() {}
 
 /// An insert changes the entries as it would change a plain list without a table (`InsertsInList`), under two premises.
@@ -67,7 +68,7 @@ pub fn deleted_buckets_serve<K: Eq + Hash, V, I: LookupKey<K>, L: Insertion<K, V
 
 /// An insert pays for the entries that it moves. The count of moved entries, plus the potential, rises by at most 2 for
 /// the entry that the insert stores (`rise`). So inserts moved at most two entries for each stored entry, plus one for
-/// each entry that a shrink rehashed (`paid`).
+/// each entry that a shrink rehashed (`paid`). The table counts every insertion into it (`counted`).
 pub fn inserts_pay_for_moves<K: Eq + Hash, V, I: LookupKey<K>, L: Insertion<K, V, I>, S: KeyHasher<K>>() {}
 
 /// Suppose that growth is refused (`IsRefusedGrowth`). After the insertion, the map has at least half as many entries

@@ -20,8 +20,8 @@ use totals::is_above;
 
 /// A cache for many tenants. Each tenant has a name, and a map limited by its own budget.
 ///
-/// The limiter `L` says what an entry costs. `S` hashes names and keys. The budgets of all tenants add up to at most
-/// the total limit, if `set_total_limit` set one.
+/// The limiter `L` says what an entry costs. `S` hashes names and keys. If `set_total_limit` set a total limit, the
+/// budgets of all tenants add up to at most this limit.
 ///
 /// In the examples of the calls, `cache` has one tenant, 1, with a budget of 3 and the entry (7, 2).
 ///
@@ -139,9 +139,9 @@ impl<N: Eq + Hash, K: Eq + Hash, V, L: Budgeted<K, V>, S: KeyHasher<K> + Copy> T
 
     /// Inserts a key with a value, as the newest entry of the tenant. Returns whether the key is there afterwards.
     ///
-    /// The limiter rejects an entry if its cost alone is above the budget, or if the tenant's total would be above
-    /// `u64::MAX`. A rejection removes the key's old entry. If the limiter accepts the entry, the tenant's oldest
-    /// entries are evicted until the total is within the budget.
+    /// `ByCost` and `ByWeight` reject the entry if its cost alone is above the budget, or if the tenant's total would
+    /// be above `u64::MAX`. A rejection removes the key's old entry. If the limiter accepts the entry, the tenant's
+    /// oldest entries are evicted until its total is within the budget.
     ///
     /// ```text
     /// assert_eq!(rt; cache.put(&1, 8, 1), Ok(true));
@@ -152,7 +152,7 @@ impl<N: Eq + Hash, K: Eq + Hash, V, L: Budgeted<K, V>, S: KeyHasher<K> + Copy> T
     ///
     /// # Errors
     ///
-    /// `NotOpen`, or `Memory`: some of the tenant's oldest entries may have been evicted.
+    /// `NotOpen` or `Memory`. After `Memory`, some of the tenant's oldest entries may have been evicted.
     pub fn put<T: LookupKey<N>>(&mut self, name: &T, key: K, value: V) -> Result<bool, TenantError> {
         self.put_with(name, key, value, &mut |_, _| {})
     }

@@ -18,13 +18,13 @@ mod reading;
 use evict::settle;
 use part::{Part, cost_of, opened};
 
-/// A cache for many tenants. Each tenant has its own share of one limit; the rest is for whoever needs it.
+/// A cache for many tenants. Each tenant has its own share of one limit, and any tenant may use the rest.
 ///
 /// All costs add up to at most the limit. While a tenant's cost is within its share, no call of another tenant changes
 /// the tenant. `put` says which entries it evicts.
 ///
-/// In the examples of the calls, `pool` has a limit of 5 and two tenants: 1 with a share of 3 and the entry (7, 2), and
-/// 2 with a share of 1 and no entry.
+/// In the examples of the calls, `pool` has a limit of 5 and two tenants. Tenant 1 has a share of 3 and the entry
+/// (7, 2). Tenant 2 has a share of 1 and no entry.
 ///
 /// ```text
 /// let mut pool: TenantPool<u64, u64, u64> = TenantPool::new(alloc, [1, 2, 3, 4], 32, 5);
@@ -88,7 +88,7 @@ impl<N: Eq + Hash, K: Eq + Hash, V, L: Budgeted<K, V>, S: KeyHasher<K> + Copy> T
     ///
     /// # Errors
     ///
-    /// `AlreadyOpen`, `Memory`, or `OverTotal` if all shares would add up to more than the limit: nothing has changed.
+    /// `AlreadyOpen`, `OverTotal` or `Memory`: nothing has changed.
     pub fn open(&mut self, name: N, share: u64) -> Result<(), TenantError> {
         if self.tenants.contains(&name) {
             return Err(TenantError::AlreadyOpen);
@@ -108,8 +108,8 @@ impl<N: Eq + Hash, K: Eq + Hash, V, L: Budgeted<K, V>, S: KeyHasher<K> + Copy> T
     /// Inserts a key with a value, as the newest entry of the tenant. Returns whether the key is there afterwards.
     ///
     /// First does what `TenantCache::put` does with the limit as the budget. Then, while the total is above the limit,
-    /// the tenant furthest above its share loses its oldest entry, which may be the new entry. If several tenants are
-    /// furthest above, any of them may lose an entry.
+    /// the oldest entry of the tenant furthest above its share is evicted. It may be the new entry. If several tenants
+    /// are furthest above, any of them may lose an entry.
     ///
     /// ```text
     /// assert_eq!(rt; (pool.put(&2, 8, 3), pool.put(&1, 9, 1)), (Ok(true), Ok(true)));
@@ -121,7 +121,7 @@ impl<N: Eq + Hash, K: Eq + Hash, V, L: Budgeted<K, V>, S: KeyHasher<K> + Copy> T
     ///
     /// # Errors
     ///
-    /// The errors of `TenantCache::put`. No other tenant has changed.
+    /// As `TenantCache::put`. No other tenant has changed.
     pub fn put<T: LookupKey<N>>(&mut self, name: &T, key: K, value: V) -> Result<bool, TenantError> {
         let Some(own) = self.tenants.peek_mut(name) else {
             return Err(TenantError::NotOpen);
@@ -140,7 +140,7 @@ impl<N: Eq + Hash, K: Eq + Hash, V, L: Budgeted<K, V>, S: KeyHasher<K> + Copy> T
         Ok(kept & is_left)
     }
 
-    /// Closes a tenant, drops its entries and frees its share. Returns the number of the entries.
+    /// Closes a tenant, drops its entries and frees its share. Returns how many entries there were.
     ///
     /// ```text
     /// assert_eq!(rt; (pool.len(), pool.close(&1), pool.len()), (2, Ok(1), 1));

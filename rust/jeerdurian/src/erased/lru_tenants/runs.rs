@@ -15,8 +15,8 @@ use crate::rattle_std::hash::Hash;
 
 /// Carries out the calls in order, and returns one answer for each.
 ///
-/// The answers to a tenant's calls depend only on these calls, except that memory may run out, and that `open` may
-/// return `OverTotal` if the cache has a total limit.
+/// The answers to a tenant's calls depend only on these calls, with two exceptions. Memory may run out. If the cache
+/// has a total limit, `open` may return `OverTotal`.
 ///
 /// ```text
 /// let mut cache: TenantCache<u64, u64, u64> = TenantCache::new(alloc, [1, 2, 3, 4], 32);

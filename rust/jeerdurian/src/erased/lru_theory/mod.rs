@@ -19,13 +19,13 @@ pub fn more_places_never_miss_more<K: Eq>() {}
 ///
 /// - If the policy stores each referenced key, and may load keys ahead, LRU misses at most
 ///   `k / (k + 1 - h) * paid + length first` times (`loads`).
-/// - The same bound holds for a demand policy, which pays only for its misses (`demands`).
-/// - If the policy need not store referenced keys, LRU misses at most `k / (k - h) * paid + length first` times
-///   (`bypasses`).
+/// - The same bound holds for a demand policy that begins with at most h keys (`demands`).
+/// - If the policy need not store referenced keys, and k > h, LRU misses at most `k / (k - h) * paid + length first`
+///   times (`bypasses`).
 pub fn lru_is_competitive<K: Eq>() {}
 
-/// Loading keys ahead gains nothing. If a policy with h places loads keys ahead and pays `paid` times, some demand
-/// policy misses at most `paid` times. The demand policy has h places, too, and begins with the same keys.
+/// Loading keys ahead gains nothing. Suppose that a policy with h places begins with at most h keys, loads keys ahead,
+/// and pays `paid` times. Then some demand policy with h places and the same first keys misses at most `paid` times.
 pub fn loading_ahead_gains_nothing<K: Eq>() {}
 
 /// A cache of n places is *included* in a cache of m places if its keys are keys of the larger cache, in the same
@@ -41,12 +41,12 @@ pub fn a_larger_budget_never_misses_more<K: Eq>() {}
 
 /// A policy that stores each referenced key pays at least as often as MIN misses, whether it loads keys ahead (`loads`)
 /// or only on demand (`demands`). A policy that need not store referenced keys pays at least as often as MIN with
-/// bypass misses (`bypasses`). All these policies have n places, and begin with no keys. MIN is itself a policy of the
-/// first kind, if it has a place (`min`). MIN with bypass is a policy of the second kind (`bypass`).
+/// bypass misses (`bypasses`). All these policies have n places, and begin with no keys. If MIN has a place, it is
+/// itself a policy of the first kind (`min`). MIN with bypass is a policy of the second kind (`bypass`).
 pub fn min_is_best<K: Eq>() {}
 
-/// LRU is near MIN. MIN begins with no keys. LRU has k ≥ h places, and begins with any keys. LRU misses at most
-/// `k / (k + 1 - h)` times as often as MIN with h places (`min`), and at most `k / (k - h)` times as often as MIN with
-/// bypass and h places (`bypass`). If LRU begins with no keys, and has n places, like MIN, it misses at least as often
-/// (`least`).
+/// LRU is near MIN. MIN has h ≥ 1 places, and begins with no keys. LRU has k ≥ h places, and begins with any keys. LRU
+/// misses at most `k / (k + 1 - h)` times as often as MIN (`min`). If k > h, LRU misses at most `k / (k - h)` times as
+/// often as MIN with bypass (`bypass`). If LRU begins with no keys, and has as many places as MIN, it misses at least
+/// as often (`least`).
 pub fn lru_is_near_min<K: Eq>() {}

@@ -34,10 +34,10 @@ impl Best {
 
     /// Returns how often MIN with `places` places misses, if it begins with no keys. MIN stores each referenced key. If
     /// it then has too many keys, it evicts the other key whose next reference comes last. No policy that stores each
-    /// key misses less often.
+    /// referenced key misses less often.
     ///
-    /// Cost: `O(log n)` for each reference and n places. The memory is in proportion to the smaller of n and the number
-    /// of keys.
+    /// Cost: for n places, `O(log n)` for each reference. The memory is in proportion to the smaller of n and the
+    /// number of keys.
     ///
     /// # Errors
     ///
@@ -94,7 +94,7 @@ fn add(times: &mut BTreeSet<usize>, time: usize, end: usize) -> Result<(), Alloc
     }
 }
 
-/// Returns a number above all of these numbers. Fails if a number is `usize::MAX`.
+/// Returns a number above all of these numbers. If one is `usize::MAX`, fails.
 fn bound_of(numbers: &[usize]) -> Result<usize, AllocError> {
     let mut bound = 0;
     for number in numbers {

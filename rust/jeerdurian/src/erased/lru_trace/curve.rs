@@ -41,7 +41,7 @@ impl Curve {
         Curve::make(alloc, None)
     }
 
-    /// Makes a curve that also keeps the references, with 8 bytes for each. From these, the `Best` that `best` returns
+    /// Makes a curve that also keeps the references, with 8 bytes for each. From these, `best` makes a `Best`, which
     /// counts how often the best possible policies miss.
     ///
     /// ```text
@@ -165,8 +165,8 @@ impl Curve {
         }
     }
 
-    /// Returns the times of the next references, which the best possible policies know. Returns `None` if the curve
-    /// does not keep the references.
+    /// Returns the times of the next references, which the best possible policies know. If the curve does not keep the
+    /// references, returns `None`.
     ///
     /// Cost: in proportion to the number of references.
     ///

@@ -23,12 +23,12 @@ pub enum Ending {
     Nothing,
 }
 
-/// How many lines make no reference, and why.
+/// How many lines are malformed or skipped.
 #[derive(Clone, Copy, Debug, PartialEq, Eq)]
 pub struct Others {
     /// How many lines spell no key.
     pub malformed: u64,
-    /// How many lines behind the warm-up spell a key that is not in the sample.
+    /// How many lines after the warm-up spell a key that is not in the sample.
     pub skipped: u64,
 }
 
@@ -78,8 +78,8 @@ fn refer_key(curve: &mut Curve, warm: bool, key: &str) -> Result<(), AllocError>
     curve.refer(key)
 }
 
-/// References the key that the line spells, if the key is in the sample. Counts the reference if `warm` is false.
-/// Returns what the line adds to `Others`.
+/// If the line spells a key in the sample, references the key. If `warm` is false, counts the reference. Returns what
+/// the line adds to `Others`.
 fn refer_line(curve: &mut Curve, options: Options, warm: bool, line: &[u8]) -> Result<Others, AllocError> {
     let Some(key) = key_of(text_in(line, options.column)) else {
         return Ok(Others { malformed: 1, skipped: 0 });
@@ -91,9 +91,9 @@ fn refer_line(curve: &mut Curve, options: Options, warm: bool, line: &[u8]) -> R
     Ok(Others { malformed: 0, skipped: 0 })
 }
 
-/// References the key of each remaining line, if the key is in the sample. Returns how many lines make no reference. A
-/// key is text of 1 to 64 bytes: the line, or a column of it. The first keys may be a warm-up, whose references are not
-/// counted. Writes the number of lines to `progress` after each million.
+/// References the key of each remaining line, if the key is in the sample. Returns how many lines are malformed or
+/// skipped. A key is text of 1 to 64 bytes: the line, or a column of it. The first keys may be a warm-up, whose
+/// references are not counted. After each million lines, writes the number of lines to `progress`.
 ///
 /// # Errors
 ///

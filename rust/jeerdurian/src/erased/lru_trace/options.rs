@@ -29,14 +29,14 @@ pub enum Policies {
     Best,
 }
 
-/// What a trace reads and writes.
+/// What `trace` reads and writes.
 #[derive(Clone, Copy, Debug, PartialEq, Eq)]
 pub struct Options {
     /// The column that is the key. Without a column the whole line is the key.
     pub column: Option<Column>,
     pub form: Form,
     pub policies: Policies,
-    /// A key is referenced only if its hash ends with this many zero bits. A number above 20 means 20.
+    /// A key is referenced only if the lowest `sample` bits of its hash are zero. A number above 20 means 20.
     pub sample: u32,
 }
 

@@ -37,8 +37,8 @@ impl From<AllocError> for TraceError {
     }
 }
 
-/// Returns the exit status: 0 if the report was written, 1 if the first line names no sizes, 2 if a read or a write
-/// failed, and 3 if the program ran out of memory.
+/// Returns the exit status: 0 if the report was written, 1 if the first line names no sizes, 2 if reading or writing
+/// failed, and 3 if memory ran out.
 pub fn status(end: &Result<TraceEnd, TraceError>) -> u8 {
     match end {
         Ok(TraceEnd::Done) => 0,

@@ -22,7 +22,7 @@ pub struct BestMisses {
     pub bypass: usize,
 }
 
-/// How many references a trace is expected to have, and how many miss in a cache of this size.
+/// How many references the sample is expected to have, and how many miss in a cache of this size.
 #[derive(Clone, Copy)]
 pub struct Row {
     pub size: usize,

@@ -52,7 +52,8 @@ fn read_trace<R: BufRead, P: Write>(
 /// what is written. `docs/TRACE.md` shows examples.
 ///
 /// The first line names sizes. A later line spells a key if the line, or a column of it, is text of 1 to 64 bytes.
-/// Otherwise the line counts as malformed. A line behind the warm-up counts as skipped if its key is not in the sample.
+/// Otherwise the line counts as malformed. If the key of a line after the warm-up is not in the sample, the line counts
+/// as skipped.
 /// `Policies::Best` also writes the misses of the best possible policies: in the text form for each named size, and in
 /// the other forms also for each power of two.
 ///

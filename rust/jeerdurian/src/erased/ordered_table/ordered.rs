@@ -41,8 +41,8 @@ pub struct Pair<K, V> {
 /// ```
 pub struct OrderedTable<K, V, N: LinkType> {
     linked: LinkedTable<K, V, N>,
-    // The bucket of the last promotion, if this promotion is not yet written into the links. The next call that changes
-    // the order writes it.
+    // The bucket of the pending promotion: a promotion that is not yet written into the links. The next call that
+    // changes the order writes it.
     promoted: Option<usize>,
 }
 
@@ -87,13 +87,13 @@ impl<K, V, N: LinkType> OrderedTable<K, V, N> {
         self.linked.pair(b)
     }
 
-    /// Returns the bucket of the newest pair of a table that is not empty.
+    /// Returns the bucket of the newest pair. The table must not be empty.
     #[inline]
     pub fn newest(&self) -> usize {
         promoted::newest(&self.linked, self.promoted)
     }
 
-    /// Returns the bucket of the oldest pair of a table that is not empty.
+    /// Returns the bucket of the oldest pair. The table must not be empty.
     #[inline]
     pub fn oldest(&self) -> usize {
         promoted::oldest(&self.linked, self.promoted)
@@ -113,7 +113,7 @@ impl<K, V, N: LinkType> OrderedTable<K, V, N> {
         promoted::newer_unless_first(&self.linked, self.promoted, b)
     }
 
-    /// Lends the pair in a full bucket for writing. The keys still fit the table if the written key has the same hash.
+    /// Lends the pair in a full bucket for writing. If the written key has the same hash, the keys still fit the table.
     #[inline]
     pub fn pair_mut(&mut self, b: usize) -> &mut Pair<K, V> {
         self.linked.pair_mut(b)

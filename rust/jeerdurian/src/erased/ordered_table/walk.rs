@@ -10,7 +10,7 @@ use crate::rattle_std::iter::FusedIterator;
 
 pub(crate) mod keys;
 
-/// An iterator over the pairs of a table or a map, newest first, from both ends.
+/// A double-ended iterator over the pairs of a table or a map, newest first.
 ///
 /// ```text
 /// let mut walk = map.iter();

@@ -3,7 +3,7 @@
 //!
 //! [`LruMap`] is the map, and [`ByLength`] is one of its limiters. `docs/LIMITERS.md` shows how to write a limiter and
 //! a look-up key. `docs/CALLING.md` shows how to prove code that calls the map. `docs/DIFFERENCES.md` lists what
-//! differs from the Rust crate. The contract of each function of [`laws`] is a theorem about calls.
+//! differs from the crate `schnellru` for Rust. The contract of each function of [`laws`] is a theorem about calls.
 
 #[allow(unused_imports)]
 use crate::rattle_std::prelude::*;
@@ -18,6 +18,7 @@ pub use crate::erased::lru_limits::{
 pub use crate::erased::lru_model::{GetOrInsertError, Inserted, MoveReport, ReserveError, Updated, laws};
 pub use crate::erased::ordered_table::{Keys, Values, Walk};
 pub use map::LruMap;
+pub use map::entry::OccupiedEntry;
 pub use walk::Iter;
 pub use walk::drain::Drain;
 pub use walk::into_iter::IntoIter;

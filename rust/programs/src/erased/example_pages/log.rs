@@ -28,7 +28,7 @@ impl<'a> Log<'a> {
         self.next.saturating_add(pages as u64) <= self.device.len()
     }
 
-    /// Begins at the front again. Each old page stays until a new page is written over it.
+    /// Begins at the front again. Each old page stays until it is overwritten.
     pub fn restart(&mut self) {
         self.next = 0;
     }

@@ -2,8 +2,8 @@
 //! A store of records. A transaction survives a crash whole or not at all.
 //!
 //! A transaction writes its pages to the log, syncs the log, and then writes the pages into the page cache. So the file
-//! of pages never contains a page of a transaction that may still be lost, and the log contains each page that a crash
-//! may tear.
+//! of pages never contains a page of a transaction that may still be lost. The log contains each page that a crash may
+//! tear.
 #[allow(unused_imports)]
 use crate::rattle_std::prelude::*;
 
@@ -124,7 +124,7 @@ impl<'a> Store<'a> {
         Ok(record_at(&page, slot))
     }
 
-    /// Replaces these records. After an error, no record is replaced, or the store is interrupted.
+    /// Replaces these records. After an error, either no record is replaced, or the store is interrupted.
     pub fn commit(&mut self, alloc: Global, changes: &[(u64, Record)]) -> Result<(), StoreError> {
         self.admit()?;
         let mut pages: Vec<Page> = Vec::new(alloc);
@@ -176,8 +176,8 @@ impl<'a> Store<'a> {
         pages.push(page).map_err(|_| StoreError::Memory)
     }
 
-    /// Makes the store whole after a crash. Then the store has each transaction whose `commit` returned `Ok`, and it
-    /// may have the interrupted transaction.
+    /// Makes the store whole after a crash. Then the store has each transaction whose `commit` returned `Ok`, and may
+    /// have the interrupted transaction.
     pub fn recover(&mut self) -> Result<Recovered, StoreError> {
         let mut recovered = Recovered::default();
         let mut next = 0u64;

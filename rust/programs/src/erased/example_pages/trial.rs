@@ -19,7 +19,7 @@ fn id_of(n: u64) -> u64 {
     (n / 3).wrapping_mul(RECORDS).wrapping_add((n % 3).wrapping_mul(31))
 }
 
-/// More calls than the work between two crashes makes.
+/// The work between two crashes makes fewer calls.
 const CALLS: u64 = 150;
 
 type Files<'a> = (Disk<'a>, Disk<'a>);
@@ -32,7 +32,7 @@ pub struct Counts {
     pub kept: u64,
     pub dropped: u64,
     pub torn: u64,
-    /// Crashes after which a committed record was gone, or a part of a transaction was there.
+    /// Crashes after which the recovery failed, a committed record was gone, or a part of a transaction was there.
     pub lost: u64,
 }
 

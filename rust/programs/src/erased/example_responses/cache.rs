@@ -94,7 +94,7 @@ impl ResponseCache {
         Ok(())
     }
 
-    /// Opens a host, or sets its budget. Returns words that say which, and how many entries were evicted.
+    /// Opens a host, or sets its budget. Returns `host opened` or `budget set`, and how many entries were evicted.
     pub fn set_host(&mut self, host: &str, budget: u64) -> Result<(&'static str, u64), TenantError> {
         let (before, _) = self.size(host);
         if self.entries.set_budget(&host, budget).is_err() {
@@ -107,8 +107,7 @@ impl ResponseCache {
         Ok(("budget set", evicted))
     }
 
-    /// Stores a response. Returns a word that says whether the response was stored, and how many old entries were
-    /// removed.
+    /// Stores a response. Returns `stored` or `rejected`, and how many old entries were removed.
     pub fn put(&mut self, host: &str, path: &str, response: Response) -> Result<(&'static str, u64), TenantError> {
         let path = owned(self.alloc, path)?;
         let mut evicted = 0u64;
@@ -143,7 +142,7 @@ impl ResponseCache {
     }
 }
 
-/// Shows that a look-up of a path that was just purged returns no response.
+/// Shows that a look-up of a just purged path returns no response.
 fn look_up_purged(
     cache: &mut ResponseCache,
     host: &str,

@@ -14,7 +14,7 @@ const METRICS: [(&str, &str); 5] = [
     ("responses_cost", "gauge"),
 ];
 
-/// The values of a host, in the order of the metrics.
+/// Returns the values of a host, in the order of the metrics.
 fn values_of(cache: &ResponseCache, host: &str, counts: &Counts) -> [u64; 5] {
     let (entries, cost) = cache.size(host);
     [counts.hits, counts.misses, counts.evictions, entries as u64, cost]

@@ -97,9 +97,9 @@ pub(super) fn exchange(keys: &mut [Option<u64>], b: usize, key: Option<u64>) -> 
     }
 }
 
-/// The keys of the old buckets move in order, each into the first free bucket. In a rehash, a key that is still in its
-/// bucket stays if a search for it visits this bucket among the first 16. A bucket whose key has not moved yet counts
-/// as free, and this key moves next.
+/// Moves the keys of `old` in order, each into the first free bucket. In a rehash, a key stays if its bucket is among
+/// the first 16 that a search for it visits. A bucket whose key has not moved yet counts as free, and this key moves
+/// next.
 pub(super) fn keys_after(
     alloc: Global,
     old: &[Option<u64>],

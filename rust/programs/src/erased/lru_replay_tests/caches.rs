@@ -35,7 +35,7 @@ fn read<D: BlockDevice<u8>>(cache: &mut PageCache<u8, D>, n: u64) -> Result<u8, 
     Ok(block)
 }
 
-/// Reads a block through two page caches without pins. The smaller cache stays included in the larger cache.
+/// Reads a block through two page caches as in `read`. The smaller cache stays included in the larger cache.
 fn read_both<D: BlockDevice<u8>>(
     small: &mut PageCache<u8, D>,
     large: &mut PageCache<u8, D>,

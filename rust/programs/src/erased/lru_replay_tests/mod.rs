@@ -1,5 +1,5 @@
 // Erased from crates/lru_replay_tests/src/lib.rt: do not edit.
-//! Tests of what no contract of `lru_replay` says: runs that run out of memory, and the printed texts.
+//! Callers of the laws of `lru_replay`, and tests of what none of its contracts says.
 
 #[allow(unused_imports)]
 use crate::rattle_std::prelude::*;

@@ -42,7 +42,7 @@ pub fn read_through<F: Fn(&String) -> u64>(
 
 /// Computes the values of the texts with two new maps. The larger map computes no more values. If the smaller map has
 /// `length` places and computes n values, each policy with h ≤ `length` places pays at least (length + 1 - h) / length
-/// * n times, even if it knows the texts in advance and loads them ahead.
+/// * n times. The policy begins empty, stores each text, and may load texts ahead.
 fn compare<F: Fn(&String) -> u64>(
     alloc: Global,
     texts: &[String],

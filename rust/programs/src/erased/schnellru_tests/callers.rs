@@ -35,8 +35,7 @@ fn touch(map: &mut LruMap<u64, u64>, key: u64) -> bool {
     map.promote(&key)
 }
 
-/// Writes a value under a key, if the key is there, and returns whether the key is there. If so, a look-up returns the
-/// value.
+/// If the key is there, writes a value under it. Returns whether the key is there. If so, a look-up returns the value.
 fn overwrite(map: &mut LruMap<u64, u64>, key: u64, value: u64) -> bool {
     match map.get(&key) {
         Some(place) => {
@@ -97,13 +96,13 @@ fn keep_all(alloc: Global, texts: &[String]) -> Result<LruMap<String, u64>, Allo
     Ok(map)
 }
 
-/// Puts an entry into a map that is within its length, and leaves it within its length.
+/// Puts an entry into a map. If the map was within its maximum length, it still is.
 fn put_within(map: &mut LruMap<String, u64>, key: String, value: u64) -> Result<bool, AllocError> {
     laws::calls_keep_the_length::<String, u64, ByLength, RandomState>();
     map.insert(key, value)
 }
 
-/// Does what `put_within` does, under two limits: of the length, and of the bytes of the table.
+/// Does what `put_within` does, under limits of the length and of the table's bytes.
 fn put_within_both(
     map: &mut LruMap<String, u64, Both<ByLength, ByMemoryUsage>>,
     key: String,

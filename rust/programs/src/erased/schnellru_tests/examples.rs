@@ -36,19 +36,72 @@ fn map_2(map: &mut LruMap<u64, u64>) -> Result<bool, AllocError> {
     let held = fill(map);
     let mut copy = map.try_clone()?;
     let held = held & all!(copy.remove(&1) == Some(10), (copy.len(), map.len()) == (2, 3), fill(map));
-    map.try_extend([(4, 40), (5, 50)])?;
-    let held = held & all!(is_pair(map.peek_newest(), 5, 50), fill(map));
-    map.set_limiter(ByLength::new(1));
-    Ok(held & all!(map.limiter().max_length() == 1))
+    if let Some(mut entry) = map.find_entry(&1) {
+        *entry.get_mut() = 100;
+        entry.promote();
+    }
+    let held = held & all!(is_pair(map.peek_newest(), 1, 100), fill(map));
+    if let Some(entry) = map.find_entry(&1) {
+        if *entry.get() == 10 {
+            entry.remove_entry();
+        }
+    }
+    Ok(held & all!(!map.contains(&1) && map.find_entry(&9).is_none()))
 }
 
-fn map_3<S: KeyHasher<u64>>(map: &mut LruMap<u64, u64, ByLength, S>) -> Result<bool, AllocError> {
+fn map_3(map: &mut LruMap<u64, u64>) -> bool {
+    let held = fill(map);
+    let hash = RandomState::default().hash_by(&1u64);
+    if let Some(mut entry) = map.find_entry_by_hash(hash, |key, _| *key == 1) {
+        entry.promote();
+    }
+    let held = held
+        & all!(
+            is_pair(map.peek_newest(), 1, 10),
+            fill(map),
+            map.find_entry(&1).is_some_and(|entry| *entry.key() == 1),
+            fill(map),
+            map.find_entry(&1).is_some_and(|entry| *entry.get() == 10),
+            fill(map)
+        );
+    if let Some(mut entry) = map.find_entry(&1) {
+        *entry.get_mut() = 100;
+    }
+    held & all!(is_pair(map.peek_oldest(), 1, 100))
+}
+
+fn map_4(map: &mut LruMap<u64, u64>) -> Result<bool, AllocError> {
+    let held = fill(map);
+    if let Some(entry) = map.find_entry(&1) {
+        let value = entry.into_mut();
+        *value = 100;
+    }
+    let held = held & all!(is_pair(map.peek_oldest(), 1, 100), fill(map));
+    if let Some(mut entry) = map.find_entry(&1) {
+        entry.promote();
+    }
+    let held = held & all!(is_pair(map.peek_newest(), 1, 10), fill(map));
+    if let Some(mut entry) = map.find_entry(&3) {
+        entry.demote();
+    }
+    let held = held & all!(is_pair(map.peek_oldest(), 3, 30), fill(map));
+    map.try_extend([(4, 40), (5, 50)])?;
+    Ok(held & all!(is_pair(map.peek_newest(), 5, 50)))
+}
+
+fn map_5(map: &mut LruMap<u64, u64>) -> bool {
+    let held = fill(map);
+    map.set_limiter(ByLength::new(1));
+    held & all!(map.limiter().max_length() == 1)
+}
+
+fn map_6<S: KeyHasher<u64>>(map: &mut LruMap<u64, u64, ByLength, S>) -> Result<bool, AllocError> {
     let hash = map.hasher().hash_named(&5);
     let inserted = map.insert_hashed(hash, 5, 50, &mut |_, _| {})?;
     Ok(inserted.kept)
 }
 
-fn map_4(map: &mut LruMap<u64, u64>) -> Result<bool, AllocError> {
+fn map_7(map: &mut LruMap<u64, u64>) -> Result<bool, AllocError> {
     let held = fill(map);
     *map.limiter_mut() = ByLength::new(1);
     let held = held & all!(map.len() == 3);
@@ -67,7 +120,7 @@ fn map_4(map: &mut LruMap<u64, u64>) -> Result<bool, AllocError> {
         ))
 }
 
-fn map_5(map: &mut LruMap<u64, u64>) -> Result<bool, GetOrInsertError<u8>> {
+fn map_8(map: &mut LruMap<u64, u64>) -> Result<bool, GetOrInsertError<u8>> {
     Ok(all!(
         fill(map),
         map.ensure_newest_fallible(4, || Err(7u8)).is_err(),
@@ -81,7 +134,7 @@ fn map_5(map: &mut LruMap<u64, u64>) -> Result<bool, GetOrInsertError<u8>> {
     ))
 }
 
-fn map_6(map: &mut LruMap<u64, u64>) -> Result<bool, AllocError> {
+fn map_9(map: &mut LruMap<u64, u64>) -> Result<bool, AllocError> {
     let held = all!(fill(map), map.insert(1, 10)?, map.insert(1, 20)?, is_value(map.peek(&1), 20), fill(map));
     let mut left = None;
     map.insert_with(4, 40, &mut |key, value| left = Some((key, value)))?;
@@ -90,7 +143,15 @@ fn map_6(map: &mut LruMap<u64, u64>) -> Result<bool, AllocError> {
     Ok(held & all!((inserted.kept, inserted.unkept) == (true, Some(10))))
 }
 
-fn map_7(map: &mut LruMap<u64, u64>) -> Result<bool, AllocError> {
+fn map_10<S: KeyHasher<u64>>(map: &mut LruMap<u64, u64, ByLength, S>) -> Result<bool, AllocError> {
+    let hash = map.hasher().hash_named(&5);
+    if map.peek_key_value(&5).is_none() {
+        map.insert_absent(hash, 5, 50, &mut |_, _| {})?;
+    }
+    Ok(is_pair(map.peek_newest(), 5, 50))
+}
+
+fn map_11(map: &mut LruMap<u64, u64>) -> Result<bool, AllocError> {
     let held = fill(map);
     let (done, left) = map.insert_and_keep(4, 40)?;
     let held = held & all!(done == Ok(true) && left.as_slice() == [(1, 10)].as_slice(), fill(map));
@@ -109,7 +170,7 @@ fn map_7(map: &mut LruMap<u64, u64>) -> Result<bool, AllocError> {
         ))
 }
 
-fn map_8(map: &mut LruMap<u64, u64>) -> bool {
+fn map_12(map: &mut LruMap<u64, u64>) -> bool {
     let held = all!(
         fill(map),
         map.demote(&3) && !map.demote(&9),
@@ -125,7 +186,7 @@ fn map_8(map: &mut LruMap<u64, u64>) -> bool {
     held & all!(is_pair(map.peek_oldest(), 1, 100))
 }
 
-fn map_9(map: &mut LruMap<u64, u64>) -> bool {
+fn map_13(map: &mut LruMap<u64, u64>) -> bool {
     all!(
         fill(map),
         is_pair(map.peek_oldest(), 1, 10),
@@ -140,7 +201,7 @@ fn map_9(map: &mut LruMap<u64, u64>) -> bool {
     )
 }
 
-fn map_10(map: &mut LruMap<u64, u64>) -> bool {
+fn map_14(map: &mut LruMap<u64, u64>) -> bool {
     let held = all!(
         fill(map),
         map.pop_newest() == Some((3, 30)),
@@ -156,7 +217,7 @@ fn map_10(map: &mut LruMap<u64, u64>) -> bool {
     held & all!((map.len(), map.guaranteed_capacity()) == (0, 3))
 }
 
-fn map_11(map: &mut LruMap<u64, u64>) -> bool {
+fn map_15(map: &mut LruMap<u64, u64>) -> bool {
     let held = fill(map);
     map.retain(|_, value| *value > 10);
     let held = held & all!(map.len() == 2 && !map.contains(&1), fill(map));
@@ -168,7 +229,7 @@ fn map_11(map: &mut LruMap<u64, u64>) -> bool {
     held & all!(map.len() == 1 && map.contains(&3))
 }
 
-fn map_12(map: &mut LruMap<u64, u64>) -> bool {
+fn map_16(map: &mut LruMap<u64, u64>) -> bool {
     let held = fill(map);
     let old = map.set_limiter(ByLength::new(1));
     let held = held & all!(old.max_length() == 3 && map.len() == 1, fill(map));
@@ -181,20 +242,20 @@ fn map_12(map: &mut LruMap<u64, u64>) -> bool {
     held & all!(evicted == 3)
 }
 
-fn map_13(map: &mut LruMap<u64, u64>) -> bool {
+fn map_17(map: &mut LruMap<u64, u64>) -> bool {
     let held = all!(fill(map), map.try_insert(4, 40) == Err((4, 40)));
     map.pop_oldest();
     held & all!((map.try_insert(4, 40), map.try_insert(4, 41)) == (Ok(()), Err((4, 41))))
 }
 
-fn map_14<S: KeyHasher<u64>>(map: &mut LruMap<u64, u64, ByLength, S>) -> bool {
+fn map_18<S: KeyHasher<u64>>(map: &mut LruMap<u64, u64, ByLength, S>) -> bool {
     let hash = map.hasher().hash_named(&4);
     let held = map.try_insert_hashed(hash, 4, 40) == Err((4, 40));
     map.pop_oldest();
     held & all!(map.try_insert_hashed(hash, 4, 40) == Ok(()))
 }
 
-fn map_15(map: &mut LruMap<u64, u64>) -> bool {
+fn map_19(map: &mut LruMap<u64, u64>) -> bool {
     let held = all!(
         fill(map),
         map.update(1, 11) == Updated::Replaced(10),
@@ -211,7 +272,7 @@ fn map_15(map: &mut LruMap<u64, u64>) -> bool {
     held & all!(map.is_empty())
 }
 
-fn map_16(map: &mut LruMap<u64, u64>) -> bool {
+fn map_20(map: &mut LruMap<u64, u64>) -> bool {
     let held = fill(map);
     let mut walk = map.iter_mut();
     if walk.len() > 0 {
@@ -235,7 +296,7 @@ fn map_16(map: &mut LruMap<u64, u64>) -> bool {
     held & all!(walk.len() == 1)
 }
 
-fn map_17(map: &mut LruMap<u64, u64>) -> bool {
+fn map_21(map: &mut LruMap<u64, u64>) -> bool {
     let held = fill(map);
     map.for_each_mut(|_, value| *value = value.saturating_add(1));
     let held = held & all!(is_value(map.peek(&1), 11), fill(map));
@@ -248,7 +309,7 @@ fn map_17(map: &mut LruMap<u64, u64>) -> bool {
     held & all!(total == 140, is_value(map.keys().next(), 3) && is_value(map.keys().next_back(), 1))
 }
 
-fn map_18(map: &mut LruMap<u64, u64>) -> bool {
+fn map_22(map: &mut LruMap<u64, u64>) -> bool {
     let held = all!(
         fill(map),
         is_value(map.values().next(), 30) && map.values().len() == 3,
@@ -267,24 +328,29 @@ fn on_a_map() {
         let held = all!(
             map_1(&mut map),
             map_2(&mut map).unwrap_or(false),
-            fill(&mut map),
-            map_3(&mut map).unwrap_or(false),
+            map_3(&mut map),
             map_4(&mut map).unwrap_or(false),
-            map_5(&mut map).unwrap_or(false),
+            map_5(&mut map),
+            fill(&mut map),
             map_6(&mut map).unwrap_or(false),
             map_7(&mut map).unwrap_or(false),
-            map_8(&mut map),
-            map_9(&mut map),
-            map_10(&mut map),
-            map_11(&mut map),
+            map_8(&mut map).unwrap_or(false),
+            map_9(&mut map).unwrap_or(false),
+            fill(&mut map),
+            map_10(&mut map).unwrap_or(false),
+            map_11(&mut map).unwrap_or(false),
             map_12(&mut map),
             map_13(&mut map),
-            fill(&mut map),
             map_14(&mut map),
             map_15(&mut map),
             map_16(&mut map),
             map_17(&mut map),
-            map_18(&mut map)
+            fill(&mut map),
+            map_18(&mut map),
+            map_19(&mut map),
+            map_20(&mut map),
+            map_21(&mut map),
+            map_22(&mut map)
         );
         check!(rt; held);
     };

@@ -68,8 +68,8 @@ impl Limiter<u64, u64> for Alternating {
     }
 }
 
-/// Limits nothing. Writes 0 into each removed value, and into its key if `keys` is set. Keeps the last removed entry as
-/// it was.
+/// Limits nothing. Writes 0 into each removed value and, if `keys` is set, into its key. Keeps the last removed entry
+/// as it was.
 #[derive(Clone, Copy, Debug, Default)]
 pub struct Blanking {
     pub keys: bool,

@@ -58,7 +58,7 @@ impl<T> Table<T> {
         self.placed
     }
 
-    /// Returns the bytes that an entry takes in the table: the size of its type.
+    /// Returns how many bytes an entry takes in the table: the size of its type.
     pub const fn entry_bytes() -> usize {
         bytes_of::<T>()
     }

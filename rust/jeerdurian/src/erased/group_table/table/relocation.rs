@@ -22,8 +22,8 @@ impl<T> Table<T> {
     ///
     /// The result contains a link for each old bucket: the number of its entry's new bucket, or `MAX` if the old bucket
     /// was free. The result is empty for a table without entries. `hash_of` is called once for each entry. The count
-    /// `moved` rises by the number of entries, and `placed` stays. Afterwards no bucket is in the state *deleted*.
-    /// Takes time O(old buckets + new buckets).
+    /// `moved` rises by the number of entries, and `placed` stays. Afterwards no bucket is deleted. Takes time O(old
+    /// buckets + new buckets).
     ///
     /// # Errors
     ///
@@ -59,16 +59,15 @@ impl<T> Table<T> {
         Ok(links)
     }
 
-    /// Moves all entries within the table, so that no bucket is in the state *deleted* afterwards. Returns what
-    /// `relocate` returns.
+    /// Moves all entries within the table, so that no bucket is deleted afterwards. Returns what `relocate` returns.
     ///
     /// `hash_of` is called once for each entry. The count `moved` rises by the number of entries, and `placed` stays.
     /// Takes time O(buckets).
     ///
     /// # Errors
     ///
-    /// Out of memory. Nothing has changed, because all memory is allocated before the first entry moves. For a table
-    /// without entries the call never fails, because it only empties the buckets.
+    /// Out of memory. Nothing has changed, because all memory is allocated before the first entry moves. If the table
+    /// has no entries, the call only empties the buckets, and never fails.
     pub fn rehash<N: LinkType, H: Fn(&T) -> u64>(&mut self, hash_of: H) -> Result<Vec<N>, AllocError> {
         let alloc = self.entries.allocator();
         if self.len == 0 {

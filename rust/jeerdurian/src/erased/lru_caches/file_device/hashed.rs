@@ -14,8 +14,8 @@ use crate::rattle_std::io::{Read, Seek, Write};
 /// A device of the blocks of a file, of `N` bytes each, with a checksum in the last 8 bytes of each block.
 ///
 /// A write replaces the last 8 bytes by the hash of the other bytes and of the block's number. Contracts see only the
-/// other bytes. A read returns `Ok` only if the block has its checksum. So a read detects a torn or damaged block, or a
-/// block of another number, if the hash differs.
+/// other bytes. A read returns `Ok` only if the block has its checksum. So if the hash differs, a read detects a torn
+/// or damaged block, or a block of another number.
 ///
 /// [`FileDevice`]: crate::FileDevice
 ///
@@ -45,7 +45,7 @@ impl<F: Read + Write + Seek, const N: usize> HashedFileDevice<F, N> {
         HashedFileDevice { file: RecordedFile::new(file), count, is_usable: true }
     }
 
-    /// Makes a device of all blocks that the file has whole, as `FileDevice::open` does.
+    /// Makes a device of all blocks that are whole in the file, as `FileDevice::open` does.
     ///
     /// ```text
     /// assert_eq!(rt; HashedFileDevice::<_, 16>::open(Cursor::new([0u8; 48]))?.len(), 3);

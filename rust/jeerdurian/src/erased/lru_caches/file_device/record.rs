@@ -1,5 +1,5 @@
 // Erased from crates/lru_caches/src/file_device/record.rt: do not edit.
-//! A list of calls that only contracts see. It takes no memory.
+//! A list of calls that only contracts see.
 
 #[allow(unused_imports)]
 use crate::rattle_std::prelude::*;

@@ -10,7 +10,7 @@ use crate::rattle_std::hash::Hash;
 
 /// A memo of a function that may fail, such as a read of a file. It stores no failures.
 ///
-/// A call of `load` returns a value of the function (clause `value`), or its failure, which changes nothing. A
+/// A call of `load` returns a value of the function (clause `value`), or its error. An error changes nothing. A
 /// successful call is a step of a map (clause `step`).
 ///
 /// ```text
@@ -82,13 +82,13 @@ impl<K: Eq + Hash, V: Copy, E, F: Fn(&K) -> Result<V, E>, L: Insertion<K, V, K>,
 {
     /// Returns the value of a key. If no value is stored, calls the function, and stores its value.
     ///
-    /// If memory runs out or the limiter rejects the value, it is returned but not stored.
+    /// If memory runs out, or a limit prevents storing the value, returns it anyway.
     ///
     /// ```text
     /// assert_eq!(rt; (blocks.load(1), blocks.len()), (Ok(11), 1));
     /// ```
     ///
-    /// Cost: a get, and if no value is stored, a call of the function and an insert.
+    /// Cost: a get. If no value is stored, also a call of the function and an insert.
     ///
     /// # Errors
     ///
@@ -111,7 +111,7 @@ impl<K: Eq + Hash, V, E, F: Fn(&K) -> Result<V, E>, L: Insertion<K, V, K>, S: Ke
     ///
     /// # Errors
     ///
-    /// As `load`. The closure is not called.
+    /// As `load`. After an error, the closure is not called.
     pub fn load_with<R, U: FnOnce(&V) -> R>(&mut self, key: K, read: U) -> Result<R, E> {
         read_loaded(&mut self.map, &self.function, key, read)
     }

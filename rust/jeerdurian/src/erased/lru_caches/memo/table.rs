@@ -20,8 +20,7 @@ use crate::rattle_std::hash::Hash;
 /// ```
 pub trait Question<K, V> {}
 
-/// A table of the newest answers to a question, up to a limit. A function that calls itself can store its results in
-/// the table.
+/// A table of the newest answers to a question, up to a limit. A function that calls itself can store its results here.
 ///
 /// The caller of `store` proves that the value is an answer. So each value that `get` returns is an answer.
 ///
@@ -103,7 +102,7 @@ impl<K: Eq + Hash, V, Q: Question<K, V>, L: Insertion<K, V, K>, S: KeyHasher<K>>
         self.get_with(key, |value| *value)
     }
 
-    /// Lends a closure the answer that `get` would return, and returns what the closure returns. The answers need not
+    /// Does what `get` does, but lends the answer to a closure, and returns the closure's result. The answers need not
     /// be `Copy`.
     ///
     /// ```text
@@ -115,8 +114,8 @@ impl<K: Eq + Hash, V, Q: Question<K, V>, L: Insertion<K, V, K>, S: KeyHasher<K>>
         read_stored::<K, V, Q, L, S, R, U>(&mut self.map, key, read)
     }
 
-    /// Stores an answer at a key as the newest, and returns true. If memory runs out or the limiter rejects the answer,
-    /// returns false, and no answer is stored at the key.
+    /// Stores an answer at a key as the newest, and returns true. If memory runs out, or a limit prevents this, returns
+    /// false, and no answer is stored at the key.
     ///
     /// ```text
     /// squares.store(3, 9);

@@ -13,7 +13,7 @@ use crate::rattle_std::hash::Hash;
 /// assert!(rt; map == map && map != OrderedMap::new(alloc));
 /// ```
 ///
-/// Cost: `O(1)` if the lengths differ, else `O(n)` for n entries.
+/// Cost: if the lengths differ, `O(1)`, else `O(n)` for n entries.
 ///
 /// After std's `Vec`. Maps of indexmap are equal if they have the same entries in any order.
 impl<K: Eq + Hash, V: PartialEq, S: KeyHasher<K>> PartialEq for OrderedMap<K, V, S> {

@@ -41,11 +41,11 @@ impl<K: Eq + Hash, V, S: KeyHasher<K>> OrderedMap<K, V, S> {
     /// assert_eq!(rt; map.try_reserve(100), Ok(()));
     /// ```
     ///
-    /// Cost: `O(1)` if there is enough growth left, else `O(buckets)` of both tables.
+    /// Cost: if there is enough growth left, `O(1)`, else `O(buckets)` of both tables.
     ///
     /// # Errors
     ///
-    /// The errors of `LruMap::try_reserve`.
+    /// As `LruMap::try_reserve`.
     pub fn try_reserve(&mut self, n: usize) -> Result<(), ReserveError> {
         self.map.try_reserve(n)
     }
@@ -57,7 +57,7 @@ impl<K: Eq + Hash, V, S: KeyHasher<K>> OrderedMap<K, V, S> {
     /// assert_eq!(rt; (map.shrink_to_fit(), map.shrink_to_fit()), (Ok(true), Ok(false)));
     /// ```
     ///
-    /// Cost: `O(1)` if the table stays, else `O(buckets)`.
+    /// Cost: if the table stays, `O(1)`, else `O(buckets)`.
     ///
     /// # Errors
     ///

@@ -1,5 +1,5 @@
 // Erased from crates/lru_caches/src/page_cache/evict.rt: do not edit.
-//! Which page is evicted if the cache is full, and how.
+//! If the cache is full: which page is evicted, and how.
 
 #[allow(unused_imports)]
 use crate::rattle_std::prelude::*;
@@ -20,7 +20,7 @@ fn find_victim<B: Copy, S: KeyHasher<u64>>(map: &Pages<B, S>, keeps_dirty: bool)
     None
 }
 
-/// Returns the number of the page to evict for a new page, if the cache is full.
+/// If the cache is full, returns the number of the page to evict for a new page.
 pub(super) fn find_room<B: Copy, E, S: KeyHasher<u64>>(
     map: &Pages<B, S>,
     capacity: usize,

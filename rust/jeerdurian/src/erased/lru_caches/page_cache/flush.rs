@@ -9,7 +9,7 @@ use crate::erased::lru_caches::page_cache::pages::{Page, Pages};
 use crate::erased::lru_caches::page_cache::{PageCache, PageError};
 use crate::erased::schnellru::KeyHasher;
 
-/// Reserves memory for the number of one more page, so that a flush allocates nothing.
+/// Reserves memory for the number of one more page, so that flushes allocate nothing.
 pub(super) fn reserve_number<E>(numbers: &mut Vec<u64>, pages: usize) -> Result<(), PageError<E>> {
     numbers.clear();
     let Some(needed) = pages.checked_add(1) else {
@@ -85,7 +85,7 @@ fn clean_page<B: Copy, S: KeyHasher<u64>>(map: &mut Pages<B, S>, n: u64) {
 }
 
 impl<B: Copy, D: BlockDevice<B>, S: KeyHasher<u64>> PageCache<B, D, S> {
-    /// Writes a page to the device if it is cached and dirty. The page is clean afterwards. Does not change the order
+    /// If a page is cached and dirty, writes it to the device. The page is clean afterwards. Does not change the order
     /// of use.
     ///
     /// This does not call `sync`. Until a `flush` returns `Ok`, a crash may leave the old block or a torn block.

@@ -84,7 +84,7 @@ fn promote_hashed<B: Copy, S: KeyHasher<u64>>(map: &mut Pages<B, S>, hash: u64, 
     }
 }
 
-/// Returns whether the page is cached.
+/// If page n is cached, overwrites its block. Returns whether it is cached.
 pub(super) fn overwrite<B: Copy, S: KeyHasher<u64>>(
     map: &mut Pages<B, S>,
     counts: &mut Counts,

@@ -25,7 +25,7 @@ pub struct ByMemoryUsage {
 }
 
 impl ByMemoryUsage {
-    /// Makes a limiter that permits a table of `max_bytes` bytes.
+    /// Makes a limiter that permits tables of at most `max_bytes` bytes.
     ///
     /// ```text
     /// let mut limiter = ByMemoryUsage::new(152);

@@ -5,7 +5,7 @@ use crate::rattle_std::prelude::*;
 use crate::erased::lru_limits::admission::Admission;
 use crate::erased::lru_limits::limiter::Limiter;
 
-/// Wraps a limiter, so that it accepts each entry unchanged, and every new value of a stored key.
+/// Wraps a limiter. The wrapper accepts each entry unchanged, and every new value of a stored key.
 ///
 /// Put your [`Limiter`] into a map as `Storing(limiter)`, which implements [`Admission`]. `map.limiter().0` is your
 /// limiter.

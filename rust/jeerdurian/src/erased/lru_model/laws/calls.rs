@@ -9,9 +9,8 @@ use crate::erased::lru_limits::{Budgeted, Insertion, KeyHasher, LookupKey};
 use crate::rattle_std::hash::Hash;
 
 /// If no two keys are equal before a call, no two are equal after it (`keys`). If `IsMap` holds before a call, and the
-/// table is sound after the call, `IsMap` holds after it (`map`). So inserts moved at most two entries for each entry
-/// that they stored, plus one for each entry that a shrink rehashed. The clause `map` of each call ensures that the
-/// table is sound.
+/// table is sound after the call, `IsMap` holds after it (`map`). The clause `map` of each call ensures that the table
+/// is sound.
 pub fn calls_keep_maps<K: Eq + Hash, V, I: LookupKey<K>, L: Insertion<K, V, I>, S: KeyHasher<K>>() {}
 
 /// Suppose that the running total of the limiter is the sum of the costs of the entries. After each `Step` it is still

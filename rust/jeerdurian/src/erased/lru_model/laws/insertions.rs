@@ -11,7 +11,7 @@ use crate::rattle_std::hash::Hash;
 /// the potential, rises by at most 3 (`rise`), and `PaysForInsertions` holds (`stored`).
 ///
 /// Any calls, one after another, pay for their insertions, too (`runs`). The number of insertions, plus the potential,
-/// rises by at most 3 for each entry that is stored, plus 2 for each entry that a shrink rehashed. This holds until the
-/// count of stored entries, or of rehashed entries, reaches `u64::MAX`. A `try_insert` may be among these calls. A
-/// reservation may be among them only if no growth is left before it.
+/// rises by at most 3 for each stored entry, plus 2 for each entry that a shrink rehashed. This holds until the count
+/// `placed` or `shrunk` reaches `u64::MAX`. A `try_insert` may be among these calls. A reservation may be among them
+/// only if no growth is left before it.
 pub fn try_inserts_pay_for_moves<K: Eq + Hash, V, L: Admission<K, V>, S: KeyHasher<K>>() {}

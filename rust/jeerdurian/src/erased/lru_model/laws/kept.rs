@@ -7,7 +7,7 @@ use crate::rattle_std::prelude::*;
 use crate::erased::lru_limits::{ByLength, Insertion, KeyHasher, Limiter, LookupKey};
 use crate::rattle_std::hash::Hash;
 
-/// An insert loses no entry, if the limiter changes no evicted or removed entry (`ChangesNoPair`). `LosesNothing` says,
+/// If the limiter changes no evicted or removed entry (`ChangesNoPair`), an insert loses no entry. `LosesNothing` says,
 /// for each result, where the new entry and the old entries are afterwards (`all`). Suppose that the result is true.
 /// Then the map has the stored entry and the newest entries of other keys, and the callback got the oldest entries,
 /// oldest first (`stored`). In each case, every old entry of another key is in the map or was passed to the callback
@@ -26,7 +26,7 @@ pub fn inserts_with_room_are_exact<K: Eq + Hash, V, I: LookupKey<K>, L: Insertio
 /// (`with_room`). If the map keeps to its length, inserts one after another leave the newest entries, too (`lists`).
 pub fn inserts_leave_the_newest<K: Eq + Hash, V, S: KeyHasher<K>>() {}
 
-/// A new map with `ByLength` keeps to its length (`KeepsToLength`), if its `max_length` is at most 939,524,096 and an
-/// entry has fewer than 4,294,967,295 bytes (`begins`). A map that keeps to its length still does after any `Step` that
+/// If `max_length` is at most 939,524,096, and an entry has fewer than 4,294,967,295 bytes, a new map with `ByLength`
+/// keeps to its length (`KeepsToLength`, `begins`). A map that keeps to its length still does after any `Step` that
 /// leaves a sound table (`goes_on`), and after any write to a value (`written`). A `Step` never sets the limiter.
 pub fn maps_keep_to_their_length<K: Eq + Hash, V, S: KeyHasher<K>>() {}

@@ -15,9 +15,8 @@ pub fn runs_keep_maps<K: Eq + Hash, V, I: LookupKey<K>, L: Insertion<K, V, I>, S
 /// Values may be written between the steps, if each new value costs as much as the old value.
 pub fn runs_keep_sums<K: Eq + Hash, V, I: LookupKey<K>, L: Insertion<K, V, I>, S: KeyHasher<K>>() {}
 
-/// Over any calls, the count of moved entries, plus the potential, rises by at most 2 for each entry that is stored,
-/// plus 1 for each entry that a shrink rehashed. This holds until the count of stored entries, or of rehashed entries,
-/// reaches `u64::MAX`.
+/// Over any calls, the count of moved entries, plus the potential, rises by at most 2 for each stored entry, plus 1 for
+/// each entry that a shrink rehashed. This holds until the count `placed` or `shrunk` reaches `u64::MAX`.
 pub fn runs_pay_for_moves<K: Eq + Hash, V, I: LookupKey<K>, L: Insertion<K, V, I>, S: KeyHasher<K>>() {}
 
 /// If no call is `pop_newest`, any calls evict only the oldest of the entries whose keys no call names. The newest of

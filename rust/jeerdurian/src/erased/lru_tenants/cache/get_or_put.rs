@@ -10,20 +10,20 @@ use crate::erased::schnellru::{KeyHasher, LookupKey};
 use crate::rattle_std::hash::Hash;
 
 impl<N: Eq + Hash, K: Eq + Hash, V, L: Budgeted<K, V>, S: KeyHasher<K> + Copy> TenantCache<N, K, V, L, S> {
-    /// Does what `get` does if the key is there. Otherwise puts the value that the closure returns, and returns it.
+    /// If the key is there, does what `get` does. Otherwise puts the value that the closure returns, and returns it.
     ///
-    /// If the key is there, the closure is not called. `None` means that the tenant does not keep the new entry.
+    /// `None` means that the tenant does not keep the new entry.
     ///
     /// ```text
     /// assert_eq!(rt; cache.get_or_put(&1, 7, || 3), Ok(Some(&2)));
     /// assert_eq!(rt; cache.get_or_put(&1, 8, || 1), Ok(Some(&1)));
     /// ```
     ///
-    /// Cost: as `get` if the key is there, else as `put`.
+    /// Cost: if the key is there, as `get`, else as `put`.
     ///
     /// # Errors
     ///
-    /// As `put`. Before `Memory` the closure was called.
+    /// As `put`. If the error is `Memory`, the closure was called.
     pub fn get_or_put<T: LookupKey<N>, F: FnOnce() -> V>(
         &mut self,
         name: &T,

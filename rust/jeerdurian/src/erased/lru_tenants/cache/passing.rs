@@ -42,12 +42,12 @@ impl<N: Eq + Hash, K: Eq + Hash, V, L: Budgeted<K, V>, S: KeyHasher<K> + Copy> T
         put_answer(insert(own, key, value, sink))
     }
 
-    /// Does what `put_with` does, and returns the value that the tenant does not keep, as [`Inserted`] says. It also
-    /// returns the rejected value of a new key: then `kept` is false, the tenant stays as it is, the callback gets
-    /// nothing, and the key is dropped.
+    /// Does what `put_with` does, and returns the value that the tenant does not keep, as [`Inserted`] says. If the
+    /// limiter rejects a new key's entry, its value is also returned: `kept` is false, the tenant stays as it is, the
+    /// callback gets nothing, and the key is dropped.
     ///
-    /// If a key was there and is not kept, the callback got its entry: with the new value if the entry was evicted, and
-    /// with the old value if the limiter rejected the new value.
+    /// If the key was there and is not kept, the callback got its entry. If the limiter rejected the new value, this
+    /// entry has the old value, else the new value.
     ///
     /// ```text
     /// let replaced = cache.put_full(&1, 7, 3, &mut |_, _| {})?;
@@ -60,7 +60,7 @@ impl<N: Eq + Hash, K: Eq + Hash, V, L: Budgeted<K, V>, S: KeyHasher<K> + Copy> T
     ///
     /// # Errors
     ///
-    /// As `put`. After `NotOpen` the key and the value are dropped; after `Memory` the callback got both.
+    /// As `put`. After `NotOpen`, the key and the value are dropped. After `Memory`, the callback got both.
     pub fn put_full<T: LookupKey<N>, F: FnMut(K, V)>(
         &mut self,
         name: &T,

@@ -11,7 +11,7 @@ use crate::erased::schnellru::KeyHasher;
 use crate::rattle_std::hash::Hash;
 
 impl<N: Eq + Hash, K: Eq + Hash, V, L: Budgeted<K, V>, S: KeyHasher<K> + Copy> TenantCache<N, K, V, L, S> {
-    /// Sets the limit of the sum of all tenants' budgets. `None` lifts the limit.
+    /// Limits the sum of all tenants' budgets. `None` lifts the limit.
     ///
     /// ```text
     /// assert_eq!(rt; cache.set_total_limit(Some(5)), Ok(()));

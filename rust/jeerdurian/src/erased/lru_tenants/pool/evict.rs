@@ -1,5 +1,5 @@
 // Erased from crates/lru_tenants/src/pool/evict.rt: do not edit.
-//! Evictions: while the total is above the limit, the tenant furthest above its share loses its oldest entry.
+//! Evictions from a pool: each evicts the oldest entry of the tenant furthest above its share.
 
 #[allow(unused_imports)]
 use crate::rattle_std::prelude::*;
@@ -9,8 +9,8 @@ use crate::erased::lru_tenants::pool::part::{Part, drop_oldest, excess};
 use crate::erased::schnellru::{KeyHasher, LruMap, Unlimited};
 use crate::rattle_std::hash::Hash;
 
-// Returns the greatest excess and, if it is above 0, the hash of the name of a tenant with this excess. The name itself
-// is lent by the map that the caller is about to change.
+// Returns the greatest excess. If it is above 0, also returns the hash of the name of a tenant with this excess. Does
+// not return the name, because the caller changes the map that lends it.
 fn furthest<N: Eq + Hash, K: Eq + Hash, V, L: Budgeted<K, V>, S: KeyHasher<K>, H: KeyHasher<N>>(
     tenants: &LruMap<N, Part<K, V, L, S>, Unlimited, H>,
 ) -> (u64, u64) {
@@ -26,7 +26,7 @@ fn furthest<N: Eq + Hash, K: Eq + Hash, V, L: Budgeted<K, V>, S: KeyHasher<K>, H
     (most, hash)
 }
 
-// Returns by how much the total falls. `None` is for Rust, where hashes and costs may lie.
+// Returns by how much the total falls. Only in Rust, where hashes and costs may be wrong, returns `None`.
 fn evict<N: Eq + Hash, K: Eq + Hash, V, L: Budgeted<K, V>, S: KeyHasher<K>, H: KeyHasher<N>>(
     tenants: &mut LruMap<N, Part<K, V, L, S>, Unlimited, H>,
 ) -> Option<u64> {

@@ -21,7 +21,7 @@ pub(super) fn cost_of<K: Eq + Hash, V, L: Budgeted<K, V>, S: KeyHasher<K>>(map: 
     map.limiter().account()
 }
 
-// Returns by how much the cost falls. `None` is for Rust, where costs may lie.
+// Returns by how much the cost falls. Only in Rust, where costs may be wrong, returns `None`.
 pub(super) fn drop_oldest<K: Eq + Hash, V, L: Budgeted<K, V>, S: KeyHasher<K>>(
     own: &mut Part<K, V, L, S>,
 ) -> Option<u64> {

@@ -1,5 +1,5 @@
 // Erased from crates/ordered_table/src/linked/chain.rt: do not edit.
-//! `Chain`: a table whose entries have links to their neighbours. Reordering writes at most four entries.
+//! `Chain`: a table whose entries have links to their neighbours. A promotion or demotion writes at most four entries.
 
 #[allow(unused_imports)]
 use crate::rattle_std::prelude::*;
@@ -35,8 +35,8 @@ impl<K, V, N: LinkType> Chain<K, V, N> {
         }
     }
 
-    // Returns whether the link leads to a bucket. Compares the link with the number of buckets instead of `MAX`, which
-    // saves an instruction.
+    // Returns whether the link leads to a bucket. To save an instruction, compares the link with the number of buckets
+    // instead of `MAX`.
     #[inline]
     pub(crate) fn leads(&self, link: N) -> bool {
         self.table.has_bucket(link.into_usize())
@@ -59,8 +59,8 @@ impl<K, V, N: LinkType> Chain<K, V, N> {
         self.oldest = link;
     }
 
-    // Puts a bucket in front of this chain. Its entry already has the links of a newest entry: the older link leads to
-    // `first`, the newest entry so far.
+    // Puts a bucket in front of this chain. The entry in the bucket already has the links of a newest entry: its older
+    // link is `first`.
     #[inline]
     pub(crate) fn link_placed(&mut self, b: usize, first: N) {
         let link = N::from_usize(b);
@@ -86,7 +86,8 @@ impl<K, V, N: LinkType> Chain<K, V, N> {
         }
     }
 
-    // Rewrites the links of the moved entries, and the two ends. `links` contains the new bucket for each old bucket.
+    // Rewrites the links of the moved entries, and the two ends. `links` contains the new bucket for each old bucket
+    // that was full.
     pub(crate) fn rewrite(&mut self, links: &[N]) {
         for old in 0..links.len() {
             let moved = (*at!(links, old));

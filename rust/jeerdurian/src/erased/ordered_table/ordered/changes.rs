@@ -1,5 +1,5 @@
 // Erased from crates/ordered_table/src/ordered/changes.rt: do not edit.
-//! The calls that change the order of an `OrderedTable`, or its buckets. Most of them first write the last promotion
+//! The calls that change the order of an `OrderedTable`, or its buckets. Most of them first write the pending promotion
 //! into the links.
 
 #[allow(unused_imports)]
@@ -13,7 +13,7 @@ use crate::rattle_std::alloc::AllocError;
 use crate::rattle_std::hash::Hash;
 
 impl<K, V, N: LinkType> OrderedTable<K, V, N> {
-    /// Writes the last promotion into the links. Then the compiler can omit this step in the next calls.
+    /// Writes the pending promotion into the links. Then the compiler can omit this step in the next calls.
     #[inline(always)]
     pub fn settle(&mut self) {
         settle(&mut self.linked, &mut self.promoted);
@@ -48,8 +48,8 @@ impl<K, V, N: LinkType> OrderedTable<K, V, N> {
                 self.linked.promote(*last);
                 *last = b;
             }
-            // Writes this promotion into the links at once, and so writes to the second-oldest pair. If pairs are
-            // promoted in the order of their last promotions, the next call reads this pair.
+            // Writes this promotion into the links at once, and so writes to the second-oldest pair. If the oldest pair
+            // is promoted each time, the next call reads this pair.
             None if self.linked.oldest() == b => self.linked.promote(b),
             None => self.promoted = Some(b),
         }
@@ -72,7 +72,7 @@ impl<K, V, N: LinkType> OrderedTable<K, V, N> {
         self.linked.take(b, false)
     }
 
-    /// Takes the oldest pair out of a table that is not empty. Does not read the older link of this pair.
+    /// Takes out the oldest pair. The table must not be empty. Does not read the older link of this pair.
     ///
     /// Cost: `O(1)`.
     #[inline(always)]

@@ -8,7 +8,7 @@ use crate::erased::ordered_table::walk::Walk;
 use crate::rattle_std::alloc::AllocError;
 use crate::rattle_std::iter::FusedIterator;
 
-/// An iterator over the keys of a table or a map, newest first, from both ends.
+/// A double-ended iterator over the keys of a table or a map, newest first.
 ///
 /// ```text
 /// assert!(rt; map.keys().next() == Some(&3) && map.keys().next_back() == Some(&1));
@@ -58,7 +58,7 @@ impl<'a, K, V, N: LinkType> Clone for Keys<'a, K, V, N> {
     }
 }
 
-/// An iterator over the values of a table or a map, newest first, from both ends.
+/// A double-ended iterator over the values of a table or a map, newest first.
 ///
 /// ```text
 /// assert!(rt; map.values().next() == Some(&30) && map.values().len() == 3);

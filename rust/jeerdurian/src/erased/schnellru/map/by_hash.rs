@@ -70,7 +70,7 @@ impl<K: Eq + Hash, V, L: Limiter<K, V>, S: KeyHasher<K>> LruMap<K, V, L, S> {
     }
 
     #[inline]
-    fn find_by<F: FnMut(&K, &V) -> bool>(&self, hash: u64, is_eq: F) -> Option<usize> {
+    pub(super) fn find_by<F: FnMut(&K, &V) -> bool>(&self, hash: u64, is_eq: F) -> Option<usize> {
         self.entries.find_by(hash, is_eq)
     }
 }

@@ -8,7 +8,7 @@ use crate::rattle_std::alloc::AllocError;
 use crate::rattle_std::hash::Hash;
 
 impl<K: Eq + Hash, V, L: Insertion<K, V, K>, S: KeyHasher<K>> LruMap<K, V, L, S> {
-    /// Inserts entries one after another, as `insert` does. The last entry that is stored is the newest.
+    /// Inserts entries one after another, as `insert` does. If the last entry is stored, it is the newest.
     ///
     /// ```text
     /// map.try_extend([(4, 40), (5, 50)])?;
@@ -19,7 +19,7 @@ impl<K: Eq + Hash, V, L: Insertion<K, V, K>, S: KeyHasher<K>> LruMap<K, V, L, S>
     ///
     /// # Errors
     ///
-    /// The insert of an entry ran out of memory. The entries before it were inserted, and the others were not. No
+    /// The insert of an entry ran out of memory. The inserts before it are done, and no later entry is inserted. No
     /// contract says whether the iterator yielded entries after the failed one.
     ///
     /// Follows std's `Extend::extend`.

@@ -114,8 +114,7 @@ impl<K: Eq + Hash, V, L: Limiter<K, V>, S: KeyHasher<K>> LruMap<K, V, L, S> {
     }
 
     /// Lends the limiter for writing. A lower limit takes effect at the next `trim`, or at the next insert or update
-    /// that stores an entry or replaces a value. A lower limit of `ByMemoryUsage` takes effect at the next growth. An
-    /// insert or update evicts nothing if the limiter rejects its entry or value.
+    /// that the limiter accepts. A lower limit of `ByMemoryUsage` takes effect at the next growth.
     ///
     /// Do not write a limiter with another running total. `*map.limiter_mut() = ByCost::new(n)` would count the stored
     /// entries as 0. Call `set_limiter` with `map.limiter().with_limit(n)`.

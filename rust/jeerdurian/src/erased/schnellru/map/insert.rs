@@ -12,10 +12,10 @@ use crate::rattle_std::hash::Hash;
 impl<K: Eq + Hash, V, L: Limiter<K, V>, S: KeyHasher<K>> LruMap<K, V, L, S> {
     /// Inserts a key with a value, as the newest entry. Returns whether the key is in the map afterwards.
     ///
-    /// If the key is there, the stored key stays and gets the new value. If the limiter rejects the new value, the
-    /// entry is removed, and the result is false. If the key is new, the limiter returns the entry to store. If it
-    /// returns `None`, nothing is stored, and the result is false. If the limiter would be over its limit with one more
-    /// entry, the oldest entry is evicted first.
+    /// If the key is there, the stored key gets the new value. If the limiter rejects the new value, the entry is
+    /// removed, and the result is false. If the key is new, the limiter returns the entry to store. If it returns
+    /// `None`, nothing is stored, and the result is false. If the limiter would be over its limit with one more entry,
+    /// the oldest entry is evicted first.
     ///
     /// If no bucket can take the new entry, the table grows. A table with fewer than half of the entries that it may
     /// hold is rehashed instead. If no larger table exists, or if the limiter refuses it, the oldest entries are
@@ -32,8 +32,9 @@ impl<K: Eq + Hash, V, L: Limiter<K, V>, S: KeyHasher<K>> LruMap<K, V, L, S> {
     /// assert_eq!(rt; map.peek(&1), Some(&20));
     /// ```
     ///
-    /// Cost: `O(1)` expected, amortised over the inserts. An insert that grows the table moves all entries. All inserts
-    /// together move at most two entries for each new entry, plus one for each entry that a shrink rehashed.
+    /// Cost: `O(1)` expected, amortised over the inserts. An insert that grows or rehashes the table moves all entries.
+    /// All inserts together move at most two entries for each new entry, plus one for each entry that a shrink
+    /// rehashed.
     ///
     /// # Errors
     ///
@@ -55,9 +56,9 @@ impl<K: Eq + Hash, V, L: Limiter<K, V>, S: KeyHasher<K>> LruMap<K, V, L, S> {
 }
 
 impl<K: Eq + Hash, V, L: Limiter<K, V>, S: KeyHasher<K>> LruMap<K, V, L, S> {
-    /// Does what `insert` does, and passes these entries to the callback: the evicted entries, oldest first; an entry
-    /// that is removed because its new value is rejected; and an entry that `on_insert` returned but the map could not
-    /// store. Before each call of the callback, `on_removed` may write to the entry.
+    /// Does what `insert` does, and passes entries to the callback: the evicted entries, oldest first, and an entry
+    /// that is removed because its new value is rejected. The callback also gets an entry that `on_insert` returned but
+    /// the map could not store. Before each call of the callback, `on_removed` may write to the entry.
     ///
     /// The callback gets each of these entries once, even if the result is an `Err`. Only tests show that the callback
     /// gets an entry before the limiter is called again. The callback does not get a replaced value.
@@ -90,7 +91,7 @@ impl<K: Eq + Hash, V, L: Limiter<K, V>, S: KeyHasher<K>> LruMap<K, V, L, S> {
         kept
     }
 
-    // Before anything is evicted, drops the value that the map does not keep. So a limiter that learns of drops no
+    // Before anything is evicted, drops the value that the map does not keep. So a limiter that counts live values no
     // longer counts this value.
     #[inline(always)]
     fn insert_or_drop<I: LookupKey<K>, F: FnMut(K, V)>(
@@ -122,8 +123,8 @@ impl<K: Eq + Hash, V, L: Limiter<K, V>, S: KeyHasher<K>> LruMap<K, V, L, S> {
     /// Does what `insert_with` does. If the key is there, also returns the value that the map does not keep: the old
     /// value, or the new value if the limiter rejects it. `on_replace` may have written to the returned value.
     ///
-    /// If the key is there, the limiter drops the offered key. If `on_insert` rejects the entry or runs out of memory,
-    /// the limiter drops the key and the value.
+    /// If the key is there, the limiter consumes the offered key. If `on_insert` rejects the entry or runs out of
+    /// memory, the limiter consumes the key and the value.
     ///
     /// ```text
     /// let inserted = map.insert_full(1, 11, &mut |_, _| {})?;
@@ -185,7 +186,41 @@ impl<K: Eq + Hash, V, L: Limiter<K, V>, S: KeyHasher<K>> LruMap<K, V, L, S> {
         inserted
     }
 
-    // Does not drop the value that the map does not keep, but returns this value.
+    /// Does what `insert_hashed` does, without a search for the key. The key must not be in the map.
+    ///
+    /// The prover checks this. In Rust nothing does: if the key is in the map, the map then contains the key twice.
+    ///
+    /// ```text
+    /// let hash = map.hasher().hash_named(&5);
+    /// if map.peek_key_value(&5).is_none() {
+    ///     map.insert_absent(hash, 5, 50, &mut |_, _| {})?;
+    /// }
+    /// assert!(rt; map.peek_newest() == Some((&5, &50)));
+    /// ```
+    ///
+    /// Cost: as `insert_hashed`, without the search.
+    ///
+    /// # Errors
+    ///
+    /// Fails as `insert` does.
+    #[inline(always)]
+    pub fn insert_absent<I: LookupKey<K>, F: FnMut(K, V)>(
+        &mut self,
+        hash: u64,
+        key: I,
+        value: V,
+        sink: &mut F,
+    ) -> Result<bool, AllocError>
+    where
+        L: Insertion<K, V, I>,
+    {
+        let _ = &self.entries;
+        let kept = self.insert_new(hash, key, value, sink);
+        let _ = &self.entries;
+        kept
+    }
+
+    // Unlike `insert_or_drop`, returns the value that the map does not keep.
     #[inline(always)]
     fn insert_or_replace<I: LookupKey<K>, F: FnMut(K, V)>(
         &mut self,

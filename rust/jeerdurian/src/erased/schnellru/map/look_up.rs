@@ -92,7 +92,7 @@ impl<K: Eq + Hash, V, L: Limiter<K, V>, S: KeyHasher<K>> LruMap<K, V, L, S> {
 
     /// Lends the value of the newest entry for writing.
     ///
-    /// Returns `None` if the map is empty. If `ensure_newest` has just returned true, the newest value is the value of
+    /// Returns `None` if the map is empty. If `ensure_newest` has just returned true, the lent value is the value of
     /// its key. Cost: `O(1)`.
     ///
     /// ```text

@@ -89,7 +89,7 @@ impl<K: Eq + Hash, V, L: Limiter<K, V>, S: KeyHasher<K>> LruMap<K, V, L, S> {
     /// assert_eq!(rt; (map.len(), map.guaranteed_capacity()), (0, 3));
     /// ```
     ///
-    /// Cost: `O(buckets)`, even if there are few entries; `O(1)` if all growth is left.
+    /// Cost: `O(buckets)`, even if there are few entries; `O(1)` if every bucket is empty.
     ///
     /// Follows schnellru's `LruMap::clear`.
     pub fn clear(&mut self) {

@@ -11,9 +11,9 @@ use crate::rattle_std::hash::Hash;
 impl<K: Eq + Hash, V, L: Limiter<K, V>, S: KeyHasher<K>> LruMap<K, V, L, S> {
     /// Reserves growth for n more entries: afterwards `guaranteed_capacity` is at least `len` + n.
     ///
-    /// The entries and the counts of moves stay. If there is enough growth left, nothing happens. If `len` + n is at
-    /// most half of the entries that the table may hold, the table is rehashed at its size, and the limiter is not
-    /// queried. Otherwise the limiter is queried for a larger table.
+    /// The entries and the counts of moves stay. If enough growth is left, nothing happens. Otherwise, if `len` + n is
+    /// at most half of the entries that the table may hold, the table is rehashed at its size. If `len` + n is more,
+    /// the limiter is queried for a larger table.
     ///
     /// ```text
     /// let mut map: LruMap<u64, u64, UnlimitedCompact> = LruMap::default(alloc);

@@ -56,7 +56,7 @@ impl<K: Eq + Hash, V, L: Limiter<K, V>, S: KeyHasher<K>> LruMap<K, V, L, S> {
         }
     }
 
-    // Evicts the oldest pairs until the new pair can be stored. An empty map does not store the pair.
+    // Evicts the oldest pairs until the new pair can be stored. If the map is empty, does not store the pair.
     fn store_without_growth<F: FnMut(K, V)>(
         &mut self,
         hash: u64,

@@ -8,8 +8,8 @@ use crate::erased::schnellru::map::remove::discard;
 use crate::rattle_std::hash::Hash;
 
 impl<K: Eq + Hash, V, L: Admission<K, V> + Copy, S: KeyHasher<K>> LruMap<K, V, L, S> {
-    /// Inserts a new key with its value, as the newest entry, if nothing has to be evicted. Otherwise returns the key
-    /// and the value.
+    /// Inserts a new key with its value, as the newest entry, without an eviction. If this fails, returns the key and
+    /// the value.
     ///
     /// If no growth is left, `try_insert` reserves growth instead of filling a deleted bucket. So if the limiter
     /// refuses a larger table, `try_insert` may return an entry that `insert` would store without an eviction.
@@ -31,7 +31,7 @@ impl<K: Eq + Hash, V, L: Admission<K, V> + Copy, S: KeyHasher<K>> LruMap<K, V, L
     /// - The key is there.
     /// - The limiter rejects the entry, before or after the table grew.
     /// - The limiter would be over its limit with the entry, before or after the table grew.
-    /// - No growth is left, and there is no larger table, or the limiter refuses it.
+    /// - No growth is left, and either there is no larger table, or the limiter refuses it.
     /// - No growth is left, and the allocation of the table fails.
     ///
     /// If growth was left, nothing has changed. Otherwise the table may be larger or rehashed, and `on_grow` may have

@@ -6,8 +6,8 @@ use crate::erased::lru_limits::{KeyHasher, Limiter};
 use crate::erased::schnellru::map::LruMap;
 use crate::rattle_std::hash::Hash;
 
-/// An iterator over the entries of a map, newest first, from both ends. It lends each value until the next call of the
-/// iterator.
+/// An iterator over the entries of a map, from both ends. `next` lends the newest entry that is left, until the next
+/// call of the iterator.
 ///
 /// ```text
 /// let mut walk = map.iter_mut();
@@ -38,8 +38,8 @@ impl<'a, K: Eq + Hash, V, L: Limiter<K, V>, S: KeyHasher<K>> IterMut<'a, K, V, L
         self.end.saturating_sub(self.start)
     }
 
-    /// Lends the newest entry that is left, with its value for writing, until the next call. Returns `None` if no entry
-    /// is left.
+    /// Lends the newest entry that is left, with its value for writing, until the next call of the iterator. Returns
+    /// `None` if no entry is left.
     ///
     /// A caller's proof cannot use the clause `writes_back`. If `len` is not 0, proved code calls `lend_next` instead.
     ///

@@ -9,7 +9,7 @@ use crate::erased::schnellru::{Limiter, LruMap, Storing};
 use crate::programs::test_helpers::{LastByte, check};
 use crate::rattle_std::hash::BuildHasher;
 
-/// Limits nothing, and writes into `clones` how many keys are alive when it is notified of a clear.
+/// Limits nothing. When it is notified of a clear, writes into `clones` how many keys are alive.
 impl<K, V> Limiter<K, V> for Live<'_> {
     type LinkType = u32;
 
@@ -40,7 +40,7 @@ impl BuildHasher for Live<'_> {
 type Map<'a> = LruMap<Live<'a>, Live<'a>, Storing<Live<'a>>, Live<'a>>;
 
 /// Copies a map of seven entries. Only the first `allowed` clones succeed. Returns whether the copy clones each key,
-/// each value, the limiter and the hasher, and drops these clones if a clone fails.
+/// each value, the limiter and the hasher once, and if a clone fails, drops the clones.
 fn is_cloned_once(map: &Map, lives: &Lives, allowed: u64) -> bool {
     lives.clones.set(allowed);
     let is_made = map.try_clone().is_ok();
@@ -48,7 +48,7 @@ fn is_cloned_once(map: &Map, lives: &Lives, allowed: u64) -> bool {
     (is_made == (allowed >= 16)) & (left == allowed.saturating_sub(16)) & lives.are(8)
 }
 
-/// Also, the limiter is notified of a clear after the entries were dropped.
+/// Also tests that the limiter is notified of a clear after the entries were dropped.
 #[ignore = "the clone of a `Storing` cannot fail"]
 #[test]
 fn each_key_and_value_is_cloned_once() {

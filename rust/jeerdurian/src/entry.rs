@@ -1,0 +1,75 @@
+//! A handle on an entry of a map.
+
+use crate::erased::schnellru as proved;
+use crate::limiter::{Calls, Limiter};
+use core::fmt::{Debug, Formatter, Result};
+use core::hash::{BuildHasher, Hash};
+
+/// An entry that [`More::find_entry`](crate::More::find_entry) has found. Its calls do not search again.
+///
+/// What the docs of its calls say of the entries, of their order and of what they return is proved of the sources.
+pub struct OccupiedEntry<'a, K, V, L: Limiter<K, V>, S> {
+    pub(crate) entry: proved::OccupiedEntry<'a, K, V, Calls<L>, S>,
+}
+
+impl<'a, K: Hash + PartialEq, V, L: Limiter<K, V>, S: BuildHasher> OccupiedEntry<'a, K, V, L, S> {
+    /// Returns the stored key, not the equal key that was looked up.
+    #[inline]
+    pub fn key(&self) -> &K {
+        self.entry.key()
+    }
+
+    /// Returns the value.
+    #[inline]
+    pub fn get(&self) -> &V {
+        self.entry.get()
+    }
+
+    /// Lends the value for writing. The order of use stays. The limiter is not notified of writes.
+    #[inline]
+    pub fn get_mut(&mut self) -> &mut V {
+        self.entry.get_mut()
+    }
+
+    /// Lends the value for writing as long as the map is borrowed, as `get_mut` does.
+    #[inline]
+    pub fn into_mut(self) -> &'a mut V {
+        self.entry.into_mut()
+    }
+
+    /// Makes the entry the newest.
+    #[inline]
+    pub fn promote(&mut self) {
+        self.entry.promote();
+    }
+
+    /// Makes the entry the oldest, the next to be evicted.
+    #[inline]
+    pub fn demote(&mut self) {
+        self.entry.demote();
+    }
+
+    /// Removes the entry. Returns the stored key and the value, as the limiter leaves them.
+    #[inline]
+    pub fn remove_entry(self) -> (K, V) {
+        self.entry.remove_entry()
+    }
+
+    /// Removes the entry. Returns the value, as the limiter leaves it.
+    #[inline]
+    pub fn remove(self) -> V {
+        self.remove_entry().1
+    }
+}
+
+impl<K, V, L, S> Debug for OccupiedEntry<'_, K, V, L, S>
+where
+    K: Hash + PartialEq + Debug,
+    V: Debug,
+    L: Limiter<K, V>,
+    S: BuildHasher,
+{
+    fn fmt(&self, f: &mut Formatter<'_>) -> Result {
+        f.debug_struct("OccupiedEntry").field("key", self.key()).field("value", self.get()).finish()
+    }
+}

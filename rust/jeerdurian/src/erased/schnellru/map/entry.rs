@@ -1,0 +1,178 @@
+// Erased from crates/schnellru/src/map/entry.rt: do not edit.
+//! A handle on an entry that was searched for once.
+
+#[allow(unused_imports)]
+use crate::rattle_std::prelude::*;
+
+use crate::erased::lru_limits::{KeyHasher, Limiter, LookupKey};
+use crate::erased::schnellru::map::LruMap;
+use crate::rattle_std::hash::Hash;
+
+/// A handle on an entry of a map, which `LruMap::find_entry` has found. No call of the handle searches again.
+///
+/// ```text
+/// if let Some(mut entry) = map.find_entry(&1) {
+///     *entry.get_mut() = 100;
+///     entry.promote();
+/// }
+/// assert!(rt; map.peek_newest() == Some((&1, &100)));
+/// ```
+///
+/// Follows `OccupiedEntry` of std's `HashMap`.
+
+pub struct OccupiedEntry<'a, K, V, L: Limiter<K, V>, S> {
+    map: &'a mut LruMap<K, V, L, S>,
+    bucket: usize,
+}
+
+impl<K: Eq + Hash, V, L: Limiter<K, V>, S: KeyHasher<K>> LruMap<K, V, L, S> {
+    /// Searches for a key, and returns a handle on its entry. Returns `None` if the key is not there. The order stays.
+    ///
+    /// With the handle, the caller reads, writes, promotes, demotes or removes the entry without a second search.
+    ///
+    /// ```text
+    /// if let Some(entry) = map.find_entry(&1) {
+    ///     if *entry.get() == 10 {
+    ///         entry.remove_entry();
+    ///     }
+    /// }
+    /// assert!(rt; !map.contains(&1) && map.find_entry(&9).is_none());
+    /// ```
+    ///
+    /// Cost: `O(1)` expected.
+    ///
+    /// Follows `find_entry` of hashbrown's `HashTable`.
+    #[inline]
+    pub fn find_entry<Q: LookupKey<K>>(&mut self, key: &Q) -> Option<OccupiedEntry<'_, K, V, L, S>> {
+        let bucket = self.find(key)?;
+        Some(OccupiedEntry { map: self, bucket })
+    }
+
+    /// Searches for an entry that `is_eq` accepts, and returns a handle on it. The order stays. For the calls of
+    /// `is_eq`, see `get_by_hash`.
+    ///
+    /// ```text
+    /// let hash = RandomState::default().hash_one(&1u64);
+    /// if let Some(mut entry) = map.find_entry_by_hash(hash, |key, _| *key == 1) {
+    ///     entry.promote();
+    /// }
+    /// assert!(rt; map.peek_newest() == Some((&1, &10)));
+    /// ```
+    ///
+    /// Cost: as `get_by_hash`.
+    ///
+    /// Follows `find_entry` of hashbrown's `HashTable`.
+    #[inline]
+    pub fn find_entry_by_hash<F: FnMut(&K, &V) -> bool>(
+        &mut self,
+        hash: u64,
+        is_eq: F,
+    ) -> Option<OccupiedEntry<'_, K, V, L, S>> {
+        let bucket = self.find_by(hash, is_eq)?;
+        Some(OccupiedEntry { map: self, bucket })
+    }
+}
+
+impl<'a, K: Eq + Hash, V, L: Limiter<K, V>, S: KeyHasher<K>> OccupiedEntry<'a, K, V, L, S> {
+    /// Returns the stored key, not the equal key that was looked up.
+    ///
+    /// ```text
+    /// assert!(rt; map.find_entry(&1).is_some_and(|entry| *entry.key() == 1));
+    /// ```
+    ///
+    /// Cost: `O(1)`.
+    #[inline]
+    pub fn key(&self) -> &K {
+        &self.map.pair_in(self.bucket).key
+    }
+
+    /// Returns the value.
+    ///
+    /// ```text
+    /// assert!(rt; map.find_entry(&1).is_some_and(|entry| *entry.get() == 10));
+    /// ```
+    ///
+    /// Cost: `O(1)`.
+    #[inline]
+    pub fn get(&self) -> &V {
+        &self.map.pair_in(self.bucket).value
+    }
+
+    /// Lends the value for writing. The order stays. The limiter is not notified of writes.
+    ///
+    /// ```text
+    /// if let Some(mut entry) = map.find_entry(&1) {
+    ///     *entry.get_mut() = 100;
+    /// }
+    /// assert!(rt; map.peek_oldest() == Some((&1, &100)));
+    /// ```
+    ///
+    /// Cost: `O(1)`.
+    #[inline]
+    pub fn get_mut(&mut self) -> &mut V {
+        let bucket = self.bucket;
+        self.map.value_in_mut(bucket)
+    }
+
+    /// Lends the value for writing, until the loan of the map ends. The order stays. The limiter is not notified of
+    /// writes.
+    ///
+    /// ```text
+    /// if let Some(entry) = map.find_entry(&1) {
+    ///     let value = entry.into_mut();
+    ///     *value = 100;
+    /// }
+    /// assert!(rt; map.peek_oldest() == Some((&1, &100)));
+    /// ```
+    ///
+    /// Cost: `O(1)`.
+    #[inline]
+    pub fn into_mut(self) -> &'a mut V {
+        let OccupiedEntry { map, bucket } = self;
+        map.value_in_mut(bucket)
+    }
+
+    /// Makes the entry the newest.
+    ///
+    /// ```text
+    /// if let Some(mut entry) = map.find_entry(&1) {
+    ///     entry.promote();
+    /// }
+    /// assert!(rt; map.peek_newest() == Some((&1, &10)));
+    /// ```
+    ///
+    /// Cost: `O(1)`.
+    #[inline]
+    pub fn promote(&mut self) {
+        self.map.promote_at(self.bucket);
+    }
+
+    /// Makes the entry the oldest.
+    ///
+    /// ```text
+    /// if let Some(mut entry) = map.find_entry(&3) {
+    ///     entry.demote();
+    /// }
+    /// assert!(rt; map.peek_oldest() == Some((&3, &30)));
+    /// ```
+    ///
+    /// Cost: `O(1)`.
+    pub fn demote(&mut self) {
+        self.map.demote_at(self.bucket);
+    }
+
+    /// Removes the entry. Returns the stored key and its value. The other entries keep their order.
+    ///
+    /// ```text
+    /// let removed = map.find_entry(&1).map(|entry| entry.remove_entry());
+    /// assert!(rt; removed == Some((1, 10)) && !map.contains(&1));
+    /// ```
+    ///
+    /// Cost: `O(1)`.
+    // In the contract, `self.exit.0` is the reference to the map.
+    #[inline]
+    pub fn remove_entry(self) -> (K, V) {
+        let bucket = self.bucket;
+        self.map.take_at(bucket)
+    }
+}
