@@ -38,17 +38,19 @@ fn take_below(map: &mut LruMap<String, u64>, text: &str, least: u64) -> Option<(
     None
 }
 
-/// Writes the value of a text and makes its entry the oldest, with one search. Returns whether the text is there.
+/// Writes the value of a text and makes its entry the oldest, if the text is there, with one search. Returns whether
+/// the text is there.
 fn put_last(map: &mut LruMap<String, u64>, text: &str, value: u64) -> bool
-    ensures there { result ≡ true → map.new
-        ≡ written (names_text text.now) value (demoted (names_text text.now) map.old) }
-    ensures absent { result ≡ false → map.new ≡ map.old }
+    ensures there { result ≡ is_some (lookup (names_text text.now) map.old.pairs) }
+    ensures map { map.new ≡ written (names_text text.now) value (demoted (names_text text.now) map.old) }
 {
-    if let Some(mut entry) = map.find_entry(&text) {
-        entry.demote();
-        let place = entry.into_mut();
-        *place = value;
-        return true;
+    match map.find_entry(&text) {
+        Some(mut entry) => {
+            entry.demote();
+            let place = entry.into_mut();
+            *place = value;
+            true
+        }
+        None => false,
     }
-    false
 }
