@@ -30,13 +30,16 @@ fn take_below(map: &mut LruMap<String, u64>, text: &str, least: u64) -> Option<(
     None
 }
 
-/// Writes the value of a text and makes its entry the oldest, with one search. Returns whether the text is there.
+/// Writes the value of a text and makes its entry the oldest, if the text is there, with one search. Returns whether
+/// the text is there.
 fn put_last(map: &mut LruMap<String, u64>, text: &str, value: u64) -> bool {
-    if let Some(mut entry) = map.find_entry(&text) {
-        entry.demote();
-        let place = entry.into_mut();
-        *place = value;
-        return true;
+    match map.find_entry(&text) {
+        Some(mut entry) => {
+            entry.demote();
+            let place = entry.into_mut();
+            *place = value;
+            true
+        }
+        None => false,
     }
-    false
 }
