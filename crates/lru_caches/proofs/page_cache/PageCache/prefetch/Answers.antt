@@ -22,7 +22,7 @@ loop-n-preserved g c =
     let one : n + 1 - start ≡ suc (n - start) = omega (arith, h.from) in
     let at : start + (n - start) ≡ n = omega (arith, h.from) in
     let usable : d.is_usable old.device ≡ false → IsCached n old =
-    λ unusable. elim did.broken unusable [| inl cached ↦ cached | inr failed ↦ cc] in
+    λ unusable. elim (did.broken unusable) [| inl cached ↦ cached | inr failed ↦ cc] in
     record {
       from = omega (arith, h.from);
       to = inl (omega (arith, c.loop-n-test.true));
@@ -54,7 +54,7 @@ returns-in_err-bring-clause-failed g c =
       h.reads,
       subst (λ m. ReadFails d m c.loop-n.self c.in_err-bring.field-0.0 c.bring.new.self) (sym at) (record {
         absent = absent;
-        broken = λ unusable. elim did.broken unusable [
+        broken = λ unusable. elim (did.broken unusable) [
           | inl cached ↦ absurd (absent cached)
           | inr failed ↦ ap (error_or c.in_err-bring.field-0.0) failed
         ];
