@@ -42,6 +42,7 @@ pub data Named (K : Type 0) : Type 0 where
   a_key : K → Named K
   the_newest : Named K
 
+-- what one call does
 pub record Does (K V S H : Type 0) : Type 1 where
   pub names : Named K
   -- the call may turn the map `old` into `new` and give this reply
@@ -66,15 +67,15 @@ module _ {K V S H : Type 0} where
   abbrev pub reads : (Contents K V S → Reply K V) → Does K V S H
   reads says = turns nothing says (λ old. old)
 
-  -- The contents determine the reply and the contents `left`, after some pairs left the map.
+  -- The contents determine the reply, and become `after` of themselves. Pairs may leave the map.
   abbrev pub takes : Named K → (Contents K V S → Reply K V) → (Contents K V S → Contents K V S) → Does K V S H
-  takes names says left = record {
+  takes names says after = record {
     names = names;
-    on_map = λ old reply new. (reply ≡ says (contents old)) × Leaves old (left (contents old)) new;
-    on_list = λ h c reply d. (reply ≡ says c) × (d ≡ left c);
+    on_map = λ old reply new. (reply ≡ says (contents old)) × Leaves old (after (contents old)) new;
+    on_list = λ h c reply d. (reply ≡ says c) × (d ≡ after c);
   }
 
-  -- The reply is `says` of the call's result. The steps permit results, and what the call leaves.
+  -- The reply is `says` of the call's result. The two steps say which results, maps and contents are permitted.
   abbrev pub gives : {R : Type 0} → Named K → (R → Reply K V) → (State K V S H → R → State K V S H → Type 0)
       → (H → Contents K V S → R → Contents K V S → Type 0) → Does K V S H
   gives {R} names says IsStep IsListStep = record {
@@ -100,7 +101,7 @@ beside list c = record { pairs = c.pairs; limiter = (c.limiter, list) }
 
 module _ {K V S H : Type 0} (rules : Rules K V S) (offers : Offers K V S K) (eq : K → K → Bool)
     (hash_of : H → K → ℕ) where
-  -- a search by a hash, after which the map is `after` of the result and of itself
+  -- The call searches by a hash, and the map becomes `after` of the result and of itself.
   abbrev pub finds : Named K → ℕ → K → (Option V → State K V S H → State K V S H) → Does K V S H
   finds names hash key after = gives names value
       (λ old result new. FindsByHash eq (hash_of old.hasher) hash key old.pairs result × (new ≡ after result old))
