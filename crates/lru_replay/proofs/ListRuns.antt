@@ -1,5 +1,5 @@
 -- If growth is permitted, calls do to a map what they do to a list of pairs without a table.
-use Rattle.std.proofs.Common.{◌≡◌, ℕ, Bool, true, false, cond, List, [], ◌∷◌, Option, Some, None, Result, ap}
+use Rattle.std.proofs.Common.{◌≡◌, ℕ, Bool, true, false, cond, List, [], ◌∷◌, Some, None, Result, ap}
 use Rattle.std.proofs.Common.{sym, ◌∙◌, ◌⊎◌, subst, inl, inr, arith, ◌+◌, ◌*◌, ◌≤◌, suc, length}
 use Rattle.std.specs.List.{IsDistinct}
 use Rattle.std.specs.declared.alloc.AllocError.{AllocError}
@@ -7,6 +7,7 @@ use Rattle.lru_limits.specs.Rules.{Rules, Offers}
 use Rattle.lru_model.proofs.CallerLemmas.{any_step_same, has_tables, shrink_contents}
 use Rattle.lru_model.proofs.PassingLemmas.{insert_granted}
 use Rattle.lru_model.specs.Exact.{AlwaysGrants, HasTables, HasTableFor, InsertsInList}
+use Rattle.lru_model.specs.Calls.{cleared}
 use Rattle.lru_model.specs.GetOrInserts.{MakesNewest, got, inserted}
 use Rattle.lru_model.specs.Callbacks.{noting, noting_offers, noted, InsertPasses}
 use Rattle.lru_model.specs.Inserts.{Insert}
@@ -19,10 +20,9 @@ use Rattle.lru_model.specs.State.{State, Contents, contents, IsMap}
 use Rattle.lru_model.specs.Updates.{Update, updated, rejected, not_there}
 use Rattle.lru_model.specs.declared.results.Updated.{Updated}
 use Rattle.lru_model.specs.declared.results.ReserveError.{ReserveError}
-use Rattle.lru_replay.specs.CallRuns.{IsRun, CallStep}
-use Rattle.lru_replay.specs.ListRuns.{ListStep, ListCallStep, beside, emptied, updated_in_list}
-use Rattle.lru_replay.specs.Replies.{Reply, updated as says_updated, value, pair, listed, made_reply}
-use Rattle.lru_replay.specs.Steps.{ReplyStep}
+use Rattle.lru_replay.specs.CallRuns.{IsRun, CallStep, ListCallStep}
+use Rattle.lru_replay.specs.Replies.{Reply, value, made_reply}
+use Rattle.lru_replay.specs.Steps.{ReplyStep, ListStep, beside, updated_in_list}
 use Rattle.lru_replay.specs.declared.calls.Call.{Call}
 use Rattle.lru_replay.specs.declared.calls.Call.TheVariants as calls
 
@@ -37,17 +37,12 @@ newest_found names others (x ∷ xs) w found = go (names x.0) found (newest_foun
     go true found later = found
     go false found later = later found
 
-both : {R C : Type 0} {says is : R} {leaves left : C} → is ≡ says → left ≡ leaves
-    → ◌≡◌ {A = Option (R × C)} (Some (says, leaves)) (Some (is, left))
-both e f = λ j. Some (sym e j, sym f j)
-
-pub update_is : {K V S H : Type 0} {rules : Rules K V S} {offers : Offers K V S K} {eq : K → K → Bool} {key : K} {v : V}
+update_is : {K V S H : Type 0} {rules : Rules K V S} {offers : Offers K V S K} {eq : K → K → Bool} {key : K} {v : V}
     {old new : State K V S H} {result : Updated V} → Update rules offers eq key v old result new
-    → (result ≡ (updated_in_list rules offers eq key v (contents old)).0)
-    × (contents new ≡ (updated_in_list rules offers eq key v (contents old)).1)
-update_is (updated there found y r l) = rw found (rw y (r, ap contents l.is))
-update_is (rejected there found y r l) = rw found (rw y (r, ap contents l.is))
-update_is (not_there none r e) = rw none (r, ap contents e)
+    → updated_in_list rules offers eq key v (contents old) ≡ (result, contents new)
+update_is (updated there found y r l) = rw found (rw y (λ j. (sym r j, sym (ap contents l.is) j)))
+update_is (rejected there found y r l) = rw found (rw y (λ j. (sym r j, sym (ap contents l.is) j)))
+update_is (not_there none r e) = rw none (λ j. (sym r j, sym (ap contents e) j))
 
 module _ {K V S H : Type 0} (rules : Rules K V S) (offers : Offers K V S K) (eq : K → K → Bool)
     (hash_of : H → K → ℕ) where
@@ -98,24 +93,23 @@ module _ {K V S H : Type 0} (rules : Rules K V S) (offers : Offers K V S K) (eq 
       in_list : (call : Call K V S) (reply : Reply K V) → ReplyStep rules offers eq hash_of old call reply new
           → ListStep rules offers eq (hash_of old.hasher) (contents old) call reply (contents new)
       in_list (calls.Insert k v) reply (result, h, is) = (result, law k v old result new grants tables h, is)
-      in_list (calls.InsertWith k v) reply (result, out, h, is) = (result, out, passed_in_list k v result out h, is)
+      in_list (calls.InsertWith k v) reply (r, h, is) = (r, passed_in_list k v r.0 r.1 h, is)
       in_list (calls.GetOrInsert k v) reply (result, h, is) = made_in_list k v result reply h is
-      in_list (calls.Update k v) reply (result, h, is) =
-          let (r, left) = update_is h in both (is ∙ ap says_updated r) left
-      in_list (calls.GetByHash hash k) reply (Some w, h, is, e) = (Some w, h, is, ap contents e)
-      in_list (calls.GetByHash hash k) reply (None, h, is, e) = (None, h, is, ap contents e)
-      in_list (calls.PeekByHash hash k) reply (result, h, is, e) = (result, h, is, ap contents e)
-      in_list (calls.Remove k) reply (result, h, is) = both (is ∙ ap value h.value) (ap contents h.state.is)
-      in_list (calls.RemoveEntry k) reply (result, h, is) = both (is ∙ ap pair h.pair) (ap contents h.state.is)
-      in_list calls.PopOldest reply (result, h, is) = both (is ∙ ap pair h.pair) (ap contents h.state.is)
-      in_list calls.PopNewest reply (result, h, is) = both (is ∙ ap pair h.pair) (ap contents h.state.is)
-      in_list (calls.Reserve n) reply (result, h, is) = (result, is, reserve_same old new n result h)
-      in_list calls.Shrink reply (result, h, is) = (result, is, shrink_contents old result new h)
-      in_list calls.Trim reply (is, h) = both is (ap contents h.is)
-      in_list (calls.Drain front back) reply (pairs, h, is) = both (is ∙ ap listed h.pairs)
-          (ap contents h.state.2 ∙ ap (λ st. emptied rules (contents st)) h.state.1.is)
-      in_list calls.Stats reply (figures, h, is, e) = (figures, h.len, is, ap contents e)
-      in_list call reply h = both h.0 (ap contents h.1)
+      in_list (calls.Update k v) reply (result, h, is) = (result, update_is h, is)
+      in_list (calls.GetByHash hash k) reply (Some w, (h, e), is) = (Some w, (h, ap contents e), is)
+      in_list (calls.GetByHash hash k) reply (None, (h, e), is) = (None, (h, ap contents e), is)
+      in_list (calls.PeekByHash hash k) reply (result, (h, e), is) = (result, (h, ap contents e), is)
+      in_list (calls.Remove k) reply (is, left) = (is, ap contents left.is)
+      in_list (calls.RemoveEntry k) reply (is, left) = (is, ap contents left.is)
+      in_list calls.PopOldest reply (is, left) = (is, ap contents left.is)
+      in_list calls.PopNewest reply (is, left) = (is, ap contents left.is)
+      in_list (calls.Reserve n) reply (result, h, is) = (result, reserve_same old new n result h, is)
+      in_list calls.Shrink reply (result, h, is) = (result, shrink_contents old result new h, is)
+      in_list calls.Trim reply (is, left) = (is, ap contents left.is)
+      in_list (calls.Drain front back) reply (out, h, is) =
+          (out, (h.pairs, ap contents h.state.2 ∙ ap (λ st. contents (cleared rules st)) h.state.1.is), is)
+      in_list calls.Stats reply (figures, (h, e), is) = (figures, (h.len, ap contents e), is)
+      in_list call reply h = (h.0, ap contents h.1)
 
       pub call_in_list : (call : Call K V S) (reply : Reply K V) → CallStep rules offers eq hash_of old call reply new
           → ListCallStep rules offers eq (hash_of old.hasher) (contents old) call reply (contents new)

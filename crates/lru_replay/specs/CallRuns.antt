@@ -8,7 +8,7 @@ use Rattle.lru_model.specs.State.{State, Contents, contents}
 use Rattle.lru_replay.specs.declared.calls.Call.{Call}
 use Rattle.lru_replay.specs.declared.calls.Call.TheVariants as calls
 use Rattle.lru_replay.specs.Replies.{Reply, no_memory, cost_differs}
-use Rattle.lru_replay.specs.Steps.{ReplyStep}
+use Rattle.lru_replay.specs.Steps.{Named, nothing, a_key, the_newest, does, ReplyStep, ListStep}
 
 -- Steps one after another, with one call and one reply for each step. `Holds` is true for the state after each step.
 module _ {S C R : Type 0} (IsStep : S → C → R → S → Type 0) (Holds : S → Type 0) where
@@ -33,23 +33,6 @@ module _ {K V S : Type 0} where
   StepIfMemory IsStep old call reply new = IsStep old call reply new
       ⊎ (StoresPairs call × (reply ≡ no_memory) × (new ≡ old))
 
-  -- If the call names a key, and may move, write or remove its pair, the key passes the test. The call does not pop the
-  -- newest pair.
-  abbrev pub NamesAmong : (K → K → Bool) → (K → Bool) → Call K V S → Type 0
-  NamesAmong eq test (calls.Insert key v) = AreAmong (eq key) test
-  NamesAmong eq test (calls.InsertWith key v) = AreAmong (eq key) test
-  NamesAmong eq test (calls.GetOrInsert key v) = AreAmong (eq key) test
-  NamesAmong eq test (calls.Update key v) = AreAmong (eq key) test
-  NamesAmong eq test (calls.Get key) = AreAmong (eq key) test
-  NamesAmong eq test (calls.Promote key) = AreAmong (eq key) test
-  NamesAmong eq test (calls.Demote key) = AreAmong (eq key) test
-  NamesAmong eq test (calls.GetByHash hash key) = AreAmong (eq key) test
-  NamesAmong eq test (calls.Write key v) = AreAmong (eq key) test
-  NamesAmong eq test (calls.Remove key) = AreAmong (eq key) test
-  NamesAmong eq test (calls.RemoveEntry key) = AreAmong (eq key) test
-  NamesAmong eq test calls.PopNewest = ⊥
-  NamesAmong eq test call = Unit {0}
-
   abbrev pub SetsNoLimiter : Call K V S → Type 0
   SetsNoLimiter (calls.SetLimiter s) = ⊥
   SetsNoLimiter call = Unit {0}
@@ -63,8 +46,21 @@ module _ {K V S : Type 0} (eq : K → K → Bool) (cost : K → V → ℕ) (acco
   KeepsCost old (calls.SetLimiter s) = account s ≡ account old.limiter
   KeepsCost old call = Unit {0}
 
+-- If a key is named, it passes the test. The newest pair is not named.
+abbrev pub IsAmong : {K : Type 0} → (K → K → Bool) → (K → Bool) → Named K → Type 0
+IsAmong eq test nothing = Unit {0}
+IsAmong eq test (a_key key) = AreAmong (eq key) test
+IsAmong eq test the_newest = ⊥
+
+module _ {K V S : Type 0} (rules : Rules K V S) (offers : Offers K V S K) (eq : K → K → Bool) (hash_of : K → ℕ) where
+  abbrev pub ListCallStep : Contents K V S → Call K V S → Reply K V → Contents K V S → Type 0
+  ListCallStep = StepIfMemory (ListStep rules offers eq hash_of)
+
 module _ {K V S H : Type 0} (rules : Rules K V S) (offers : Offers K V S K) (eq : K → K → Bool)
     (hash_of : H → K → ℕ) where
+  abbrev pub NamesAmong : (K → Bool) → Call K V S → Type 0
+  NamesAmong test call = IsAmong eq test (does rules offers eq hash_of call).names
+
   abbrev pub CallStep : State K V S H → Call K V S → Reply K V → State K V S H → Type 0
   CallStep = StepIfMemory (ReplyStep rules offers eq hash_of)
 
@@ -78,7 +74,7 @@ module _ {K V S H : Type 0} (rules : Rules K V S) (offers : Offers K V S K) (eq 
   pub record AreSteps (calls : List (Call K V S)) (old new : State K V S H) : Type 0 where
     pub any : Run (AnyStep rules offers eq hash_of) new old
     -- if the calls name only keys that pass a test, so do the steps
-    pub among : (test : K → Bool) → AllByRecursion (NamesAmong eq test) calls
+    pub among : (test : K → Bool) → AllByRecursion (NamesAmong test) calls
         → Run (StepAmong rules offers eq hash_of test) new old
     -- if no call sets a limiter, no step does
     pub limited : AllByRecursion SetsNoLimiter calls → Run (StepOrWrite rules offers eq hash_of) new old

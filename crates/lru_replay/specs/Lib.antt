@@ -4,7 +4,6 @@ pub mod Figures
 pub mod Replies
 pub mod Steps
 pub mod CallRuns
-pub mod ListRuns
 pub mod Grammar
 pub mod Lines
 pub mod Output

@@ -1,27 +1,28 @@
--- What each call returns, and the map that it leaves.
+-- What each call does: to a map, and to a list of pairs (newest first) with a limiter, as if there were no table and a
+-- bucket were always free.
 --     rules, offers       the limiter's `Rules` and `Offers` (`lru_limits`)
 --     eq                  when two keys are equal
 --     hash_of h k         the hash of k by the hasher h
-use Rattle.std.specs.Prelude.{◌≡◌, ℕ, Bool, List, Option, Some, None, Result, is_some}
-use Rattle.std.specs.Prelude.{if◌then◌else◌}
+use Rattle.std.specs.Prelude.{◌≡◌, ℕ, ◌++◌, Bool, List, [], Option, Some, None, Result, MatchOption, is_some, length}
+use Rattle.std.specs.Prelude.{option_map, unwrap_or, if◌then◌else◌}
 use Rattle.std.specs.declared.alloc.AllocError.{AllocError}
 use Rattle.group_table.specs.Probe.{hash_tag}
 use Rattle.lru_limits.specs.Rules.{Rules, Offers}
-use Rattle.lru_model.specs.Calls.{promoted, demoted, written, Remove, RemoveEntry, PopOldest, PopNewest, cleared}
-use Rattle.lru_model.specs.Drains.{Drained}
+use Rattle.lru_model.specs.Calls.{promoted, demoted, written, left_of, removal, pop_first, cleared}
+use Rattle.lru_model.specs.Drains.{Drained, pops_first, newest_given, oldest_given}
+use Rattle.lru_model.specs.Exact.{InsertsInList}
 use Rattle.lru_model.specs.GetOrInserts.{MakesNewest}
-use Rattle.lru_model.specs.Callbacks.{InsertPasses}
-use Rattle.lru_model.specs.Inserts.{Insert}
+use Rattle.lru_model.specs.Callbacks.{InsertPasses, noting, noting_offers}
+use Rattle.lru_model.specs.Inserts.{Insert, replacement, with_removed}
 use Rattle.lru_model.specs.Lists.{first, last, lookup, lookup_entry}
 use Rattle.lru_model.specs.Reservations.{Reserve}
 use Rattle.lru_model.specs.Shrinks.{Shrink}
-use Rattle.lru_model.specs.State.{State, Trims}
-use Rattle.lru_model.specs.Updates.{Update}
+use Rattle.lru_model.specs.State.{State, Contents, contents, Leaves, empty_map, pop, pops, trim}
+use Rattle.lru_model.specs.Updates.{Update, with_updated}
 use Rattle.lru_model.specs.declared.results.Updated.{Updated}
-use Rattle.lru_model.specs.declared.results.ReserveError.{ReserveError}
+use Rattle.lru_model.specs.declared.results.Updated.TheVariants.{Replaced, Rejected, Absent}
 use Rattle.lru_replay.specs.declared.calls.Call.{Call}
 use Rattle.lru_replay.specs.declared.calls.Call.TheVariants as calls
-use Rattle.lru_replay.specs.declared.lines.figures.Figures.{Figures}
 use Rattle.lru_replay.specs.Figures.{IsFigures}
 use Rattle.lru_replay.specs.Replies.{Reply, flag, given, updated, value, pair, listed, reserved, shrunk, stats, done}
 use Rattle.lru_replay.specs.Replies.{insert_reply, made_reply}
@@ -35,54 +36,133 @@ module _ {K V : Type 0} (eq : K → K → Bool) (hash_of : K → ℕ) where
     not_found : ((there : K × V) → lookup_entry (eq key) pairs ≡ Some there → hash_of there.0 ≡ hash → ⊥)
         → result ≡ None → FindsByHash hash key pairs result
 
+-- what a call names: nothing, a key whose pair it may move, write or remove, or the newest pair, which it pops
+pub data Named (K : Type 0) : Type 0 where
+  nothing : Named K
+  a_key : K → Named K
+  the_newest : Named K
+
+-- what one call does
+pub record Does (K V S H : Type 0) : Type 1 where
+  pub names : Named K
+  -- the call may turn the map `old` into `new` and give this reply
+  pub on_map : (old : State K V S H) (reply : Reply K V) (new : State K V S H) → Type 0
+  -- the call may turn the contents c into d and give this reply, if the hasher is h
+  pub on_list : (h : H) (c : Contents K V S) (reply : Reply K V) (d : Contents K V S) → Type 0
+
+module _ {K V S H : Type 0} where
+  -- a map with these contents and no table
+  abbrev pub bare : H → Contents K V S → State K V S H
+  bare h c = record (empty_map c.limiter h 0 0) { pairs = c.pairs }
+
+  -- The contents determine the reply, and the map becomes `after` of itself.
+  abbrev pub turns : Named K → (Contents K V S → Reply K V) → (State K V S H → State K V S H) → Does K V S H
+  turns names says after = record {
+    names = names;
+    on_map = λ old reply new. (reply ≡ says (contents old)) × (new ≡ after old);
+    on_list = λ h c reply d. (reply ≡ says c) × (d ≡ contents (after (bare h c)));
+  }
+
+  -- The contents determine the reply, and nothing changes.
+  abbrev pub reads : (Contents K V S → Reply K V) → Does K V S H
+  reads says = turns nothing says (λ old. old)
+
+  -- The contents determine the reply, and become `after` of themselves. Pairs may leave the map.
+  abbrev pub takes : Named K → (Contents K V S → Reply K V) → (Contents K V S → Contents K V S) → Does K V S H
+  takes names says after = record {
+    names = names;
+    on_map = λ old reply new. (reply ≡ says (contents old)) × Leaves old (after (contents old)) new;
+    on_list = λ h c reply d. (reply ≡ says c) × (d ≡ after c);
+  }
+
+  -- The reply is `says` of the call's result. The two steps say which results, maps and contents are permitted.
+  abbrev pub gives : {R : Type 0} → Named K → (R → Reply K V) → (State K V S H → R → State K V S H → Type 0)
+      → (H → Contents K V S → R → Contents K V S → Type 0) → Does K V S H
+  gives {R} names says IsStep IsListStep = record {
+    names = names;
+    on_map = λ old reply new. (result : R) × IsStep old result new × (reply ≡ says result);
+    on_list = λ h c reply d. (result : R) × IsListStep h c result d × (reply ≡ says result);
+  }
+
+module _ {K V S : Type 0} (rules : Rules K V S) (offers : Offers K V S K) (eq : K → K → Bool) (key : K) (v : V)
+    (c : Contents K V S) where
+  -- what an update of the pair `there` returns and leaves
+  abbrev pub updates_pair : K × V → Updated V × Contents K V S
+  updates_pair there = let r = replacement rules offers eq there key v c in
+      if r.taken then (Replaced r.old_value, trim rules (with_updated rules offers eq there key v c))
+      else (Rejected r.new_value, with_removed rules offers eq there key v c)
+
+  abbrev pub updated_in_list : Updated V × Contents K V S
+  updated_in_list = unwrap_or (option_map updates_pair (lookup_entry (eq key) c.pairs)) (Absent v, c)
+
+-- the contents, with the list added to the limiter's state
+abbrev pub beside : {K V S : Type 0} → List (K × V) → Contents K V S → Contents K V (S × List (K × V))
+beside list c = record { pairs = c.pairs; limiter = (c.limiter, list) }
+
 module _ {K V S H : Type 0} (rules : Rules K V S) (offers : Offers K V S K) (eq : K → K → Bool)
     (hash_of : H → K → ℕ) where
-  -- the call may turn the map `old` into `new` and give this reply
+  -- The call searches by a hash, and the map becomes `after` of the result and of itself.
+  abbrev pub finds : Named K → ℕ → K → (Option V → State K V S H → State K V S H) → Does K V S H
+  finds names hash key after = gives names value
+      (λ old result new. FindsByHash eq (hash_of old.hasher) hash key old.pairs result × (new ≡ after result old))
+      (λ h c result d. FindsByHash eq (hash_of h) hash key c.pairs result × (d ≡ contents (after result (bare h c))))
+
+  -- What each call does. The table determines the results of a reservation and of a shrink, and all figures except the
+  -- number of pairs. So the step on a list permits any of them.
+  abbrev pub does : Call K V S → Does K V S H
+  does (calls.Insert key v) = gives (a_key key) insert_reply (Insert rules offers eq hash_of key v)
+      (λ h. InsertsInList rules offers eq key v)
+  does (calls.InsertWith key v) = gives (a_key key) (λ (r : Result Bool AllocError × List (K × V)). given r.0 r.1)
+      (λ old r new. InsertPasses rules offers eq hash_of key v old r.0 r.1 new)
+      (λ h c r d. InsertsInList (noting rules) (noting_offers offers) eq key v (beside [] c) r.0 (beside r.1 d))
+  does (calls.GetOrInsert key v) = record {
+    names = a_key key;
+    on_map = λ old reply new. (result : Result Bool AllocError)
+        × MakesNewest rules offers eq hash_of (λ made. made ≡ v) key old result new
+        × (reply ≡ made_reply result new.pairs);
+    on_list = λ h c reply d. MatchOption (lookup (eq key) c.pairs)
+        ((result : Result Bool AllocError) × InsertsInList rules offers eq key v c result d
+        × (reply ≡ made_reply result d.pairs))
+        (λ there. (reply ≡ value (Some there)) × (d ≡ contents (promoted (eq key) (bare h c))));
+  }
+  does (calls.Update key v) = gives (a_key key) updated (Update rules offers eq key v)
+      (λ h c result d. updated_in_list rules offers eq key v c ≡ (result, d))
+  does (calls.Get key) = turns (a_key key) (λ c. value (lookup (eq key) c.pairs)) (promoted (eq key))
+  does (calls.Peek key) = reads (λ c. value (lookup (eq key) c.pairs))
+  does (calls.Contains key) = reads (λ c. flag (is_some (lookup (eq key) c.pairs)))
+  does (calls.Promote key) = turns (a_key key) (λ c. flag (is_some (lookup (eq key) c.pairs))) (promoted (eq key))
+  does (calls.Demote key) = turns (a_key key) (λ c. flag (is_some (lookup (eq key) c.pairs))) (demoted (eq key))
+  does (calls.GetByHash hash key) =
+      finds (a_key key) hash key (λ result old. if is_some result then promoted (eq key) old else old)
+  does (calls.PeekByHash hash key) = finds nothing hash key (λ result old. old)
+  does (calls.Write key v) = turns (a_key key) (λ c. flag (is_some (lookup (eq key) c.pairs))) (written (eq key) v)
+  does (calls.Remove key) = takes (a_key key)
+      (λ c. value (option_map (λ p. p.1) (left_of rules c.limiter (lookup_entry (eq key) c.pairs))))
+      (removal rules (eq key))
+  does (calls.RemoveEntry key) = takes (a_key key)
+      (λ c. pair (left_of rules c.limiter (lookup_entry (eq key) c.pairs))) (removal rules (eq key))
+  does calls.PopOldest = takes nothing (λ c. pair (left_of rules c.limiter (last c.pairs))) (pop rules)
+  does calls.PopNewest = takes the_newest (λ c. pair (left_of rules c.limiter (first c.pairs))) (pop_first rules)
+  does calls.PeekOldest = reads (λ c. pair (last c.pairs))
+  does calls.PeekNewest = reads (λ c. pair (first c.pairs))
+  does (calls.Reserve n) = gives nothing reserved (Reserve rules n) (λ h c result d. d ≡ c)
+  does calls.Shrink = gives nothing shrunk Shrink (λ h c result d. d ≡ c)
+  does calls.Trim = takes nothing (λ c. done) (trim rules)
+  does calls.Clear = turns nothing (λ c. done) (cleared rules)
+  does (calls.Drain front back) = gives nothing listed (Drained rules front back)
+      (λ h c out d. let mid = pops_first rules front c in
+      (out ≡ newest_given rules front c ++ oldest_given rules back mid)
+      × (d ≡ contents (cleared rules (bare h (pops rules back mid)))))
+  does calls.List = reads (λ c. listed c.pairs)
+  does calls.Stats = gives nothing stats (λ old figures new. IsFigures old figures × (new ≡ old))
+      (λ h c figures d. (figures.len ≡ length c.pairs) × (d ≡ c))
+  does (calls.SetLimiter s) = turns nothing (λ c. done) (λ old. record old { limiter = s })
+
   abbrev pub ReplyStep : State K V S H → Call K V S → Reply K V → State K V S H → Type 0
-  ReplyStep old (calls.Insert key v) reply new = (result : Result Bool AllocError)
-      × Insert rules offers eq hash_of key v old result new × (reply ≡ insert_reply result)
-  ReplyStep old (calls.InsertWith key v) reply new = (result : Result Bool AllocError) × (out : List (K × V))
-      × InsertPasses rules offers eq hash_of key v old result out new × (reply ≡ given result out)
-  ReplyStep old (calls.GetOrInsert key v) reply new = (result : Result Bool AllocError)
-      × MakesNewest rules offers eq hash_of (λ made. made ≡ v) key old result new
-      × (reply ≡ made_reply result new.pairs)
-  ReplyStep old (calls.Update key v) reply new = (result : Updated V)
-      × Update rules offers eq key v old result new × (reply ≡ updated result)
-  ReplyStep old (calls.Get key) reply new =
-      (reply ≡ value (lookup (eq key) old.pairs)) × (new ≡ promoted (eq key) old)
-  ReplyStep old (calls.Peek key) reply new = (reply ≡ value (lookup (eq key) old.pairs)) × (new ≡ old)
-  ReplyStep old (calls.Contains key) reply new =
-      (reply ≡ flag (is_some (lookup (eq key) old.pairs))) × (new ≡ old)
-  ReplyStep old (calls.Promote key) reply new =
-      (reply ≡ flag (is_some (lookup (eq key) old.pairs))) × (new ≡ promoted (eq key) old)
-  ReplyStep old (calls.Demote key) reply new =
-      (reply ≡ flag (is_some (lookup (eq key) old.pairs))) × (new ≡ demoted (eq key) old)
-  ReplyStep old (calls.GetByHash hash key) reply new = (result : Option V)
-      × FindsByHash eq (hash_of old.hasher) hash key old.pairs result × (reply ≡ value result)
-      × (new ≡ (if is_some result then promoted (eq key) old else old))
-  ReplyStep old (calls.PeekByHash hash key) reply new = (result : Option V)
-      × FindsByHash eq (hash_of old.hasher) hash key old.pairs result × (reply ≡ value result) × (new ≡ old)
-  ReplyStep old (calls.Write key v) reply new =
-      (reply ≡ flag (is_some (lookup (eq key) old.pairs))) × (new ≡ written (eq key) v old)
-  ReplyStep old (calls.Remove key) reply new =
-      (result : Option V) × Remove rules (eq key) old result new × (reply ≡ value result)
-  ReplyStep old (calls.RemoveEntry key) reply new =
-      (result : Option (K × V)) × RemoveEntry rules (eq key) old result new × (reply ≡ pair result)
-  ReplyStep old calls.PopOldest reply new =
-      (result : Option (K × V)) × PopOldest rules old result new × (reply ≡ pair result)
-  ReplyStep old calls.PopNewest reply new =
-      (result : Option (K × V)) × PopNewest rules old result new × (reply ≡ pair result)
-  ReplyStep old calls.PeekOldest reply new = (reply ≡ pair (last old.pairs)) × (new ≡ old)
-  ReplyStep old calls.PeekNewest reply new = (reply ≡ pair (first old.pairs)) × (new ≡ old)
-  ReplyStep old (calls.Reserve n) reply new =
-      (result : Result (Unit {0}) ReserveError) × Reserve rules n old result new × (reply ≡ reserved result)
-  ReplyStep old calls.Shrink reply new =
-      (result : Result Bool AllocError) × Shrink old result new × (reply ≡ shrunk result)
-  ReplyStep old calls.Trim reply new = (reply ≡ done) × Trims rules old new
-  ReplyStep old calls.Clear reply new = (reply ≡ done) × (new ≡ cleared rules old)
-  ReplyStep old (calls.Drain front back) reply new =
-      (pairs : List (K × V)) × Drained rules front back old pairs new × (reply ≡ listed pairs)
-  ReplyStep old calls.List reply new = (reply ≡ listed old.pairs) × (new ≡ old)
-  ReplyStep old calls.Stats reply new =
-      (figures : Figures) × IsFigures old figures × (reply ≡ stats figures) × (new ≡ old)
-  ReplyStep old (calls.SetLimiter s) reply new = (reply ≡ done) × (new ≡ record old { limiter = s })
+  ReplyStep old call reply new = (does call).on_map old reply new
+
+-- the step of a call on a list, if the hash of a key k is `hash_of k`
+abbrev pub ListStep : {K V S : Type 0} → Rules K V S → Offers K V S K → (K → K → Bool) → (K → ℕ) → Contents K V S
+    → Call K V S → Reply K V → Contents K V S → Type 0
+ListStep rules offers eq hash_of c call reply d =
+    (does {H = Unit {0}} rules offers eq (λ h. hash_of) call).on_list tt c reply d

@@ -1,11 +1,22 @@
 //! The calls of a run, and their answers.
+ghost use Rattle.std.specs.Prelude.{◌≡◌, IfOk};
+ghost use Rattle.std.specs.Result.{OnErr};
+ghost use Rattle.lru_model.specs.State.{IsMap};
+ghost use Rattle.lru_replay.specs.CallRuns.{IsRun, CallStep};
+ghost use Rattle.lru_replay.specs.Replies.{said, all_said};
+
 pub(crate) mod pairs;
-pub(crate) mod runs;
 pub(crate) mod steps;
 pub(crate) mod summing;
 
+use crate::calls::pairs::{drain_pairs, insert_with, list};
+use crate::calls::steps::{
+    get, get_by_hash, get_or_insert, insert, peek_by_hash, peek_newest, peek_oldest, stats, write,
+};
 use lru_model::{MoveReport, ReserveError, Updated};
-use std::alloc::AllocError;
+use schnellru::{Insertion, KeyHasher, LruMap};
+use std::alloc::{AllocError, Global};
+use std::hash::Hash;
 
 /// A call of a run. Most calls do what the map's call of the same name does; `docs/RUNS.md` lists the others.
 ///
@@ -90,4 +101,112 @@ pub enum Answer<K, V> {
     Memory,
     /// To `Write` and `SetLimiter` in `run_summing`: the call was not made, because the running total would be wrong.
     CostDiffers,
+}
+
+/// Carries out the calls on the map, one after another, and returns one answer for each.
+///
+/// Each answer is what the call on the map returns. `docs/RUNS.md` explains how to read a run.
+///
+/// ```
+/// let mut map: LruMap<u64, u64> = LruMap::new(alloc, ByLength::new(3), [1, 2, 3, 4], 16);
+/// let calls = vec![in alloc; Call::Insert(1, 10), Call::Get(1), Call::Peek(2)]?;
+/// let answers = run_calls(alloc, &mut map, calls)?;
+/// let gives = answers.get(1) == Some(&Answer::Value(Some(10)));
+/// assert!(rt; gives && answers.get(2) == Some(&Answer::Value(None)));
+/// ```
+///
+/// Cost: the cost of the calls, and one request for memory for the answers. `InsertWith`, `List` and `Drain` each make
+/// one more request.
+///
+/// # Errors
+///
+/// Out of memory for the answers. No call was made.
+pub fn run_calls<
+    K: Copy + Eq + Hash + Drop,
+    V: Copy + Drop,
+    L: Insertion<K, V, K> + Drop,
+    S: KeyHasher<K>,
+>(
+    alloc: Global,
+    map: &mut LruMap<K, V, L, S>,
+    calls: Vec<Call<K, V, L>>,
+) -> Result<Vec<Answer<K, V>>, AllocError>
+    ensures run { IfOk result (λ answers. IsRun (CallStep L.rules L.offers K.eq S.hash_of) (IsMap K.eq)
+        map.old calls.items (all_said answers.items) map.new) }
+    ensures unmade { OnErr result (map.new ≡ map.old) }
+{
+    let mut answers = Vec::with_capacity(alloc, calls.len())?;
+    for call in calls {
+        answers.push_reserved(make_call(alloc, map, call));
+    }
+    Ok(answers)
+}
+
+pub(crate) fn make_call<K, V, L, S>(
+    alloc: Global,
+    map: &mut LruMap<K, V, L, S>,
+    call: Call<K, V, L>,
+) -> Answer<K, V>
+where
+    K: Copy + Eq + Hash + Drop,
+    V: Copy + Drop,
+    L: Insertion<K, V, K> + Drop,
+    S: KeyHasher<K>,
+    ensures step { CallStep L.rules L.offers K.eq S.hash_of map.old call (said result) map.new }
+    ensures map { IsMap K.eq map.new }
+{
+    let answer = answer_to(alloc, map, call);
+    let _len = map.len();
+    answer
+}
+
+fn answer_to<K, V, L, S>(
+    alloc: Global,
+    map: &mut LruMap<K, V, L, S>,
+    call: Call<K, V, L>,
+) -> Answer<K, V>
+where
+    K: Copy + Eq + Hash + Drop,
+    V: Copy + Drop,
+    L: Insertion<K, V, K> + Drop,
+    S: KeyHasher<K>,
+    ensures { CallStep L.rules L.offers K.eq S.hash_of map.old call (said result) map.new }
+{
+    match call {
+        Call::Insert(key, value) => insert(map, key, value),
+        Call::InsertWith(key, value) => insert_with(map, key, value),
+        Call::GetOrInsert(key, value) => get_or_insert(map, key, value),
+        Call::Update(key, value) => Answer::Updated(map.update(key, value)),
+        Call::Get(key) => Answer::Value(get(map, &key)),
+        Call::Peek(key) => Answer::Value(map.peek(&key).copied()),
+        Call::Contains(key) => Answer::Flag(map.contains(&key)),
+        Call::Promote(key) => Answer::Flag(map.promote(&key)),
+        Call::Demote(key) => Answer::Flag(map.demote(&key)),
+        Call::GetByHash(hash, key) => Answer::Value(get_by_hash(map, hash, &key)),
+        Call::PeekByHash(hash, key) => Answer::Value(peek_by_hash(map, hash, &key)),
+        Call::Write(key, value) => Answer::Flag(write(map, &key, value)),
+        Call::Remove(key) => Answer::Value(map.remove(&key)),
+        Call::RemoveEntry(key) => Answer::Pair(map.remove_entry(&key)),
+        Call::PopOldest => Answer::Pair(map.pop_oldest()),
+        Call::PopNewest => Answer::Pair(map.pop_newest()),
+        Call::PeekOldest => Answer::Pair(peek_oldest(map)),
+        Call::PeekNewest => Answer::Pair(peek_newest(map)),
+        Call::Reserve(n) => Answer::Reserved(map.try_reserve(n)),
+        Call::Shrink => Answer::Shrunk(map.shrink_to_fit()),
+        Call::Trim => {
+            map.trim();
+            Answer::Done
+        }
+        Call::Clear => {
+            map.clear();
+            Answer::Done
+        }
+        Call::Drain { front, back } => drain_pairs(alloc, map, front, back),
+        Call::List => list(alloc, map),
+        Call::Stats => stats(map),
+        Call::SetLimiter(limiter) => {
+            *map.limiter_mut() = limiter;
+            Answer::Done
+        }
+    }
 }

@@ -6,8 +6,7 @@ ghost use Rattle.lru_model.specs.Lists.{keys_of};
 ghost use Rattle.lru_model.specs.Runs.{StepOrKeptWrite, Run};
 ghost use Rattle.lru_model.specs.State.{State, contents, IsMap};
 ghost use Rattle.lru_replay.specs.declared.calls.Call.{Call};
-ghost use Rattle.lru_replay.specs.CallRuns.{IsRun, CallStep, SummingStep, SetsNoLimiter, AreSteps};
-ghost use Rattle.lru_replay.specs.ListRuns.{ListCallStep};
+ghost use Rattle.lru_replay.specs.CallRuns.{IsRun, CallStep, ListCallStep, SummingStep, SetsNoLimiter, AreSteps};
 ghost use Rattle.lru_replay.specs.Replies.{Reply};
 
 use lru_limits::{Insertion, KeyHasher};

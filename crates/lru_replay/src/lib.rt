@@ -13,8 +13,7 @@ pub mod laws;
 pub mod lines;
 pub mod references;
 
-pub use calls::runs::run_calls;
 pub use calls::summing::run_summing;
-pub use calls::{Answer, Call};
+pub use calls::{Answer, Call, run_calls};
 pub use lines::outcome::{ReplayEnd, ReplayError, status};
 pub use lines::replays::replay;

@@ -4,8 +4,7 @@ ghost use Rattle.std.specs.List.{IsDistinct, sum_by};
 ghost use Rattle.lru_model.specs.Exact.{HasTableFor};
 ghost use Rattle.lru_model.specs.Lists.{IsFront, keys_of};
 ghost use Rattle.lru_model.specs.State.{contents};
-ghost use Rattle.lru_replay.specs.CallRuns.{IsRun};
-ghost use Rattle.lru_replay.specs.ListRuns.{ListCallStep};
+ghost use Rattle.lru_replay.specs.CallRuns.{IsRun, ListCallStep};
 ghost use Rattle.lru_replay.specs.Replies.{all_said};
 ghost use Rattle.lru_model.specs.Theorems.{PaysForMoves, UsesAtMost, others};
 

@@ -1,6 +1,7 @@
 //! Replays lines of calls on an LRU map, from standard input to standard output.
 #![tactic(auto)]
 
+use lru_replay::lines::words::LINES;
 use lru_replay::{replay, status};
 use std::env;
 use std::io::{self, BufReader, BufWriter};
@@ -10,21 +11,12 @@ const NO_BUFFER: u8 = 3;
 
 const UNKNOWN: u8 = 4;
 
-const HELP: &str = "\
+const ABOUT: &str = "\
 replay < LINES
     Makes calls on one LRU map, and writes an answer line for each. Keys and values are numbers.
+";
 
-The first line is the limit of the map:
-    length N      at most N entries
-    memory N E    a table of at most N bytes, with E bytes for an entry
-    cost N        values whose sum is at most N
-    compact       none
-
-Each other line is a call:
-    insert K V   put K V   update K V   get K   peek K   contains K   promote K   demote K
-    remove K   remove-entry K   pop-oldest   pop-newest   reserve N   shrink   clear   drain N
-    list   stats
-
+const STATUSES: &str = "\
 Exit status: 0 after the last line, 1 if the first line is no limit, 2 if a read or a write failed,
 3 without memory for the buffers, 4 after an unknown argument.
 ";
@@ -51,7 +43,7 @@ fn main(rt: HostRuntime) -> ExitCode {
 
 fn answer(rt: &HostRuntime, argument: &str) -> ExitCode {
     if argument == "--help" {
-        let _ = print!(rt; "{HELP}");
+        let _ = print!(rt; "{ABOUT}\n{LINES}\n{STATUSES}");
         return ExitCode::SUCCESS;
     }
     let _ = eprintln!(rt; "replay: unknown argument {argument}; try --help");

@@ -6,7 +6,7 @@ ghost use Rattle.lru_model.specs.Theorems.{IsSummed};
 ghost use Rattle.lru_replay.specs.CallRuns.{IsRun, SummingStep, KeepsCost};
 ghost use Rattle.lru_replay.specs.Replies.{said, all_said};
 
-use crate::calls::runs::make_call;
+use crate::calls::make_call;
 use crate::{Answer, Call};
 use schnellru::laws::runs_keep_sums;
 use schnellru::{KeyHasher, LruMap, Summing};

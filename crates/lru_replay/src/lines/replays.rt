@@ -6,7 +6,7 @@ ghost use Rattle.lru_replay.specs.Output.{Writes};
 ghost use Rattle.lru_replay.specs.Replay.{IsTextUnder, Replays};
 ghost use Rattle.lru_replay.specs.LineRuns.{LineStep, AnswersLine, IsTextOf, Answers};
 
-use crate::calls::runs::make_call;
+use crate::calls::make_call;
 use crate::lines::drain::write_drain;
 use crate::lines::figures::ReportsCost;
 use crate::lines::line::{Ending, Line, read_line};

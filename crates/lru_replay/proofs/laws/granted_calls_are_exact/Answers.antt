@@ -1,5 +1,5 @@
 use Rattle.std.proofs.Common.{refl}
-use Rattle.lru_replay.specs.ListRuns.{ListCallStep}
+use Rattle.lru_replay.specs.CallRuns.{ListCallStep}
 use Rattle.lru_replay.proofs.CallLaws.{call_moves}
 use Rattle.lru_replay.proofs.ListRuns.{call_in_list, run_in_list, whole_reaches}
 use Rattle.lru_replay.proofs.laws.granted_calls_are_exact.Goals as goal

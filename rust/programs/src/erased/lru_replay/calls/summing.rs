@@ -4,7 +4,7 @@ use crate::rattle_std::prelude::*;
 
 use crate::erased::schnellru::laws::runs_keep_sums;
 use crate::erased::schnellru::{KeyHasher, LruMap, Summing};
-use crate::programs::lru_replay::calls::runs::make_call;
+use crate::programs::lru_replay::calls::make_call;
 use crate::programs::lru_replay::{Answer, Call};
 use crate::rattle_std::alloc::{AllocError, Global};
 use crate::rattle_std::hash::Hash;

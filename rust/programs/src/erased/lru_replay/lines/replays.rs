@@ -5,7 +5,7 @@
 use crate::rattle_std::prelude::*;
 
 use crate::erased::schnellru::{ByCost, ByLength, ByMemoryUsage, Insertion, LruMap, RandomState, UnlimitedCompact};
-use crate::programs::lru_replay::calls::runs::make_call;
+use crate::programs::lru_replay::calls::make_call;
 use crate::programs::lru_replay::lines::drain::write_drain;
 use crate::programs::lru_replay::lines::figures::ReportsCost;
 use crate::programs::lru_replay::lines::line::{Ending, Line, read_line};

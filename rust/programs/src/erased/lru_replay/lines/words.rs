@@ -8,6 +8,20 @@ use crate::rattle_std::prelude::*;
 use crate::programs::lru_replay::calls::Call;
 use crate::programs::lru_replay::lines::bytes::index_of;
 
+/// The lines of a replay, as the program's help lists them.
+pub const LINES: &str = "\
+The first line is the limit of the map:
+    length N      at most N entries
+    memory N E    a table of at most N bytes, with E bytes for an entry
+    cost N        values whose sum is at most N
+    compact       none
+
+Each other line is a call:
+    insert K V   put K V   update K V   get K   peek K   contains K   promote K   demote K
+    remove K   remove-entry K   pop-oldest   pop-newest   reserve N   shrink   clear   drain N
+    list   stats
+";
+
 #[derive(Clone, Copy)]
 pub enum Numbers {
     Zero,
@@ -29,11 +43,7 @@ pub enum Limit {
 
 pub fn call_of<L>(line: &[u8]) -> Option<Call<u64, u64, L>> {
     let (word, given) = split(line)?;
-    match given {
-        Numbers::Zero => plain_call(word),
-        Numbers::One(n) => call_with_number(word, n),
-        Numbers::Two(key, value) => call_with_pair(word, key, value),
-    }
+    call_with(word, given)
 }
 
 pub fn limit_of(line: &[u8]) -> Option<Limit> {
@@ -82,96 +92,43 @@ fn starts_as_number(word: &[u8]) -> bool {
     word[0] != b'0' || word.len() == 1
 }
 
-fn plain_call<L>(word: &[u8]) -> Option<Call<u64, u64, L>> {
-    if word == b"list".as_slice() {
-        return Some(Call::List);
+fn call_with<L>(word: &[u8], given: Numbers) -> Option<Call<u64, u64, L>> {
+    match given {
+        Numbers::Zero if word == b"list".as_slice() => Some(Call::List),
+        Numbers::Zero if word == b"pop-oldest".as_slice() => Some(Call::PopOldest),
+        Numbers::Zero if word == b"pop-newest".as_slice() => Some(Call::PopNewest),
+        Numbers::Zero if word == b"clear".as_slice() => Some(Call::Clear),
+        Numbers::Zero if word == b"stats".as_slice() => Some(Call::Stats),
+        Numbers::Zero if word == b"shrink".as_slice() => Some(Call::Shrink),
+        Numbers::Zero => None,
+        Numbers::One(n) if word == b"get".as_slice() => Some(Call::Get(n)),
+        Numbers::One(n) if word == b"peek".as_slice() => Some(Call::Peek(n)),
+        Numbers::One(n) if word == b"contains".as_slice() => Some(Call::Contains(n)),
+        Numbers::One(n) if word == b"promote".as_slice() => Some(Call::Promote(n)),
+        Numbers::One(n) if word == b"demote".as_slice() => Some(Call::Demote(n)),
+        Numbers::One(n) if word == b"remove".as_slice() => Some(Call::Remove(n)),
+        Numbers::One(n) if word == b"remove-entry".as_slice() => Some(Call::RemoveEntry(n)),
+        Numbers::One(n) if word == b"reserve".as_slice() => Some(Call::Reserve(n as usize)),
+        Numbers::One(n) if word == b"drain".as_slice() => Some(Call::Drain { front: n as usize, back: 0 }),
+        Numbers::One(_) => None,
+        Numbers::Two(k, v) if word == b"insert".as_slice() => Some(Call::Insert(k, v)),
+        Numbers::Two(k, v) if word == b"put".as_slice() => Some(Call::InsertWith(k, v)),
+        Numbers::Two(k, v) if word == b"update".as_slice() => Some(Call::Update(k, v)),
+        Numbers::Two(_, _) => None,
     }
-    if word == b"pop-oldest".as_slice() {
-        return Some(Call::PopOldest);
-    }
-    if word == b"pop-newest".as_slice() {
-        return Some(Call::PopNewest);
-    }
-    if word == b"clear".as_slice() {
-        return Some(Call::Clear);
-    }
-    if word == b"stats".as_slice() {
-        return Some(Call::Stats);
-    }
-    if word == b"shrink".as_slice() {
-        return Some(Call::Shrink);
-    }
-    None
-}
-
-fn call_with_number<L>(word: &[u8], n: u64) -> Option<Call<u64, u64, L>> {
-    if word == b"get".as_slice() {
-        return Some(Call::Get(n));
-    }
-    if word == b"peek".as_slice() {
-        return Some(Call::Peek(n));
-    }
-    if word == b"contains".as_slice() {
-        return Some(Call::Contains(n));
-    }
-    if word == b"promote".as_slice() {
-        return Some(Call::Promote(n));
-    }
-    if word == b"demote".as_slice() {
-        return Some(Call::Demote(n));
-    }
-    if word == b"remove".as_slice() {
-        return Some(Call::Remove(n));
-    }
-    if word == b"remove-entry".as_slice() {
-        return Some(Call::RemoveEntry(n));
-    }
-    if word == b"reserve".as_slice() {
-        return Some(Call::Reserve(n as usize));
-    }
-    if word == b"drain".as_slice() {
-        let front = n as usize;
-        return Some(Call::Drain { front, back: 0 });
-    }
-    None
-}
-
-fn call_with_pair<L>(word: &[u8], key: u64, value: u64) -> Option<Call<u64, u64, L>> {
-    if word == b"insert".as_slice() {
-        return Some(Call::Insert(key, value));
-    }
-    if word == b"put".as_slice() {
-        return Some(Call::InsertWith(key, value));
-    }
-    if word == b"update".as_slice() {
-        return Some(Call::Update(key, value));
-    }
-    None
 }
 
 fn limit_with(word: &[u8], given: Numbers) -> Option<Limit> {
     match given {
-        Numbers::Zero => {
-            if word == b"compact".as_slice() {
-                return Some(Limit::Compact);
-            }
+        Numbers::Zero if word == b"compact".as_slice() => Some(Limit::Compact),
+        Numbers::Zero => None,
+        Numbers::One(n) if word == b"length".as_slice() => {
+            let most = u32::try_from(n).ok()?;
+            Some(Limit::Length(most))
         }
-        Numbers::One(n) => {
-            if word == b"length".as_slice() {
-                if n > u32::MAX as u64 {
-                    return None;
-                }
-                return Some(Limit::Length(n as u32));
-            }
-            if word == b"cost".as_slice() {
-                return Some(Limit::Cost(n));
-            }
-        }
-        Numbers::Two(budget, entry_bytes) => {
-            if word == b"memory".as_slice() {
-                return Some(Limit::Memory(budget as usize, entry_bytes as usize));
-            }
-        }
+        Numbers::One(n) if word == b"cost".as_slice() => Some(Limit::Cost(n)),
+        Numbers::One(_) => None,
+        Numbers::Two(n, e) if word == b"memory".as_slice() => Some(Limit::Memory(n as usize, e as usize)),
+        Numbers::Two(_, _) => None,
     }
-    None
 }

@@ -1,7 +1,7 @@
 use Rattle.std.proofs.Common.{◌∷◌, [], arith, sym, ap, ◌∙◌, length}
 use Rattle.std.proofs.lemmas.List.{length-append}
 use Rattle.lru_replay.proofs.CallRuns.{next_run, next_items, whole_run}
-use Rattle.lru_replay.proofs.calls.runs.run_calls.Goals as goal
+use Rattle.lru_replay.proofs.calls.run_calls.Goals as goal
 
 pub loop-call-preserved : goal.loop-call-preserved
 loop-call-preserved g c =

@@ -3,7 +3,7 @@ use Rattle.std.specs.Vec.Iter.{into_iter_items, into_iter_len}
 use Rattle.lru_model.specs.State.{IsMap}
 use Rattle.lru_replay.specs.CallRuns.{IsRun, CallStep}
 use Rattle.lru_replay.specs.Replies.{all_said}
-use Rattle.lru_replay.proofs.calls.runs.run_calls.Given as goal
+use Rattle.lru_replay.proofs.calls.run_calls.Given as goal
 
 abbrev pub invariant-loop-call : goal.invariant-loop-call
 invariant-loop-call g l = record {

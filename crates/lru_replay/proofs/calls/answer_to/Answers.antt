@@ -1,5 +1,5 @@
 use Rattle.std.proofs.Common.{inl, refl}
-use Rattle.lru_replay.proofs.calls.runs.answer_to.Goals as goal
+use Rattle.lru_replay.proofs.calls.answer_to.Goals as goal
 
 pub returns-in-Reserve : goal.returns-in-Reserve
 returns-in-Reserve g c = rw c.in-Reserve.is (inl (c.try_reserve.result, c.try_reserve.ensures.step, refl))
