@@ -1,12 +1,11 @@
 -- If all entries fit into the budget together, a put of byte strings evicts nothing.
-use Rattle.std.proofs.Common.{◌≡◌, ◌≤◌, ◌<◌, ◌+◌, ◌-◌, ◌^◌, ◌&&◌, ℕ, Bool, true, false, cond, List, ◌∷◌, length, Option, Some}
+use Rattle.std.proofs.Common.{◌≡◌, ◌≤◌, ◌<◌, ◌+◌, ◌-◌, ◌^◌, ℕ, Bool, true, false, cond, List, ◌∷◌, length, Option, Some}
 use Rattle.std.proofs.Common.{None, Result, Ok, Err, not, refl, sym, ap, ◌∙◌, subst, arith}
 use Rattle.std.proofs.lemmas.Bool.{true≢false}
 use Rattle.std.proofs.lemmas.Bool.Decides.{nat_tests}
 use Rattle.std.specs.Cmp.Lexicographic.{bytes_decides}
 use Rattle.std.specs.Prelude.{is_some, nat_lt, option_map}
-use Rattle.lru_limits.specs.Budget.{Budget, can_add, weighs-sums}
-use Rattle.lru_limits.specs.Budgeted.{weighs-budgeted}
+use Rattle.lru_limits.specs.Budget.{Budget, can_add}
 use Rattle.lru_model.specs.Calls.{Remove}
 use Rattle.lru_model.specs.Inserts.{Insert, replaced, not_replaced, no_memory_to_admit, not_admitted, admitted}
 use Rattle.lru_model.specs.Inserts.{with_replaced}
