@@ -233,22 +233,20 @@ bool lru_bytes_remove(struct lru_bytes *lru, const uint8_t *key, size_t key_len)
 struct lru_popped lru_bytes_pop_oldest(struct lru_bytes *lru, uint8_t *key, size_t key_size, uint8_t *value,
                                        size_t value_size);
 
-/* Pops an entry that has to go before lru_bytes_put of this key with a value of `value_len` bytes. If the new entry and
- * the entries of other keys together weigh more than the budget, makes the entry of the key, if there is one, the
- * newest, and then does what lru_bytes_pop_oldest does: the oldest entry has another key then. Otherwise `found` is
- * false, and nothing changes. If the new entry alone weighs more than the budget, lru_bytes_put rejects it. So `found`
- * is false in this case, too.
+/* Makes room for lru_bytes_put of this key with a value of `value_len` bytes. If the new entry and the entries of other
+ * keys together weigh more than the budget, makes the entry of the key, if there is one, the newest, and then does what
+ * lru_bytes_pop_oldest does: the oldest entry has another key then. Otherwise `found` is false, and nothing changes.
+ * `found` is also false if the new entry alone weighs more than the budget, because lru_bytes_put rejects it.
  *
- * If `found` is false, and the next call on the handle is lru_bytes_put of this key with a value of this length, this
- * call evicts nothing. So this loop gets each entry that would be evicted, the oldest first, and no other (that a put
- * alone would evict the same entries is tested):
+ * If `found` is false, and the next call on the handle is this put, it evicts nothing. So this loop gets each entry that
+ * has to go, the oldest first. A put alone would evict the same entries (tested).
  *
  *     while ((p = lru_bytes_pop_for(&lru, key, key_len, value_len, k, k_size, v, v_size)).found)
  *         if (p.removed) write_back(k, p.key_len, v, p.value_len);
- *         else make both buffers large enough for p.key_len and p.value_len
+ *         else ... make the buffers large enough for p.key_len and p.value_len
  *     code = lru_bytes_put(&lru, key, key_len, value, value_len);
  *
- * The old value of the key is not popped: the put replaces it, or removes it if it rejects the entry. */
+ * The old value of the key is not popped, but replaced by the put, or removed if the put rejects the entry. */
 struct lru_popped lru_bytes_pop_for(struct lru_bytes *lru, const uint8_t *key, size_t key_len, size_t value_len,
                                     uint8_t *key_buffer, size_t key_size, uint8_t *value_buffer, size_t value_size);
 

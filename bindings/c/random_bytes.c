@@ -42,6 +42,12 @@ static void add(struct list *list, struct text key, struct text value) {
     list->value[list->len++] = value;
 }
 
+static void make_newest(struct list *list, int i) {
+    struct text key = list->key[i], value = list->value[i];
+    drop(list, i);
+    add(list, key, value);
+}
+
 static uint64_t weight(const struct text *key, const struct text *value) {
     return LRU_BYTES_OVERHEAD + key->len + value->len;
 }
@@ -136,10 +142,7 @@ static bool try_read(struct lru_bytes *lru, struct list *list, bool promotes, st
                                     : lru_bytes_peek(lru, bytes_of(&key), key.len, start, buffer.size);
     CHECK(got.found == (i >= 0) && got.len == len);
     CHECK(holds(buffer, i >= 0 && len <= buffer.size ? &list->value[i] : NULL));
-    if (i < 0 || !promotes) return true;
-    struct text value = list->value[i];
-    drop(list, i);
-    add(list, key, value);
+    if (i >= 0 && promotes) make_newest(list, i);
     return true;
 }
 
@@ -166,32 +169,25 @@ static bool try_pop_oldest(struct lru_bytes *lru, struct list *list) {
     return try_pop(lru, list, list->len > 0, NULL, 0);
 }
 
-/* Pops until a put evicts nothing, and puts. What is popped is what the put alone would evict, in this order. */
+/* Pops until a put evicts nothing, and puts. As many entries stay as if the put alone evicted the oldest. */
 static bool try_pop_for(struct lru_bytes *lru, struct list *list, struct text key, struct text value) {
-    static struct list alone, before;
+    static struct list alone;
     uint64_t added = weight(&key, &value);
+    bool light = added <= list->budget, must = true;
     alone = *list;
-    if (added <= list->budget) put(&alone, key, value);
-    for (bool must = true; must;) {
+    if (light) put(&alone, key, value);
+    while (must) {
         int i = find(list, &key);
-        uint64_t others = cost(list) - (i < 0 ? 0 : weight(&list->key[i], &list->value[i]));
-        must = added <= list->budget && others > list->budget - added;
-        if (must && i >= 0) {
-            struct text own = list->value[i];
-            drop(list, i);
-            add(list, key, own);
-        }
+        uint64_t others = cost(list) - (i < 0 ? 0 : weight(&key, &list->value[i]));
+        must = light && others > list->budget - added;
+        if (must && i >= 0) make_newest(list, i);
         CHECK(try_pop(lru, list, must, &key, value.len));
-        CHECK(lru_bytes_len(lru) == list->len && lru_bytes_cost(lru) == cost(list));
     }
-    before = *list;
+    size_t others = list->len - (find(list, &key) >= 0);
     CHECK(try_put(lru, list, key, value));
-    int was = find(&before, &key), is = find(list, &key);
-    CHECK(list->len - (is >= 0) == before.len - (was >= 0)); /* the put evicted nothing */
-    bool stored = is >= 0 && (size_t)is == list->len - 1 && equal(&list->value[is], &value);
-    CHECK(!stored || list->len == alone.len);
-    for (size_t i = 0; stored && i < list->len; i++)
-        CHECK(equal(&list->key[i], &alone.key[i]) && equal(&list->value[i], &alone.value[i]));
+    int i = find(list, &key);
+    CHECK(list->len - (i >= 0) == others);
+    CHECK(i < 0 || !equal(&list->value[i], &value) || list->len == alone.len);
     return true;
 }
 

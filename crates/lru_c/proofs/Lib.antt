@@ -3,7 +3,6 @@ pub mod ByteCopies
 pub mod FilledSlots
 pub mod NotedPairs
 pub mod OneEvicted
-pub mod OthersPopped
 pub mod RoomyPuts
 pub mod StoredBytes
 pub mod HandleMaps

@@ -2,8 +2,9 @@
 --     names_bytes bytes k        the key k has these bytes
 --     weight key value           the weight of an entry with a key and a value of these lengths
 --     poured bytes buffer        if the bytes fit, the buffer with a copy of them at its front
-use Rattle.std.specs.Prelude.{◌≡◌, ◌++◌, ◌<◌, ◌≤◌, ◌+◌, ◌&&◌, ℕ, Bool, true, false, List, length, drop, Option, Some, None}
-use Rattle.std.specs.Prelude.{nat_le, nat_lt, option_map, vec_items, vec_len, is_some, if◌then◌else◌, map, sum_by, Ok}
+use Rattle.std.specs.Prelude.{◌≡◌, ◌++◌, ◌<◌, ◌≤◌, ◌+◌, ◌&&◌, ℕ, Bool, true, false, List, length, drop, Option, Some}
+use Rattle.std.specs.Prelude.{None, nat_le, nat_lt, option_map, vec_items, vec_len, is_some, if◌then◌else◌, map}
+use Rattle.std.specs.Prelude.{sum_by, Ok}
 use Rattle.std.proofs.Common.{ap}
 use Rattle.std.specs.Cmp.Lexicographic.{bytes_decides, nat_list_eq_equiv}
 use Rattle.std.specs.Hash as fed
@@ -135,18 +136,18 @@ abbrev pub must_evict : List ℕ → ℕ → BytesMap → Bool
 must_evict key value_len map = let added = weight (length key) value_len in
     nat_le added map.limiter.limit && nat_lt map.limiter.limit (others_weight key map + added)
 
--- A pop for a put of the key `own`, with a value of `value_len` bytes.
-pub data PopsFor (own : List ℕ) (value_len : ℕ) (old : BytesMap) (answer : Popped) (key key_left value value_left : List ℕ)
+-- A pop for a put of the key `own`, with a value of `n` bytes.
+pub data PopsFor (own : List ℕ) (n : ℕ) (old : BytesMap) (answer : Popped) (key key_left value value_left : List ℕ)
     (new : BytesMap) : Type 0 where
   -- The put has to evict no other entry, so nothing changes.
-  has_room : must_evict own value_len old ≡ false → answer ≡ no_entry → key_left ≡ key → value_left ≡ value →
-      new ≡ old → PopsFor own value_len old answer key key_left value value_left new
-  -- Otherwise the entry of the key becomes the newest. Then the oldest entry, which has another key, is popped if it
-  -- fits.
-  pops : must_evict own value_len old ≡ true →
-      (pair : Bytes × Bytes) → last (front (names_bytes own) old.pairs) ≡ Some pair → names_bytes own pair.0 ≡ false →
+  has_room : must_evict own n old ≡ false → answer ≡ no_entry → key_left ≡ key → value_left ≡ value → new ≡ old →
+      PopsFor own n old answer key key_left value value_left new
+  -- Otherwise the entry of the key becomes the newest. Then the oldest entry of another key is the oldest entry, and is
+  -- popped if it fits.
+  pops : must_evict own n old ≡ true → (pair : Bytes × Bytes) →
+      last (without (names_bytes own) old.pairs) ≡ Some pair → last (front (names_bytes own) old.pairs) ≡ Some pair →
       Pops (promoted (names_bytes own) old) answer key key_left value value_left new →
-      PopsFor own value_len old answer key key_left value value_left new
+      PopsFor own n old answer key key_left value value_left new
 
 abbrev pub has_bytes : List ℕ → BytesMap → Bool
 has_bytes key map = is_some (lookup (names_bytes key) map.pairs)

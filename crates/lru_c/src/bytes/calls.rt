@@ -1,4 +1,5 @@
-ghost use Rattle.std.specs.Prelude.{◌≡◌, ◌+◌, ◌&&◌, ◌∷◌, length, Some, None, IfSome, option_map, nat_le, true, false};
+ghost use Rattle.std.specs.Prelude.{◌≡◌, ◌+◌, ◌&&◌, ◌∷◌, length, Some, None, IfSome, option_map, nat_le};
+ghost use Rattle.std.specs.Prelude.{true, false};
 ghost use Rattle.std.specs.Map.Iter.{deref_pair};
 ghost use Rattle.lru_model.specs.Calls.{promoted};
 ghost use Rattle.lru_model.specs.Lists.{lookup, last, without};
@@ -23,12 +24,13 @@ fn weight_of(key: usize, value: usize) -> u64
 }
 
 // What the entry of a key weighs, or 0 if it is not there.
+#[tactic(auto, using(crate::proofs::RoomyPuts::weight_split))]
 fn weight_in(map: &BytesMap, key: &[u8]) -> u64
     requires within { IsWithinBudget map.now }
     ensures { others_weight key.now map.now + result ≡ map.now.limiter.cost }
 {
-    match map.peek(&Named(key)) {
-        Some(value) => weight_of(key.len(), value.as_slice().len()),
+    match map.peek_key_value(&Named(key)) {
+        Some((key, value)) => weight_of(key.as_slice().len(), value.as_slice().len()),
         None => 0,
     }
 }
@@ -170,7 +172,6 @@ pub fn pop_for(
     requires within { IsWithinBudget map.old }
     ensures { PopsFor own.now value_len map.old result key.old key.new value.old value.new map.new }
 {
-    let _len = map.len();
     if !must_evict(map, own, value_len) {
         return nothing_popped();
     }

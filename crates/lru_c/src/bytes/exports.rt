@@ -2,7 +2,8 @@
 //!
 //! If a handle has no map, `lru_bytes_new` makes a map, and `lru_bytes_clone` drops the map of the copy's handle. Every
 //! other call changes nothing and finds nothing. A put returns `NO_MAP`.
-ghost use Rattle.std.specs.Prelude.{◌≡◌, ◌≤◌, ◌∷◌, length, is_some, slice_get, IfSome, Option, Some, None, true, false, ⊤};
+ghost use Rattle.std.specs.Prelude.{◌≡◌, ◌≤◌, ◌∷◌, length, is_some, slice_get, IfSome, Option, Some, None, ⊤};
+ghost use Rattle.std.specs.Prelude.{true, false};
 ghost use Rattle.lru_limits.specs.Mixing.{seeded};
 ghost use Rattle.lru_model.specs.Calls.{Remove, promoted, cleared};
 ghost use Rattle.lru_model.specs.Lists.{lookup, last, without};
@@ -60,7 +61,8 @@ pub extern "C" fn lru_bytes_put(alloc: Global, lru: &mut LruBytes, key: &[u8], v
     ensures stored { result ≡ 0 → IfSome lru.new.map (λ map. value_of key.now map ≡ Some value.now) }
     ensures rejected { result ≡ 1 → IfSome lru.new.map (λ map. value_of key.now map ≡ None) }
     ensures in_room { result ≡ 0 → OnMap ⊤ (λ old new. must_evict key.now (length value.now) old ≡ false →
-        texts new.pairs ≡ (key.now, value.now) ∷ texts (without (names_bytes key.now) old.pairs)) lru.old.map lru.new.map }
+        texts new.pairs ≡ (key.now, value.now) ∷ texts (without (names_bytes key.now) old.pairs))
+        lru.old.map lru.new.map }
     ensures others { OnMap ⊤ (λ old new. must_evict key.now (length value.now) old ≡ false →
         without (names_bytes key.now) new.pairs ≡ without (names_bytes key.now) old.pairs) lru.old.map lru.new.map }
 {
@@ -140,9 +142,10 @@ pub extern "C" fn lru_bytes_pop_for(
     key_buffer: &mut [u8],
     value_buffer: &mut [u8],
 ) -> Popped
-    ensures pops { OnMap ((result ≡ no_entry) × (key_buffer.new ≡ key_buffer.old) × (value_buffer.new ≡ value_buffer.old))
-        (λ old new. PopsFor key.now value_len old result key_buffer.old key_buffer.new value_buffer.old value_buffer.new
-        new) lru.old.map lru.new.map }
+    ensures pops { OnMap
+        ((result ≡ no_entry) × (key_buffer.new ≡ key_buffer.old) × (value_buffer.new ≡ value_buffer.old))
+        (λ old new. PopsFor key.now value_len old result key_buffer.old key_buffer.new value_buffer.old
+        value_buffer.new new) lru.old.map lru.new.map }
     ensures found { IfSome lru.old.map (λ map. result.found ≡ must_evict key.now value_len map) }
 {
     with_map!(

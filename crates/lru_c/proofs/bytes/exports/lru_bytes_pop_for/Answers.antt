@@ -1,6 +1,6 @@
 use Rattle.std.proofs.Common.{rules}
 use Rattle.lru_c.proofs.HandleMaps.{on_map}
-use Rattle.lru_c.proofs.OthersPopped.{pop_for_in_budget, found_if_must}
+use Rattle.lru_c.proofs.RoomyPuts.{pop_for_in_budget, found_if_must}
 use Rattle.lru_c.proofs.bytes.exports.lru_bytes_pop_for.Goals as goal
 
 pub returns-in-Some-clause-pops : goal.returns-in-Some-clause-pops
