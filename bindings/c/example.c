@@ -26,13 +26,17 @@ static bool put(struct lru_bytes *pages, const char *key, const char *value) {
 }
 
 static bool cache_pages(void) {
-    uint8_t page[100] = {0};
+    uint8_t key[10] = {0}, page[100] = {0};
     struct lru_bytes pages = LRU_NONE;
     if (!lru_bytes_new(&pages, 200, seeds)) return false;
     bool stored = put(&pages, "/", "home") && put(&pages, "/a", "first");
     struct lru_value home = lru_bytes_get(&pages, (const uint8_t *)"/", 1, page, sizeof page);
     if (home.found && home.len <= sizeof page) printf("%.*s\n", (int)home.len, (const char *)page);
-    stored = stored && put(&pages, "/b", "second"); /* evicts "/a": three entries weigh more than 200 */
+    /* Three entries weigh more than 200, so a put of "/b" would evict "/a". This pops "/a" before. */
+    struct lru_popped popped =
+        lru_bytes_pop_for(&pages, (const uint8_t *)"/b", 2, 6, key, sizeof key, page, sizeof page);
+    if (popped.removed) printf("popped %.*s\n", (int)popped.key_len, (const char *)key);
+    stored = stored && put(&pages, "/b", "second");
     bool evicted = !lru_bytes_contains(&pages, (const uint8_t *)"/a", 2);
     printf("%zu entries weigh %" PRIu64 "\n", lru_bytes_len(&pages), lru_bytes_cost(&pages));
     lru_bytes_free(&pages);

@@ -42,7 +42,7 @@ extern "C" {
 
 /* The version of these functions and structs. Compare it with lru_abi_version() if the library is not built with the
  * program. It rises with each change of them. */
-#define LRU_ABI_VERSION 3u
+#define LRU_ABI_VERSION 4u
 uint32_t lru_abi_version(void);
 
 /* A handle: the address of a map on the heap, or null. Begin with LRU_NONE. */
@@ -204,7 +204,7 @@ void lru_bytes_free(struct lru_bytes *lru);
 
 /* Inserts a copy of the value under a copy of the key, as the newest entry, in place of the old value of the key. Then
  * the oldest entries are evicted while the entries together weigh more than the budget. To see them, call
- * lru_bytes_pop_oldest before.
+ * lru_bytes_pop_for before.
  *
  * LRU_REJECTED: the entry alone weighs more than the budget. Then the value is not read (both are tested), and the
  * entry of the key is removed, so no old value stays under the key. LRU_OUT_OF_MEMORY: all memory is taken first, so
@@ -232,6 +232,23 @@ bool lru_bytes_remove(struct lru_bytes *lru, const uint8_t *key, size_t key_len)
  * fronts of `key` and `value`, and removes the entry. Returns both lengths. If one does not fit, nothing changes. */
 struct lru_popped lru_bytes_pop_oldest(struct lru_bytes *lru, uint8_t *key, size_t key_size, uint8_t *value,
                                        size_t value_size);
+
+/* Makes room for lru_bytes_put of this key with a value of `value_len` bytes. If the new entry and the entries of other
+ * keys together weigh more than the budget, makes the entry of the key, if there is one, the newest, and then does what
+ * lru_bytes_pop_oldest does: the oldest entry has another key then. Otherwise `found` is false, and nothing changes.
+ * `found` is also false if the new entry alone weighs more than the budget, because lru_bytes_put rejects it.
+ *
+ * If `found` is false, and the next call on the handle is this put, it evicts nothing. So this loop gets each entry that
+ * has to go, the oldest first. A put alone would evict the same entries (tested).
+ *
+ *     while ((p = lru_bytes_pop_for(&lru, key, key_len, value_len, k, k_size, v, v_size)).found)
+ *         if (p.removed) write_back(k, p.key_len, v, p.value_len);
+ *         else ... make the buffers large enough for p.key_len and p.value_len
+ *     code = lru_bytes_put(&lru, key, key_len, value, value_len);
+ *
+ * The old value of the key is not popped, but replaced by the put, or removed if the put rejects the entry. */
+struct lru_popped lru_bytes_pop_for(struct lru_bytes *lru, const uint8_t *key, size_t key_len, size_t value_len,
+                                    uint8_t *key_buffer, size_t key_size, uint8_t *value_buffer, size_t value_size);
 
 /* Does what lru_bytes_pop_oldest does, but removes nothing: `removed` is false. Nothing changes in the map. */
 struct lru_popped lru_bytes_peek_oldest(struct lru_bytes *lru, uint8_t *key, size_t key_size, uint8_t *value,
@@ -293,6 +310,9 @@ static inline struct lru_entry *lru_entries_out(struct lru_entry *entries) {
 #define lru_bytes_remove(lru, key, key_len) (lru_bytes_remove)(lru, lru_bytes_in(key), key_len)
 #define lru_bytes_pop_oldest(lru, key, key_size, value, value_size) \
     (lru_bytes_pop_oldest)(lru, lru_bytes_out(key), key_size, lru_bytes_out(value), value_size)
+#define lru_bytes_pop_for(lru, key, key_len, value_len, key_buffer, key_size, value_buffer, value_size) \
+    (lru_bytes_pop_for)(lru, lru_bytes_in(key), key_len, value_len, lru_bytes_out(key_buffer), key_size, \
+                        lru_bytes_out(value_buffer), value_size)
 #define lru_bytes_peek_oldest(lru, key, key_size, value, value_size) \
     (lru_bytes_peek_oldest)(lru, lru_bytes_out(key), key_size, lru_bytes_out(value), value_size)
 #define lru_bytes_peek_at(lru, index, key, key_size, value, value_size) \

@@ -42,6 +42,12 @@ static void add(struct list *list, struct text key, struct text value) {
     list->value[list->len++] = value;
 }
 
+static void make_newest(struct list *list, int i) {
+    struct text key = list->key[i], value = list->value[i];
+    drop(list, i);
+    add(list, key, value);
+}
+
 static uint64_t weight(const struct text *key, const struct text *value) {
     return LRU_BYTES_OVERHEAD + key->len + value->len;
 }
@@ -93,6 +99,14 @@ static bool holds(struct buffer buffer, const struct text *text) {
     return good;
 }
 
+/* Puts an entry that is within the budget alone. */
+static void put(struct list *list, struct text key, struct text value) {
+    int i = find(list, &key);
+    if (i >= 0) drop(list, i);
+    add(list, key, value);
+    while (cost(list) > list->budget) drop(list, 0);
+}
+
 static bool try_put(struct lru_bytes *lru, struct list *list, struct text key, struct text value) {
     int i = find(list, &key);
     uint32_t code = lru_bytes_put(lru, bytes_of(&key), key.len, bytes_of(&value), value.len);
@@ -101,9 +115,8 @@ static bool try_put(struct lru_bytes *lru, struct list *list, struct text key, s
         return true;
     }
     CHECK(code == (weight(&key, &value) > list->budget ? LRU_REJECTED : LRU_STORED));
-    if (i >= 0) drop(list, i);
-    if (code == LRU_STORED) add(list, key, value);
-    while (cost(list) > list->budget) drop(list, 0);
+    if (code == LRU_STORED) put(list, key, value);
+    else if (i >= 0) drop(list, i);
     return true;
 }
 
@@ -111,6 +124,8 @@ static bool try_put(struct lru_bytes *lru, struct list *list, struct text key, s
 static bool try_huge(struct lru_bytes *lru, struct list *list, struct text key) {
     int i = find(list, &key);
     bool all = list->budget == UINT64_MAX;
+    CHECK(!lru_bytes_pop_for(lru, key.bytes, key.len, SIZE_MAX / 2, NULL, 0, NULL, 0).found);
+    CHECK(all || !lru_bytes_pop_for(lru, key.bytes, SIZE_MAX / 2, key.len, NULL, 0, NULL, 0).found);
     uint32_t code = lru_bytes_put(lru, key.bytes, key.len, key.bytes, SIZE_MAX / 2 - next() % 100);
     CHECK(code == (all ? LRU_OUT_OF_MEMORY : LRU_REJECTED));
     if (!all && i >= 0) drop(list, i);
@@ -127,25 +142,52 @@ static bool try_read(struct lru_bytes *lru, struct list *list, bool promotes, st
                                     : lru_bytes_peek(lru, bytes_of(&key), key.len, start, buffer.size);
     CHECK(got.found == (i >= 0) && got.len == len);
     CHECK(holds(buffer, i >= 0 && len <= buffer.size ? &list->value[i] : NULL));
-    if (i < 0 || !promotes) return true;
-    struct text value = list->value[i];
-    drop(list, i);
-    add(list, key, value);
+    if (i >= 0 && promotes) make_newest(list, i);
     return true;
 }
 
-static bool try_pop(struct lru_bytes *lru, struct list *list) {
-    size_t key_len = list->len ? list->key[0].len : 0, value_len = list->len ? list->value[0].len : 0;
+/* Pops the oldest entry, or if there is a key, for a put of this key and a value of this length. `some` says whether
+ * there is an entry to pop. */
+static bool try_pop(struct lru_bytes *lru, struct list *list, bool some, const struct text *own, size_t own_len) {
+    size_t key_len = some ? list->key[0].len : 0, value_len = some ? list->value[0].len : 0;
     struct buffer key = buffer_of(next() % 4 ? key_len + next() % 3 : next() % (key_len + 1));
     struct buffer value = buffer_of(next() % 4 ? value_len + next() % 3 : next() % (value_len + 1));
-    bool fits = list->len && key_len <= key.size && value_len <= value.size;
+    bool fits = some && key_len <= key.size && value_len <= value.size;
+    uint8_t *key_start = start_of(key), *value_start = start_of(value);
     struct lru_popped popped =
-        lru_bytes_pop_oldest(lru, start_of(key), key.size, start_of(value), value.size);
-    CHECK(popped.found == (list->len > 0) && popped.removed == fits);
+        own ? lru_bytes_pop_for(lru, bytes_of(own), own->len, own_len, key_start, key.size, value_start, value.size)
+            : lru_bytes_pop_oldest(lru, key_start, key.size, value_start, value.size);
+    CHECK(popped.found == some && popped.removed == fits);
     CHECK(popped.key_len == key_len && popped.value_len == value_len);
     CHECK(holds(key, fits ? &list->key[0] : NULL));
     CHECK(holds(value, fits ? &list->value[0] : NULL));
     if (fits) drop(list, 0);
+    return true;
+}
+
+static bool try_pop_oldest(struct lru_bytes *lru, struct list *list) {
+    return try_pop(lru, list, list->len > 0, NULL, 0);
+}
+
+/* Pops until a put evicts nothing, and puts. As many entries stay as if the put alone evicted the oldest. */
+static bool try_pop_for(struct lru_bytes *lru, struct list *list, struct text key, struct text value) {
+    static struct list alone;
+    uint64_t added = weight(&key, &value);
+    bool light = added <= list->budget, must = true;
+    alone = *list;
+    if (light) put(&alone, key, value);
+    while (must) {
+        int i = find(list, &key);
+        uint64_t others = cost(list) - (i < 0 ? 0 : weight(&key, &list->value[i]));
+        must = light && others > list->budget - added;
+        if (must && i >= 0) make_newest(list, i);
+        CHECK(try_pop(lru, list, must, &key, value.len));
+    }
+    size_t others = list->len - (find(list, &key) >= 0);
+    CHECK(try_put(lru, list, key, value));
+    int i = find(list, &key);
+    CHECK(list->len - (i >= 0) == others);
+    CHECK(i < 0 || !equal(&list->value[i], &value) || list->len == alone.len);
     return true;
 }
 
@@ -178,7 +220,7 @@ static bool try_clone(struct lru_bytes *lru, const struct list *list) {
     copied = *list;
     CHECK(lru_bytes_budget(&copy) == list->budget && lru_bytes_len(&copy) == list->len);
     CHECK(lru_bytes_cost(&copy) == cost(list));
-    while (copied.len) CHECK(try_pop(&copy, &copied));
+    while (copied.len) CHECK(try_pop_oldest(&copy, &copied));
     lru_bytes_free(&copy);
     return true;
 }
@@ -201,7 +243,8 @@ static bool try_call(struct lru_bytes *lru, struct list *list, const uint64_t se
     struct text key = random_key();
     int i = find(list, &key);
     unsigned kind = (unsigned)(next() % 1000);
-    if (kind < 450) return try_put(lru, list, key, random_value());
+    if (kind < 400) return try_put(lru, list, key, random_value());
+    if (kind < 450) return try_pop_for(lru, list, key, random_value());
     if (kind < 800) return try_read(lru, list, kind < 650, key);
     if (kind < 850) {
         CHECK(lru_bytes_contains(lru, bytes_of(&key), key.len) == (i >= 0));
@@ -209,7 +252,7 @@ static bool try_call(struct lru_bytes *lru, struct list *list, const uint64_t se
         CHECK(lru_bytes_remove(lru, bytes_of(&key), key.len) == (i >= 0));
         if (i >= 0) drop(list, i);
     } else if (kind < 960) {
-        return try_pop(lru, list);
+        return try_pop_oldest(lru, list);
     } else if (kind < 978) {
         return try_peek(lru, list, kind % 2);
     } else if (kind < 980) {
@@ -233,6 +276,8 @@ static bool try_nothing(struct lru_bytes *lru) {
     struct lru_value got = lru_bytes_get(lru, key.block, 1, value.block + SPARE, 1);
     struct lru_value seen = lru_bytes_peek(lru, key.block, 1, value.block + SPARE, 1);
     struct lru_popped popped = lru_bytes_pop_oldest(lru, key.block + SPARE, 1, value.block + SPARE, 1);
+    struct lru_popped gone =
+        lru_bytes_pop_for(lru, key.block, 1, SIZE_MAX, key.block + SPARE, 1, value.block + SPARE, 1);
     struct lru_popped oldest = lru_bytes_peek_oldest(lru, key.block + SPARE, 1, value.block + SPARE, 1);
     struct lru_popped newest = lru_bytes_peek_at(lru, 0, key.block + SPARE, 1, value.block + SPARE, 1);
     struct lru_bytes copy = LRU_NONE;
@@ -241,6 +286,7 @@ static bool try_nothing(struct lru_bytes *lru) {
     CHECK(!lru_bytes_clone(lru, &copy) && !copy.map);
     CHECK(!got.found && !got.len && !seen.found && !seen.len);
     CHECK(!popped.found && !popped.removed && !popped.key_len && !popped.value_len);
+    CHECK(!gone.found && !gone.removed && !gone.key_len && !gone.value_len);
     CHECK(lru_bytes_put(lru, key.block, 1, value.block, 1) == LRU_NO_MAP);
     CHECK(!lru_bytes_contains(lru, key.block, 1) && !lru_bytes_remove(lru, key.block, 1));
     CHECK(!lru_bytes_len(lru) && !lru_bytes_cost(lru) && !lru_bytes_budget(lru));
@@ -271,7 +317,7 @@ static bool run(uint64_t budget, long calls) {
         CHECK(lru_bytes_budget(lru) == budget);
     }
     for (int i = 0; i < 2; i++) {
-        while (lists[i].len) CHECK(try_pop(&maps[i], &lists[i]));
+        while (lists[i].len) CHECK(try_pop_oldest(&maps[i], &lists[i]));
         lru_bytes_free(&maps[i]);
         CHECK(try_nothing(&maps[i]));
     }

@@ -3,6 +3,7 @@ pub mod ByteCopies
 pub mod FilledSlots
 pub mod NotedPairs
 pub mod OneEvicted
+pub mod RoomyPuts
 pub mod StoredBytes
 pub mod HandleMaps
 pub mod WithinBudget

@@ -2,8 +2,9 @@
 --     names_bytes bytes k        the key k has these bytes
 --     weight key value           the weight of an entry with a key and a value of these lengths
 --     poured bytes buffer        if the bytes fit, the buffer with a copy of them at its front
-use Rattle.std.specs.Prelude.{◌≡◌, ◌++◌, ◌<◌, ◌≤◌, ◌&&◌, ℕ, Bool, true, false, List, length, drop, Option, Some, None}
-use Rattle.std.specs.Prelude.{nat_le, option_map, vec_items, vec_len, is_some, if◌then◌else◌, map, sum_by, Ok}
+use Rattle.std.specs.Prelude.{◌≡◌, ◌++◌, ◌<◌, ◌≤◌, ◌+◌, ◌&&◌, ℕ, Bool, true, false, List, length, drop, Option, Some}
+use Rattle.std.specs.Prelude.{None, nat_le, nat_lt, option_map, vec_items, vec_len, is_some, if◌then◌else◌, map}
+use Rattle.std.specs.Prelude.{sum_by, Ok}
 use Rattle.std.proofs.Common.{ap}
 use Rattle.std.specs.Cmp.Lexicographic.{bytes_decides, nat_list_eq_equiv}
 use Rattle.std.specs.Hash as fed
@@ -17,9 +18,9 @@ use Rattle.lru_limits.specs.Mixing.{Mixer}
 use Rattle.lru_limits.specs.Rules.{Rules, Offers}
 use Rattle.lru_limits.specs.contracts.hasher.DefaultHasherHasher.TheImpl as default_hashes
 use Rattle.lru_limits.specs.contracts.hasher.RandomStateBuildHasher.TheImpl as random_builds
-use Rattle.lru_model.specs.Calls.{Remove, PopOldest}
+use Rattle.lru_model.specs.Calls.{Remove, PopOldest, promoted}
 use Rattle.lru_model.specs.Inserts.{Insert}
-use Rattle.lru_model.specs.Lists.{last, lookup}
+use Rattle.lru_model.specs.Lists.{front, last, lookup, without}
 use Rattle.lru_model.specs.Reservations.{Reserve}
 use Rattle.lru_model.specs.State.{State, growth_left}
 use Rattle.lru_c.specs.declared.bytes.answers.Popped.{Popped}
@@ -124,6 +125,29 @@ pub data Pops (old : BytesMap) (answer : Popped) (key key_left value value_left 
   removed : (pair : Bytes × Bytes) → last old.pairs ≡ Some pair → fits pair key value ≡ true →
       answer ≡ lengths_of pair true → key_left ≡ poured pair.0.items key → value_left ≡ poured pair.1.items value →
       PopOldest bytes_rules old (Some pair) new → Pops old answer key key_left value value_left new
+
+-- what the entries of other keys weigh
+abbrev pub others_weight : List ℕ → BytesMap → ℕ
+others_weight key map = total_weight (without (names_bytes key) map.pairs)
+
+-- Whether a put of this key, with a value of this length, has to evict another entry: the new entry alone is within the
+-- budget, but not together with the entries of other keys.
+abbrev pub must_evict : List ℕ → ℕ → BytesMap → Bool
+must_evict key value_len map = let added = weight (length key) value_len in
+    nat_le added map.limiter.limit && nat_lt map.limiter.limit (others_weight key map + added)
+
+-- A pop for a put of the key `own`, with a value of `n` bytes.
+pub data PopsFor (own : List ℕ) (n : ℕ) (old : BytesMap) (answer : Popped) (key key_left value value_left : List ℕ)
+    (new : BytesMap) : Type 0 where
+  -- The put has to evict no other entry, so nothing changes.
+  has_room : must_evict own n old ≡ false → answer ≡ no_entry → key_left ≡ key → value_left ≡ value → new ≡ old →
+      PopsFor own n old answer key key_left value value_left new
+  -- Otherwise the entry of the key becomes the newest. Then the oldest entry of another key is the oldest entry, and is
+  -- popped if it fits.
+  pops : must_evict own n old ≡ true → (pair : Bytes × Bytes) →
+      last (without (names_bytes own) old.pairs) ≡ Some pair → last (front (names_bytes own) old.pairs) ≡ Some pair →
+      Pops (promoted (names_bytes own) old) answer key key_left value value_left new →
+      PopsFor own n old answer key key_left value value_left new
 
 abbrev pub has_bytes : List ℕ → BytesMap → Bool
 has_bytes key map = is_some (lookup (names_bytes key) map.pairs)

@@ -35,9 +35,9 @@ const ENTRY_BYTES: usize = 24;
 
 #[unsafe(no_mangle)]
 pub extern "C" fn lru_abi_version() -> u32
-    ensures { result ≡ 3 }
+    ensures { result ≡ 4 }
 {
-    3
+    4
 }
 
 #[unsafe(no_mangle)]

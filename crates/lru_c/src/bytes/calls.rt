@@ -1,14 +1,17 @@
-ghost use Rattle.std.specs.Prelude.{◌≡◌, ◌&&◌, length, Some, None, IfSome, option_map, nat_le, true, false};
+ghost use Rattle.std.specs.Prelude.{◌≡◌, ◌+◌, ◌&&◌, ◌∷◌, length, Some, None, IfSome, option_map, nat_le};
+ghost use Rattle.std.specs.Prelude.{true, false};
 ghost use Rattle.std.specs.Map.Iter.{deref_pair};
 ghost use Rattle.lru_model.specs.Calls.{promoted};
-ghost use Rattle.lru_model.specs.Lists.{lookup, last};
+ghost use Rattle.lru_model.specs.Lists.{lookup, last, without};
 ghost use Rattle.lru_c.specs.Bytes.{names_bytes, weight, poured, Reads, IsReady, FindsMemory, Puts, Pops, Shows};
-ghost use Rattle.lru_c.specs.Bytes.{Copies, IsWithinBudget, value_of};
+ghost use Rattle.lru_c.specs.Bytes.{Copies, IsWithinBudget, value_of, others_weight, must_evict, PopsFor, texts};
 
 use crate::answers::{OUT_OF_MEMORY, REJECTED, STORED};
 use crate::bytes::answers::{Popped, Value, no_value, nothing_popped};
 use crate::bytes::handle::{BytesMap, OVERHEAD};
 use crate::bytes::keys::Named;
+use lru_limits::ByWeight;
+use schnellru::{RandomState, laws};
 use std::alloc::Global;
 
 #[inline]
@@ -20,13 +23,44 @@ fn weight_of(key: usize, value: usize) -> u64
         .saturating_add(OVERHEAD)
 }
 
+// What the entry of a key weighs, or 0 if it is not there.
+#[tactic(auto, using(crate::proofs::RoomyPuts::weight_split))]
+fn weight_in(map: &BytesMap, key: &[u8]) -> u64
+    requires within { IsWithinBudget map.now }
+    ensures { others_weight key.now map.now + result ≡ map.now.limiter.cost }
+{
+    match map.peek_key_value(&Named(key)) {
+        Some((key, value)) => weight_of(key.as_slice().len(), value.as_slice().len()),
+        None => 0,
+    }
+}
+
+fn must_evict(map: &BytesMap, key: &[u8], value_len: usize) -> bool
+    requires within { IsWithinBudget map.now }
+    ensures { result ≡ must_evict key.now value_len map.now }
+{
+    let limit = map.limiter().limit();
+    let added = weight_of(key.len(), value_len);
+    // An entry that is over the budget is rejected. Its key is not read here.
+    if added > limit {
+        return false;
+    }
+    let others = map.limiter().cost() - weight_in(map, key);
+    others > limit - added
+}
+
 /// Inserts a copy of the value under a copy of the key. Allocates all memory before it changes an entry. If the map
 /// contains the key, only the copies need memory.
 pub fn put(alloc: Global, map: &mut BytesMap, key: &[u8], value: &[u8]) -> u32
     ensures puts { Puts key.now value.now map.old result map.new }
     ensures stored { result ≡ 0 → value_of key.now map.new ≡ Some value.now }
     ensures rejected { result ≡ 1 → IsWithinBudget map.old → value_of key.now map.new ≡ None }
+    ensures in_room { result ≡ 0 → IsWithinBudget map.old → must_evict key.now (length value.now) map.old ≡ false →
+        texts map.new.pairs ≡ (key.now, value.now) ∷ texts (without (names_bytes key.now) map.old.pairs) }
+    ensures others { IsWithinBudget map.old → must_evict key.now (length value.now) map.old ≡ false →
+        without (names_bytes key.now) map.new.pairs ≡ without (names_bytes key.now) map.old.pairs }
 {
+    laws::inserts_with_room_are_exact::<Vec<u8>, Vec<u8>, Vec<u8>, ByWeight<64>, RandomState>();
     let _len = map.len();
     let limit = map.limiter().limit();
     // The key is not read here, so C may pass a length that is far too great.
@@ -124,6 +158,25 @@ pub fn pop_oldest(map: &mut BytesMap, key: &mut [u8], value: &mut [u8]) -> Poppe
         found: true,
         removed,
     }
+}
+
+/// If a put of the key `own`, with a value of this length, has to evict another entry, makes the entry of `own` the
+/// newest, and pops the oldest entry.
+pub fn pop_for(
+    map: &mut BytesMap,
+    own: &[u8],
+    value_len: usize,
+    key: &mut [u8],
+    value: &mut [u8],
+) -> Popped
+    requires within { IsWithinBudget map.old }
+    ensures { PopsFor own.now value_len map.old result key.old key.new value.old value.new map.new }
+{
+    if !must_evict(map, own, value_len) {
+        return nothing_popped();
+    }
+    map.promote(&Named(own));
+    pop_oldest(map, key, value)
 }
 
 pub fn show(pair: Option<(&Vec<u8>, &Vec<u8>)>, key: &mut [u8], value: &mut [u8]) -> Popped

@@ -2,19 +2,20 @@
 //!
 //! If a handle has no map, `lru_bytes_new` makes a map, and `lru_bytes_clone` drops the map of the copy's handle. Every
 //! other call changes nothing and finds nothing. A put returns `NO_MAP`.
-ghost use Rattle.std.specs.Prelude.{◌≡◌, ◌≤◌, length, is_some, slice_get, IfSome, Option, Some, None, true, false, ⊤};
+ghost use Rattle.std.specs.Prelude.{◌≡◌, ◌≤◌, ◌∷◌, length, is_some, slice_get, IfSome, Option, Some, None, ⊤};
+ghost use Rattle.std.specs.Prelude.{true, false};
 ghost use Rattle.lru_limits.specs.Mixing.{seeded};
 ghost use Rattle.lru_model.specs.Calls.{Remove, promoted, cleared};
-ghost use Rattle.lru_model.specs.Lists.{lookup, last};
+ghost use Rattle.lru_model.specs.Lists.{lookup, last, without};
 ghost use Rattle.lru_model.specs.Sizes.{max_of_64_bits};
 ghost use Rattle.lru_model.specs.State.{empty_map, contents, Trims, IsWithin};
 ghost use Rattle.lru_c.specs.Answers.{OnMap};
 ghost use Rattle.lru_c.specs.Bytes.{Bytes, names_bytes, bytes_rules, total_weight, no_entry};
-ghost use Rattle.lru_c.specs.Bytes.{Reads, Puts, Pops, Shows, Copies, value_of};
+ghost use Rattle.lru_c.specs.Bytes.{Reads, Puts, Pops, PopsFor, Shows, Copies, value_of, must_evict, texts};
 
 use crate::answers::NO_MAP;
 use crate::bytes::answers::{Popped, Value, no_value, nothing_popped};
-use crate::bytes::calls::{copied, get, peek, pop_oldest, put, show};
+use crate::bytes::calls::{copied, get, peek, pop_for, pop_oldest, put, show};
 use crate::bytes::handle::{BytesMap, LruBytes};
 use crate::bytes::keys::Named;
 use crate::handle::with_map;
@@ -59,6 +60,11 @@ pub extern "C" fn lru_bytes_put(alloc: Global, lru: &mut LruBytes, key: &[u8], v
     ensures puts { OnMap (result ≡ 3) (λ old new. Puts key.now value.now old result new) lru.old.map lru.new.map }
     ensures stored { result ≡ 0 → IfSome lru.new.map (λ map. value_of key.now map ≡ Some value.now) }
     ensures rejected { result ≡ 1 → IfSome lru.new.map (λ map. value_of key.now map ≡ None) }
+    ensures in_room { result ≡ 0 → OnMap ⊤ (λ old new. must_evict key.now (length value.now) old ≡ false →
+        texts new.pairs ≡ (key.now, value.now) ∷ texts (without (names_bytes key.now) old.pairs))
+        lru.old.map lru.new.map }
+    ensures others { OnMap ⊤ (λ old new. must_evict key.now (length value.now) old ≡ false →
+        without (names_bytes key.now) new.pairs ≡ without (names_bytes key.now) old.pairs) lru.old.map lru.new.map }
 {
     with_map!(lru, alloc, |map| put(alloc, &mut map, key, value), NO_MAP)
 }
@@ -123,6 +129,29 @@ pub extern "C" fn lru_bytes_pop_oldest(
         lru,
         alloc,
         |map| pop_oldest(&mut map, key, value),
+        nothing_popped()
+    )
+}
+
+#[unsafe(no_mangle)]
+pub extern "C" fn lru_bytes_pop_for(
+    alloc: Global,
+    lru: &mut LruBytes,
+    key: &[u8],
+    value_len: usize,
+    key_buffer: &mut [u8],
+    value_buffer: &mut [u8],
+) -> Popped
+    ensures pops { OnMap
+        ((result ≡ no_entry) × (key_buffer.new ≡ key_buffer.old) × (value_buffer.new ≡ value_buffer.old))
+        (λ old new. PopsFor key.now value_len old result key_buffer.old key_buffer.new value_buffer.old
+        value_buffer.new new) lru.old.map lru.new.map }
+    ensures found { IfSome lru.old.map (λ map. result.found ≡ must_evict key.now value_len map) }
+{
+    with_map!(
+        lru,
+        alloc,
+        |map| pop_for(&mut map, key, value_len, key_buffer, value_buffer),
         nothing_popped()
     )
 }

@@ -1,12 +1,14 @@
 use Rattle.std.proofs.Common.{◌≡◌, List, ℕ, rules, refl, ap, ◌∙◌, subst, arith, true, false, inl, inr, Ok}
-use Rattle.std.proofs.Common.{is_some, option_map}
+use Rattle.std.proofs.Common.{is_some, length, option_map}
 use Rattle.std.specs.Map.{lookup}
 use Rattle.std.specs.Str.{bytes_eq}
 use Rattle.lru_limits.specs.Budget.{budget_terms}
 use Rattle.lru_model.specs.Inserts.{IsOutOfMemory}
 use Rattle.lru_model.proofs.CallerLemmas.{lookup-entry, inserted-found, offers_of-keeps}
-use Rattle.lru_c.specs.Bytes.{Bytes, BytesMap, FindsMemory, same_bytes, hash_of_bytes, bytes_rules, bytes_offers}
+use Rattle.lru_c.specs.Bytes.{Bytes, BytesMap, IsWithinBudget, FindsMemory, must_evict, same_bytes, hash_of_bytes}
+use Rattle.lru_c.specs.Bytes.{bytes_rules, bytes_offers}
 use Rattle.lru_c.specs.Bytes.Puts.{too_heavy, inserted}
+use Rattle.lru_c.proofs.RoomyPuts.{LeavesOthers, put_in_room, removed_others}
 use Rattle.lru_c.proofs.StoredBytes.{long_key_absent, removed_absent, inserted_found, rejected_absent}
 use Rattle.lru_c.proofs.WithinBudget.{weighs}
 use Rattle.lru_c.proofs.bytes.calls.put.Goals as goal
@@ -58,3 +60,35 @@ returns-in-Ok-true-clause-stored c = λ _. inserted_found c.args.key.now c.args.
 pub returns-in-Ok-false-clause-rejected : goal.returns-in-Ok-false-clause-rejected
 returns-in-Ok-false-clause-rejected c = λ _ _. rejected_absent c.args.key.now c.in-Ok.own_key c.insert.new.self
     (search rules) (rw (c.in-Ok-false.is ∙ ap Ok c.in-Ok-false.field-0-test) at c.insert.ensures.ends.says)
+
+leaves_others : (c : goal.In-Ok-true) → IsWithinBudget c.args.map.now
+    → must_evict c.args.key.now (length c.args.value.now) c.args.map.now ≡ false
+    → LeavesOthers c.args.key.now c.args.value.now c.args.map.now c.insert.result c.insert.new.self
+leaves_others c within roomy =
+    let k = c.in-Ok.own_key in
+    let v = c.in-Ok-from_slice.own_value in
+    put_in_room k v c.args.map.now c.get_ready_for.new.map c.insert.new.self c.insert.result within (search rules)
+    (λ some absent accepts. c.inserts_with_room_are_exact.ensures.added k v (k, v) c.get_ready_for.new.map
+    c.insert.result c.insert.new.self some absent accepts c.insert.ensures.step) c.insert.ensures.step c.args.key.now
+    c.args.value.now (search rules) (search rules) roomy (search rules) (c.get_ready_for.ensures.ready (search rules))
+    (c.get_ready_for.ensures.finds (search rules))
+
+pub returns-in-Ok-true-clause-in_room : goal.returns-in-Ok-true-clause-in_room
+returns-in-Ok-true-clause-in_room c = λ _ within roomy. (leaves_others c within roomy).in_room
+
+pub returns-in-Ok-true-clause-others : goal.returns-in-Ok-true-clause-others
+returns-in-Ok-true-clause-others c = λ within roomy. (leaves_others c within roomy).others
+
+pub returns-in-Ok-false-clause-others : goal.returns-in-Ok-false-clause-others
+returns-in-Ok-false-clause-others c = λ within roomy.
+    let k = c.in-Ok.own_key in
+    let v = c.in-Ok-from_slice.own_value in
+    (put_in_room k v c.args.map.now c.get_ready_for.new.map c.insert.new.self c.insert.result within (search rules)
+    (λ some absent accepts. c.inserts_with_room_are_exact.ensures.added k v (k, v) c.get_ready_for.new.map
+    c.insert.result c.insert.new.self some absent accepts c.insert.ensures.step) c.insert.ensures.step c.args.key.now
+    c.args.value.now (search rules) (search rules) roomy (search rules) (c.get_ready_for.ensures.ready (search rules))
+    (c.get_ready_for.ensures.finds (search rules))).others
+
+pub returns-then-weight_of-limit-clause-others : goal.returns-then-weight_of-limit-clause-others
+returns-then-weight_of-limit-clause-others c = λ _ _. removed_others c.args.key.now c.args.map.now c.remove.new.self
+    c.remove.result c.len-len.ensures.map c.remove.ensures.step
