@@ -22,7 +22,7 @@ loop-n-preserved g c =
     let one : n + 1 - start ≡ suc (n - start) = omega (arith, h.from) in
     let at : start + (n - start) ≡ n = omega (arith, h.from) in
     let usable : d.is_usable old.device ≡ false → IsCached n old =
-    λ unusable. elim (did.broken unusable) [| inl cached ↦ cached | inr failed ↦ cc] in
+    λ unusable. elim (did.broken unusable) [ inl cached ↦ cached | inr failed ↦ cc ] in
     record {
       from = omega (arith, h.from);
       to = inl (omega (arith, c.loop-n-test.true));

@@ -43,20 +43,20 @@ returns-then-is_above-clause-opens g c =
 pub invariant_of-self-2 : goal.invariant_of-self-2
 invariant_of-self-2 g c = subst (λ entries. Holds g.K.PartialEq.eq g.L.Summing.cost_of g.L.Summing.account
     g.L.Budgeted.budget_of entries (c.self.inside.budgets + c.args.budget) c.self.inside.total_limit)
-    (sym c.in-Ok.ensures.added) (kept-opened c.self.inside.tenants.pairs c.self.invariant c.args.name
+    (sym c.in-Ok.ensures.ends.added) (kept-opened c.self.inside.tenants.pairs c.self.invariant c.args.name
     c.fresh-map.result c.fresh-map.ensures.tenant (c.self.inside.budgets + c.args.budget)
     (ap (λ n. c.self.inside.budgets + n)
     (sym (ap (λ map. g.L.Budgeted.budget_of map.limiter) c.fresh-map.ensures.map ∙
     g.met.L.Budgeted.laws.made_budget c.args.budget))) (sym c.is_above.ensures ∙ c.if-is_above.false))
 
 pub invariant_of-self : goal.invariant_of-self
-invariant_of-self g c = rw (c.in_default.ensures.keeps) c.self.invariant
+invariant_of-self g c = rw (c.in_default.ensures.ends.keeps) c.self.invariant
 
 pub returns-clause-tenants : goal.returns-clause-tenants
 returns-clause-tenants g c = (invariant_of-self-2 g c).each
 
 pub returns-clause-total : goal.returns-clause-total
-returns-clause-total g c = rw (c.in-Ok.ensures.added, ← c.self.view_is) (λ ok. omega (
+returns-clause-total g c = rw (c.in-Ok.ensures.ends.added, ← c.self.view_is) (λ ok. omega (
   arith,
   ap (λ map. g.L.Budgeted.budget_of map.limiter) c.fresh-map.ensures.map
       ∙ g.met.L.Budgeted.laws.made_budget c.args.budget,
@@ -78,7 +78,7 @@ returns-clause-opens g c =
     let is = c.fresh-map.ensures.map ∙ ap
     (λ k. fresh g.L.Budgeted.made (g.L.LinkType.LinkType.number g.L.LinkType.LinkType.MAX) k c.args.budget)
     (sym c.self.view_is) in
-    rw (c.in-Ok.ensures.added, ← c.self.view_is) (on-from (Opens _ made) (Ok tt) cache
+    rw (c.in-Ok.ensures.ends.added, ← c.self.view_is) (on-from (Opens _ made) (Ok tt) cache
     (cache_of ((c.args.name, map) ∷ c.self.inside.tenants.pairs) c.self.inside.hasher c.self.inside.entry_bytes
     c.self.inside.total_limit) None (Some map) absent
     (subst (λ b. Opens b made None (Ok tt) (Some map)) (sym over) (inl (refl, ap Some is)))
@@ -96,7 +96,7 @@ returns-in_default g c =
     c.self.inside.entry_bytes c.args.budget))
     ∙ sym c.is_above.ensures ∙ c.if-is_above.false in
     let made = fresh g.L.Budgeted.made (g.L.LinkType.LinkType.number g.L.LinkType.LinkType.MAX) cache c.args.budget in
-    rw (c.in_default.ensures.keeps, ← c.self.view_is) (record {
+    rw (c.in_default.ensures.ends.keeps, ← c.self.view_is) (record {
       opens = on-from (Opens _ made) (Err Memory) cache cache None (tenant eq cache) absent
           (subst (λ b. Opens b made None (Err Memory) (tenant eq cache)) (sym over) (inr (refl, absent)))
           (leaves-same eq (g.met.N.Eq.laws.congr c.args.name) cache);

@@ -10,7 +10,7 @@ use Rattle.lru_tenants.proofs.pool.TenantPool.open.Goals as goal
 pub invariant_of-self-2 : goal.invariant_of-self-2
 invariant_of-self-2 g c =
     subst (λ entries. HoldsPool g.K.PartialEq.eq g.L.Summing.cost_of g.L.Summing.account g.L.Budgeted.budget_of entries
-    c.self.inside.limit (c.self.inside.shares + c.args.share) c.self.inside.total) (sym c.in-Ok.ensures.added)
+    c.self.inside.limit (c.self.inside.shares + c.args.share) c.self.inside.total) (sym c.in-Ok.ensures.ends.added)
     (pool-opened c.self.inside.tenants.pairs c.self.invariant c.args.name c.opened-own.result
     c.opened-own.ensures.part c.opened-own.ensures.empty (c.self.inside.shares + c.args.share)
     (omega (arith, ap (λ p. p.0) c.opened-own.ensures.own))
@@ -29,7 +29,7 @@ returns-clause-opens g c =
     let made = opened g.L.Budgeted.made (g.L.LinkType.LinkType.number g.L.LinkType.LinkType.MAX) pool c.args.share in
     let over = not-over ps c.self.invariant c.args.share (omega (arith, c.if-share-left.false, c.self.invariant.enough)) in
     let own = c.opened-own.result in
-    rw (c.in-Ok.ensures.added, ← c.self.view_is) (on-from (Opens (is_over pool c.args.share) made) (Ok tt) pool
+    rw (c.in-Ok.ensures.ends.added, ← c.self.view_is) (on-from (Opens (is_over pool c.args.share) made) (Ok tt) pool
     (pool_of ((c.args.name, own) ∷ ps) c.self.inside.limit c.self.inside.hasher c.self.inside.entry_bytes)
     None (Some own) absent
     (subst (λ b. Opens b made None (Ok tt) (Some own)) (sym over) (inl (refl, ap Some c.opened-own.ensures.own)))
@@ -44,5 +44,5 @@ returns-in_default-clause-opens g c =
     let absent = absent-from (part eq pool) (sym c.contains.ensures ∙ c.if-contains.false) in
     let made = opened g.L.Budgeted.made (g.L.LinkType.LinkType.number g.L.LinkType.LinkType.MAX) pool c.args.share in
     let over = not-over ps c.self.invariant c.args.share (omega (arith, c.if-share-left.false, c.self.invariant.enough)) in
-    rw (c.in_default.ensures.keeps, ← c.self.view_is) (on-same (Opens (is_over pool c.args.share) made) (Err Memory)
+    rw (c.in_default.ensures.ends.keeps, ← c.self.view_is) (on-same (Opens (is_over pool c.args.share) made) (Err Memory)
     pool None absent (subst (λ b. Opens b made None (Err Memory) None) (sym over) (inr (refl, refl))))
