@@ -5,7 +5,7 @@ use Rattle.lru_caches.specs.Pages.{ReadsPage, ReadsPages, ReadFails, IsCached}
 use Rattle.lru_caches.proofs.Blocks.{good-before}
 use Rattle.lru_caches.proofs.page_cache.PageCache.prefetch.Goals as goal
 
-error_or : {A E : Type 0} → E → Result A E → E
+abbrev error_or : {A E : Type 0} → E → Result A E → E
 error_or e (Ok x) = e
 error_or e (Err other) = other
 
