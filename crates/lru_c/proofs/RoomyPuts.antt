@@ -101,7 +101,8 @@ module _ (k v : Bytes) (map new : BytesMap) (result : Result Bool AllocError) (f
       of_new absent = leaves (k, v) refl refl ((added absent).pairs
           ∙ ap (λ pairs. (k, v) ∷ pairs) (sym (without_none (same_bytes k) map.pairs absent)))
 
-      go : Insert bytes_rules bytes_offers same_bytes hash_of_bytes k v map result new → LeavesOthers k.items v.items map new
+      go : Insert bytes_rules bytes_offers same_bytes hash_of_bytes k v map result new
+          → LeavesOthers k.items v.items map new
       go (replaced pair found taken says left) =
           let same = sym ((bytes_decides k.items pair.0.items).0 (found_named (same_bytes k) map.pairs pair found)) in
           let c = with_replaced bytes_rules bytes_offers same_bytes pair k v (contents map) in
