@@ -165,10 +165,6 @@ static bool try_pop(struct lru_bytes *lru, struct list *list, bool some, const s
     return true;
 }
 
-static bool try_pop_oldest(struct lru_bytes *lru, struct list *list) {
-    return try_pop(lru, list, list->len > 0, NULL, 0);
-}
-
 /* Pops until a put evicts nothing, and puts. As many entries stay as if the put alone evicted the oldest. */
 static bool try_pop_for(struct lru_bytes *lru, struct list *list, struct text key, struct text value) {
     static struct list alone;
@@ -220,7 +216,7 @@ static bool try_clone(struct lru_bytes *lru, const struct list *list) {
     copied = *list;
     CHECK(lru_bytes_budget(&copy) == list->budget && lru_bytes_len(&copy) == list->len);
     CHECK(lru_bytes_cost(&copy) == cost(list));
-    while (copied.len) CHECK(try_pop_oldest(&copy, &copied));
+    while (copied.len) CHECK(try_pop(&copy, &copied, true, NULL, 0));
     lru_bytes_free(&copy);
     return true;
 }
@@ -252,7 +248,7 @@ static bool try_call(struct lru_bytes *lru, struct list *list, const uint64_t se
         CHECK(lru_bytes_remove(lru, bytes_of(&key), key.len) == (i >= 0));
         if (i >= 0) drop(list, i);
     } else if (kind < 960) {
-        return try_pop_oldest(lru, list);
+        return try_pop(lru, list, list->len > 0, NULL, 0);
     } else if (kind < 978) {
         return try_peek(lru, list, kind % 2);
     } else if (kind < 980) {
@@ -317,7 +313,7 @@ static bool run(uint64_t budget, long calls) {
         CHECK(lru_bytes_budget(lru) == budget);
     }
     for (int i = 0; i < 2; i++) {
-        while (lists[i].len) CHECK(try_pop_oldest(&maps[i], &lists[i]));
+        while (lists[i].len) CHECK(try_pop(&maps[i], &lists[i], true, NULL, 0));
         lru_bytes_free(&maps[i]);
         CHECK(try_nothing(&maps[i]));
     }

@@ -1,6 +1,6 @@
 -- If all entries fit into the budget together, a put of byte strings evicts nothing. Pops make room for a put.
 use Rattle.std.proofs.Common.{◌≡◌, ◌≤◌, ◌<◌, ◌+◌, ◌-◌, ◌^◌, ℕ, Bool, true, false, cond, List, [], ◌∷◌, length, Option}
-use Rattle.std.proofs.Common.{Some, None, Result, Ok, not, refl, sym, ap, ◌∙◌, subst, arith}
+use Rattle.std.proofs.Common.{Some, None, Result, refl, sym, ap, ◌∙◌, subst, arith}
 use Rattle.std.proofs.lemmas.Bool.{true≢false}
 use Rattle.std.proofs.lemmas.Bool.Decides.{nat_tests}
 use Rattle.std.proofs.lemmas.Option.{none-some}
@@ -12,7 +12,7 @@ use Rattle.lru_model.specs.Calls.{Remove, promoted}
 use Rattle.lru_model.specs.Inserts.{Insert, replaced, not_replaced, no_memory_to_admit, not_admitted, admitted}
 use Rattle.lru_model.specs.Inserts.{with_replaced}
 use Rattle.lru_model.specs.Kept.{AcceptsNew, IsAdded}
-use Rattle.lru_model.specs.Lists.{is_empty, after, last, lookup_entry, without}
+use Rattle.lru_model.specs.Lists.{after, last, lookup_entry, without}
 use Rattle.lru_model.specs.Reservations.Reserve.{unchanged, rehashed, reserved as grown, asked_only}
 use Rattle.lru_model.specs.State.{contents, growth_left, IsMap}
 use Rattle.lru_model.proofs.CallerLemmas.{found_named, lookup-entry, without_none}
@@ -46,9 +46,7 @@ ready_same (reserved absent (grown needs count bytes table grants ok moves)) = a
 ready_same (reserved absent (asked_only needs count bytes table fails same)) = ap contents same
 
 -- what a put of this key and this value leaves, if it has to evict no other entry
-pub record LeavesOthers (key value : List ℕ) (old : BytesMap) (result : Result Bool AllocError) (new : BytesMap)
-    : Type 0 where
-  pub answer : result ≡ Ok true
+pub record LeavesOthers (key value : List ℕ) (old new : BytesMap) : Type 0 where
   pub in_room : texts new.pairs ≡ (key, value) ∷ texts (without (names_bytes key) old.pairs)
   pub others : without (names_bytes key) new.pairs ≡ without (names_bytes key) old.pairs
 
@@ -83,10 +81,9 @@ module _ (k v : Bytes) (map new : BytesMap) (result : Result Bool AllocError) (f
       (split_named cost (same_bytes k) map.pairs) in
       omega (arith, split, fits.sum, fits.room, ap length same, pair.0.ok.0, k.ok.0)
 
-  leaves : (pair : Bytes × Bytes) → pair.0.items ≡ k.items → pair.1.items ≡ v.items → result ≡ Ok true
-      → new.pairs ≡ pair ∷ without (same_bytes k) map.pairs → LeavesOthers k.items v.items map result new
-  leaves pair key value answer pairs = record {
-    answer = answer;
+  leaves : (pair : Bytes × Bytes) → pair.0.items ≡ k.items → pair.1.items ≡ v.items
+      → new.pairs ≡ pair ∷ without (same_bytes k) map.pairs → LeavesOthers k.items v.items map new
+  leaves pair key value pairs = record {
     in_room = ap texts pairs ∙ (λ i. (key i, value i) ∷ texts (without (same_bytes k) map.pairs));
     others = ap (without (same_bytes k)) pairs ∙ ap (λ b. cond b (without (same_bytes k) map.pairs)
         (pair ∷ without (same_bytes k) (without (same_bytes k) map.pairs)))
@@ -97,15 +94,15 @@ module _ (k v : Bytes) (map new : BytesMap) (result : Result Bool AllocError) (f
   stored : (lookup_entry (same_bytes k) map.pairs ≡ None
       → IsAdded bytes_rules bytes_offers same_bytes k v (k, v) map result new)
       → Insert bytes_rules bytes_offers same_bytes hash_of_bytes k v map result new
-      → LeavesOthers k.items v.items map result new
-  stored added step = go step
+      → LeavesOthers k.items v.items map new
+  stored added = go
     where
-      of_new : lookup_entry (same_bytes k) map.pairs ≡ None → LeavesOthers k.items v.items map result new
-      of_new absent = leaves (k, v) refl refl (added absent).answer ((added absent).pairs
+      of_new : lookup_entry (same_bytes k) map.pairs ≡ None → LeavesOthers k.items v.items map new
+      of_new absent = leaves (k, v) refl refl ((added absent).pairs
           ∙ ap (λ pairs. (k, v) ∷ pairs) (sym (without_none (same_bytes k) map.pairs absent)))
 
       go : Insert bytes_rules bytes_offers same_bytes hash_of_bytes k v map result new
-          → LeavesOthers k.items v.items map result new
+          → LeavesOthers k.items v.items map new
       go (replaced pair found taken says left) =
           let same = sym ((bytes_decides k.items pair.0.items).0 (found_named (same_bytes k) map.pairs pair found)) in
           let c = with_replaced bytes_rules bytes_offers same_bytes pair k v (contents map) in
@@ -113,7 +110,7 @@ module _ (k v : Bytes) (map new : BytesMap) (result : Result Bool AllocError) (f
           (record map.limiter { cost = map.limiter.cost - cost pair + weighs pair.0 v }) map.limiter in
           nat_lt d.limit d.cost) taken ∙ not_less _ _ (in_place pair found) in
           let is = ap contents left.is ∙ trim-within bytes_rules c within in
-          leaves (pair.0, v) same refl (says ∙ ap (λ d. Ok (not (is_empty d.pairs))) is) (ap (λ d. d.pairs) is)
+          leaves (pair.0, v) same refl (ap (λ d. d.pairs) is)
       go (not_replaced pair found taken says left) = absurd (true≢false (sym (can map.limiter.limit
           (map.limiter.cost - cost pair) (weighs pair.0 v) (in_place pair found) fits.small) ∙ taken))
       go (no_memory_to_admit absent out failed is) = of_new absent
@@ -125,7 +122,7 @@ module _ (k v : Bytes) (old ready new : BytesMap) (result : Result Bool AllocErr
   abbrev PutsInRoom : List ℕ → List ℕ → Type 0
   PutsInRoom key value = must_evict key (length value) old ≡ false
       → weight (length key) (length value) ≤ old.limiter.limit → IsReady key old ready → FindsMemory key ready
-      → LeavesOthers key value old result new
+      → LeavesOthers key value old new
 
   -- `adds` is the law of inserts with room
   module _ (adds : 0 < growth_left ready → lookup_entry (same_bytes k) ready.pairs ≡ None
@@ -144,7 +141,6 @@ module _ (k v : Bytes) (old ready new : BytesMap) (result : Result Bool AllocErr
         let is = stored k v ready new result fits_ready (λ absent. adds
         (finds (ap is_some (lookup-entry (same_bytes k) ready.pairs ∙ ap (option_map (λ p. p.1)) absent))) absent
         (accepted k v ready new result fits_ready absent)) step in record {
-          answer = is.answer;
           in_room = is.in_room
               ∙ ap (λ c. (k.items, v.items) ∷ texts (without (same_bytes k) c.pairs)) (ready_same is_ready);
           others = is.others ∙ ap (λ c. without (same_bytes k) c.pairs) (ready_same is_ready);

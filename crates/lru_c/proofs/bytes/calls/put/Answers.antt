@@ -63,7 +63,7 @@ returns-in-Ok-false-clause-rejected c = λ _ _. rejected_absent c.args.key.now c
 
 leaves_others : (c : goal.In-Ok-true) → IsWithinBudget c.args.map.now
     → must_evict c.args.key.now (length c.args.value.now) c.args.map.now ≡ false
-    → LeavesOthers c.args.key.now c.args.value.now c.args.map.now c.insert.result c.insert.new.self
+    → LeavesOthers c.args.key.now c.args.value.now c.args.map.now c.insert.new.self
 leaves_others c within roomy =
     let k = c.in-Ok.own_key in
     let v = c.in-Ok-from_slice.own_value in
