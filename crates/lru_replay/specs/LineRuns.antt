@@ -27,12 +27,12 @@ module _ {S : Type 0} (rules : Rules ℕ ℕ S) (offers : Offers ℕ ℕ S ℕ) 
       ⊎ (StoresFirst call × (reply ≡ no_memory) × (new ≡ old))
 
 module _ {S : Type 0} (rules : Rules ℕ ℕ S) (offers : Offers ℕ ℕ S ℕ) (reported : S → Option ℕ) where
-  -- the call is carried out, and the text is the text of the reply
+  -- the call is answered, and the text is the text of the reply
   abbrev pub TextStep : Map S → Call ℕ ℕ S → List ℕ → Map S → Type 0
   TextStep old call text new = (reply : Reply ℕ ℕ) × AnswersCall rules offers old call reply new
       × (text ≡ reply_text (reported old.limiter) reply)
 
-  -- If the line spells a call, the call is carried out. Otherwise the text is `bad`, and the map does not change.
+  -- If the line spells a call, the call is answered. Otherwise the text is `bad`, and the map does not change.
   abbrev pub LineStep : Map S → List ℕ → List ℕ → Map S → Type 0
   LineStep old line text new = ((call : Call ℕ ℕ S) × SpellsCall line call × TextStep old call text new)
       ⊎ (((call : Call ℕ ℕ S) → SpellsCall line call → ⊥) × (text ≡ bad_text) × (new ≡ old))

@@ -25,10 +25,10 @@ use lru_limits::{Admission, ByLength, Insertion, KeyHasher, Limiter};
 use lru_model::laws;
 use std::hash::Hash;
 
-/// These calls make a reference if they return `Ok`: an insert (`inserts`), an insert that evicts nothing (`tries`),
-/// and a call of a memo (`remembers`). If the map contains the key, a get (`gets`) and a promotion (`promotes`) make a
-/// reference. The program may write through the loan of the get. If a get returns `None`, the insert after it makes the
-/// reference. A reference to a key is also a reference to each equal key (`equal`).
+/// These calls make a reference if they return `Ok`: an insert (`inserts`), a `try_insert` (`tries`), and a call of a
+/// memo (`remembers`). If the map contains the key, a get (`gets`) and a promotion (`promotes`) make a reference. The
+/// program may write through the loan of the get. If a get returns `None`, the insert after it makes the reference. A
+/// reference to a key is also a reference to each equal key (`equal`).
 pub fn calls_make_references<K: Eq + Hash + Drop, V: Drop, S: KeyHasher<K>>()
     ensures inserts { (key : K) (value : V) (kept : Bool) (old new : State K V ByLength S) →
         KeepsToLength old → IsSized new →
@@ -181,12 +181,12 @@ pub fn a_smaller_map_is_included<K: Eq + Hash + Drop, V: Drop, S: KeyHasher<K>>(
         is_in K.eq key (keys_of small.pairs) ≡ true → is_in K.eq key (keys_of large.pairs) ≡ true }
 {}
 
-/// LRU is competitive, whichever calls make the references. Take any policy with h places, even a policy that knows the
-/// whole trace in advance. The policy begins with the keys `first`, and pays `paid` times for the same references. A
-/// map with `ByLength(k)`, h ≤ k, may contain any keys before. If the policy stores each referenced key, ahead
-/// (`loads`) or on demand (`demands`), the map misses at most `k / (k + 1 - h) * paid + length first` times. If the
-/// policy need not store the key, and h < k, the map misses at most `k / (k - h) * paid + length first` times
-/// (`bypasses`).
+/// LRU is competitive, whichever calls make the references. Take any policy with h places, which may know the trace in
+/// advance. The policy begins with the keys `first`, and pays `paid` times for the same references. A map with
+/// `ByLength(k)`, h ≤ k, may contain any keys before. If the policy stores each referenced key, ahead (`loads`) or on
+/// demand (`demands`, for at most h keys `first`), the map misses at most `k / (k + 1 - h) * paid + length first`
+/// times. If the policy need not store the key, and h < k, the map misses at most `k / (k - h) * paid + length first`
+/// times (`bypasses`).
 pub fn maps_are_competitive<K: Eq + Hash + Drop, V: Drop, S: KeyHasher<K>>()
     ensures loads { (trace : List K) (missed : ℕ) (old new : State K V ByLength S) (h paid : ℕ) (first left : List K) →
         IsDistinct K.eq (keys_of old.pairs) → length old.pairs ≤ old.limiter →

@@ -11,7 +11,7 @@ module _ {K : Type 0} (eq : K → K → Bool) where
   outside others (key ∷ keys) = fault eq key others + outside others keys
 
 module _ {K : Type 0} (eq : K → K → Bool) (places : ℕ) where
-  -- How a demand policy may change its cache at a reference. The number is 1 if it missed, else 0. If the key is there,
+  -- How a demand policy may change its cache at a reference. The number is 1 at a miss, else 0. If the key is there,
   -- the policy changes nothing. Otherwise it stores the key, and evicts any one key or none.
   pub data Demands (key : K) (old : List K) : ℕ → List K → Type 0 where
     finds : is_in eq key old ≡ true → Demands key old 0 old

@@ -5,7 +5,7 @@
 //! this under a limiter with a running total, and makes no call that would make the total wrong. [`replay`] reads lines
 //! that spell [`Call`]s, and writes their answers. `docs/REPLAY.md` lists the lines. All three functions carry out the
 //! same steps, which `docs/RUNS.md` explains. The theorems on runs are the contracts of the functions of [`laws`]. The
-//! theorems on programs that refer to keys, by any calls, are in [`references`] (`docs/THEORY.md`).
+//! theorems on programs that make references are in [`references`] and [`costs`] (`docs/THEORY.md`).
 
 #[allow(unused_imports)]
 use crate::rattle_std::prelude::*;

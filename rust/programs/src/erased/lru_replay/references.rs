@@ -9,10 +9,10 @@ use crate::erased::lru_limits::{Admission, ByLength, Insertion, KeyHasher, Limit
 use crate::erased::lru_model::laws;
 use crate::rattle_std::hash::Hash;
 
-/// These calls make a reference if they return `Ok`: an insert (`inserts`), an insert that evicts nothing (`tries`),
-/// and a call of a memo (`remembers`). If the map contains the key, a get (`gets`) and a promotion (`promotes`) make a
-/// reference. The program may write through the loan of the get. If a get returns `None`, the insert after it makes the
-/// reference. A reference to a key is also a reference to each equal key (`equal`).
+/// These calls make a reference if they return `Ok`: an insert (`inserts`), a `try_insert` (`tries`), and a call of a
+/// memo (`remembers`). If the map contains the key, a get (`gets`) and a promotion (`promotes`) make a reference. The
+/// program may write through the loan of the get. If a get returns `None`, the insert after it makes the reference. A
+/// reference to a key is also a reference to each equal key (`equal`).
 pub fn calls_make_references<K: Eq + Hash, V, S: KeyHasher<K>>() {
     laws::inserts_leave_the_newest::<K, V, S>();
     laws::maps_keep_to_their_length::<K, V, S>();
@@ -63,12 +63,12 @@ pub fn more_capacity_never_misses_more<K: Eq + Hash, V, S: KeyHasher<K>>() {}
 /// the calls of `calls_change_the_keys`.
 pub fn a_smaller_map_is_included<K: Eq + Hash, V, S: KeyHasher<K>>() {}
 
-/// LRU is competitive, whichever calls make the references. Take any policy with h places, even a policy that knows the
-/// whole trace in advance. The policy begins with the keys `first`, and pays `paid` times for the same references. A
-/// map with `ByLength(k)`, h ≤ k, may contain any keys before. If the policy stores each referenced key, ahead
-/// (`loads`) or on demand (`demands`), the map misses at most `k / (k + 1 - h) * paid + length first` times. If the
-/// policy need not store the key, and h < k, the map misses at most `k / (k - h) * paid + length first` times
-/// (`bypasses`).
+/// LRU is competitive, whichever calls make the references. Take any policy with h places, which may know the trace in
+/// advance. The policy begins with the keys `first`, and pays `paid` times for the same references. A map with
+/// `ByLength(k)`, h ≤ k, may contain any keys before. If the policy stores each referenced key, ahead (`loads`) or on
+/// demand (`demands`, for at most h keys `first`), the map misses at most `k / (k + 1 - h) * paid + length first`
+/// times. If the policy need not store the key, and h < k, the map misses at most `k / (k - h) * paid + length first`
+/// times (`bypasses`).
 pub fn maps_are_competitive<K: Eq + Hash, V, S: KeyHasher<K>>() {
     references_keep_the_newest::<K, V, S>();
     crate::erased::lru_theory::lru_is_competitive::<K>();
