@@ -96,9 +96,10 @@ fn callbacks_of_other_calls() {
     assert_eq!(map.update(9, 1), Updated::Absent(1));
     assert_eq!((map.get_or_insert(1, || 0).copied(), map.remove(&2)), (Some(1), Some(21)));
     map.trim();
+    assert_eq!(map.find_entry(&0).map(|entry| entry.remove()), Some(0));
     map.clear();
     map.trim();
-    assert_eq!(*log.borrow(), ["replace 2", "over 3", "removed 2", "over 2", "cleared"]);
+    assert_eq!(*log.borrow(), ["replace 2", "over 3", "removed 2", "over 2", "removed 0", "cleared"]);
 }
 
 #[test]
@@ -156,14 +157,18 @@ fn a_retain_asks_once_for_each_entry_and_passes_it_on_before_it_asks_again() {
 
 #[test]
 fn a_search_asks_no_more_after_its_answer() {
-    let (map, _) = filled(3000, 10_000);
+    let (mut map, _) = filled(3000, 10_000);
     for tag in 0..128u64 {
         let (hash, asked) = (tag << 57, Cell::new(0));
         let found = map.peek_by_hash(hash, |_, _| {
             asked.set(asked.get() + 1);
             true
         });
-        assert_eq!(asked.get(), u32::from(found.is_some()));
+        assert_eq!(asked.take(), u32::from(found.is_some()));
+        let found = map.find_entry_by_hash(hash, |_, _| asked.replace(asked.get() + 1) == 0).is_some();
+        assert_eq!(asked.get(), u32::from(found));
+        let mut rejected = std::collections::BTreeSet::new();
+        assert!(map.find_entry_by_hash(hash, |key, _| !rejected.insert(*key)).is_none());
     }
 }
 
@@ -197,6 +202,10 @@ fn a_key_is_hashed_once_by_an_insert_and_compared_once() {
     assert_eq!(HASHED.get(), 101);
     assert!(map.remove(&Key(7)) == Some(2));
     assert_eq!((HASHED.get(), COMPARED.get()), (102, 2));
+    let mut entry = map.find_entry(&Key(8)).unwrap();
+    entry.promote();
+    assert_eq!((entry.key().0, *entry.get(), entry.remove()), (8, 1, 1));
+    assert_eq!((HASHED.get(), COMPARED.get()), (103, 3));
 }
 
 /// A hasher that counts how often it is built.

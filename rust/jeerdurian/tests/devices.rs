@@ -254,6 +254,7 @@ fn a_cache_calls_its_device_only_if_it_has_to() {
     assert_eq!(calls(&mut |it| assert_eq!(it.prefetch(2..2), Ok(()))), [0, 0, 0]);
     assert_eq!(calls(&mut |it| assert_eq!(it.prefetch(4..9), Err(PageError::Device(7)))), [4, 1, 0]);
     assert_eq!(calls(&mut |it| assert_eq!(it.flush_page(3), Ok(()))), [0, 0, 0]);
+    assert_eq!(calls(&mut |it| assert_eq!((it.prefetch(20..520), it.hits()), (Ok(()), 3))), [500, 0, 0]);
     assert_eq!(calls(&mut |it| assert_eq!((it.write(9, 9), it.flush()), (Ok(()), Ok(())))), [0, 1, 1]);
     assert_eq!(calls(&mut |it| assert_eq!(it.flush(), Ok(()))), [0, 0, 1]);
     cache.discard();

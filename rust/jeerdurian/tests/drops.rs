@@ -55,6 +55,9 @@ fn what_calls_evict_is_dropped() {
     assert!(is_alive(2500));
     map.retain_with(|key, _| key.0 % 4 == 0, |key, value| drop((key, value)));
     assert!(is_alive(1250));
+    let mut entry = map.find_entry(&Live::new(20_000)).unwrap();
+    *entry.get_mut() = Live::new(1);
+    assert!(entry.get().0 == 1 && entry.remove().0 == 1 && is_alive(1249));
     drop(map.into_iter().next());
     assert!(is_alive(0));
 }
@@ -64,7 +67,8 @@ type Map = LruMap<Live, Live, UnlimitedCompact>;
 /// Makes a call with a closure that owns a value, which it accepts, rejects or fails with.
 fn ask(map: &mut Map, call: u64, owned: Live) {
     let accepts = owned.0 == 0;
-    let answer = move |_: &Live, _: &Live| owned.0 == 0;
+    // Without the reference, the closure would own only a copy of the number.
+    let answer = move |_: &Live, _: &Live| (&owned, accepts).1;
     let hash = std::hash::BuildHasher::hash_one(map.hasher(), Live::new(0));
     match call {
         0 => drop(map.pop_oldest_if(answer)),
@@ -73,7 +77,8 @@ fn ask(map: &mut Map, call: u64, owned: Live) {
         3 => drop(map.peek_by_hash_mut(hash, answer).is_some()),
         4 => map.retain(answer),
         5 => map.retain_with(answer, |key, value| drop((key, value))),
-        6 => drop(map.get_or_insert(Live::new(0), move || Live::new(answer(&Live::new(0), &Live::new(0)) as u64))),
+        6 => drop(map.find_entry_by_hash(hash, answer).is_some()),
+        7 => drop(map.get_or_insert(Live::new(0), move || Live::new(answer(&Live::new(0), &Live::new(0)) as u64))),
         _ => {
             let make = move || if answer(&Live::new(0), &Live::new(0)) { Ok(Live::new(1)) } else { Err(Live::new(2)) };
             let made = map.get_or_insert_fallible(Live::new(9), make).is_ok();
@@ -85,12 +90,12 @@ fn ask(map: &mut Map, call: u64, owned: Live) {
 /// A closure is dropped, whether it is called or not, and whatever it returns: on a map of one entry, and of none.
 #[test]
 fn closures_are_dropped() {
-    for case in 0..32 {
+    for case in 0..36 {
         let mut map = Map::new(UnlimitedCompact);
-        if case / 8 % 2 == 1 {
+        if case / 9 % 2 == 1 {
             assert!(map.insert(Live::new(0), Live::new(0)));
         }
-        ask(&mut map, case % 8, Live::new(case / 16));
+        ask(&mut map, case % 9, Live::new(case / 18));
         assert!(is_alive(map.len()), "case {case}");
     }
 }

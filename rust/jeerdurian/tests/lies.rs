@@ -40,6 +40,9 @@ where
         88 => *map = map.clone(),
         89 => _ = map.remove_entry(&Seed(n)),
         90 => _ = map.pop_oldest_if(|_, _| any(2) == 1),
+        91 => _ = map.find_entry(&Seed(n)).map(|it| it.remove()),
+        92 => _ = map.find_entry(&Seed(n)).map(|mut it| (*it.get_mut() = Item::new(n), it.promote(), it.demote())),
+        93 => _ = map.find_entry_by_hash(n << 57, |_, _| any(2) == 0).map(|it| it.remove_entry()),
         _ => _ = map.get_index(n as usize),
     }
 }

@@ -159,10 +159,12 @@ fn as_a_list() {
 fn other_calls_as_of_a_list() {
     for seed in 0..60 {
         let mut random = Random(seed);
-        let mut list = List { most: 40, ..Default::default() };
-        let mut map = LruMap::with_seed(ByLength::new(40), [seed, 2, 3, 4]);
+        let (most, kinds) = [(40, 100), (400, 99)][seed as usize % 2];
+        let mut list = List { most, ..Default::default() };
+        let mut map = LruMap::with_seed(ByLength::new(most as u32), [seed, 2, 3, 4]);
+        (0..most as u64 - 40).for_each(|n| assert_eq!(map.insert(n.to_string(), n), list.insert(&n.to_string(), n)));
         for v in 0..1000u64 {
-            let (k, kind) = (random.below(50).to_string(), random.below(100));
+            let (k, kind) = (random.below(most as u64 + 10).to_string(), random.below(kinds));
             match kind {
                 0..=40 => step(&mut map, &mut list, kind % 24, &k, v),
                 41..=98 => step_more(&mut map, &mut list, kind % 9, &k, v),

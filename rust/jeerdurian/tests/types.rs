@@ -161,6 +161,8 @@ fn holders_and_generic_callers() {
     let mut copy = holder.clone();
     assert!(format!("{copy:?}").contains("len: 1"));
     assert_eq!((generic(&mut copy.0), holder.0.len()), (1, 1));
+    let entry = jeerdurian::More::find_entry(&mut holder.0, &"a");
+    assert_eq!(format!("{entry:?}"), r#"Some(OccupiedEntry { key: "a", value: 1 })"#);
 }
 
 type S = std::hash::BuildHasherDefault<std::hash::DefaultHasher>;

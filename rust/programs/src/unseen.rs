@@ -4,6 +4,8 @@ use crate::erased::lru_caches::OrderedMap;
 use crate::erased::schnellru::{ByCost, ByLength, LruMap, RandomState, UnlimitedCompact};
 use crate::programs::test_helpers::Hog;
 use crate::rattle_std::alloc::{AllocError, Global};
+use std::cell::Cell;
+use std::hash::{BuildHasher, Hash, Hasher};
 
 const SEEDS: [u64; 4] = [1, 2, 3, 4];
 
@@ -68,6 +70,36 @@ fn insert_and_keep_asks_for_one_entry_more_than_there_are() {
         assert_eq!((done, map.len(), left.capacity()), (Ok(true), 1, n as usize + 1));
         assert!(left.iter().copied().eq((1..=n).map(|key| (key, 1))));
     }
+}
+
+/// A key that counts its hashes, and must not be compared.
+#[derive(Eq)]
+struct Counted<'a>(u64, &'a Cell<u64>);
+
+impl Hash for Counted<'_> {
+    fn hash<H: Hasher>(&self, hasher: &mut H) {
+        self.1.set(self.1.get() + 1);
+        self.0.hash(hasher);
+    }
+}
+
+impl PartialEq for Counted<'_> {
+    fn eq(&self, _: &Self) -> bool {
+        unreachable!()
+    }
+}
+
+/// It hashes only the entries that it moves.
+#[test]
+fn insert_absent_does_not_search() {
+    let (hashes, mut evicted) = (Cell::new(0), std::vec::Vec::new());
+    let mut map = LruMap::new(Global, ByLength::new(60), SEEDS, 16);
+    for n in 0..2000 {
+        let hash = map.hasher().hash_one(n);
+        let result = map.insert_absent(hash, Counted(n, &hashes), n, &mut |key: Counted, _| evicted.push(key.0));
+        assert_eq!((result, hashes.get()), (Ok(true), map.move_report().moved));
+    }
+    assert!(map.values().copied().eq((1940..2000).rev()) && evicted.into_iter().eq(0..1940));
 }
 
 #[test]
