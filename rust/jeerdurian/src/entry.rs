@@ -58,7 +58,9 @@ impl<'a, K: Hash + PartialEq, V, L: Limiter<K, V>, S: BuildHasher> OccupiedEntry
     /// Removes the entry. Returns the value, as the limiter leaves it.
     #[inline]
     pub fn remove(self) -> V {
-        self.remove_entry().1
+        // Not `.1`: if the drop of the key panics, the value is then dropped, too.
+        let (_, value) = self.remove_entry();
+        value
     }
 }
 

@@ -105,7 +105,7 @@ fn step_more(map: &mut LruMap<String, u64>, list: &mut List, kind: u64, k: &str,
 /// What a handle on an entry does.
 fn step_found(map: &mut LruMap<String, u64>, list: &mut List, k: &str, v: u64) {
     let hash = map.hasher().hash_one(k);
-    let found = if v % 2 == 0 { map.find_entry(k) } else { map.find_entry_by_hash(hash, |key, _| key == k) };
+    let found = if v & 1 == 0 { map.find_entry(k) } else { map.find_entry_by_hash(hash, |key, _| key == k) };
     let Some(at) = list.at(k) else { return assert!(found.is_none()) };
     let mut entry = found.unwrap();
     assert_eq!((entry.key(), entry.get()), (&list.pairs[at].0, &list.pairs[at].1));
