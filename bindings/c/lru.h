@@ -233,13 +233,16 @@ bool lru_bytes_remove(struct lru_bytes *lru, const uint8_t *key, size_t key_len)
 struct lru_popped lru_bytes_pop_oldest(struct lru_bytes *lru, uint8_t *key, size_t key_size, uint8_t *value,
                                        size_t value_size);
 
-/* Makes room for lru_bytes_put of this key with a value of `value_len` bytes. If the new entry and the entries of other
- * keys together weigh more than the budget, makes the entry of the key, if there is one, the newest, and then does what
- * lru_bytes_pop_oldest does: the oldest entry has another key then. Otherwise `found` is false, and nothing changes.
- * `found` is also false if the new entry alone weighs more than the budget, because lru_bytes_put rejects it.
+/* Pops the oldest entry of another key if lru_bytes_put of this key with a value of `value_len` bytes would evict it.
+ * The put would evict an entry if the new entry weighs at most the budget, but more than the budget together with the
+ * entries of other keys. Then this call makes the entry of the key, if there is one, the newest, and does what
+ * lru_bytes_pop_oldest does. If the oldest entry does not fit into the buffers, at most the order changes.
  *
- * If `found` is false, and the next call on the handle is this put, it evicts nothing. So this loop gets each entry that
- * has to go, the oldest first. A put alone would evict the same entries (tested).
+ * If the put would evict nothing, `found` is false, and nothing changes. So `found` is also false if the new entry
+ * alone weighs more than the budget, because lru_bytes_put rejects it.
+ *
+ * If `found` is false, and the next call on the handle is this put, the put evicts nothing. So this loop gets each
+ * entry that has to go, the oldest first. A put alone would evict the same entries (tested).
  *
  *     while ((p = lru_bytes_pop_for(&lru, key, key_len, value_len, k, k_size, v, v_size)).found)
  *         if (p.removed) write_back(k, p.key_len, v, p.value_len);
