@@ -9,7 +9,7 @@ use std::alloc::AllocError;
 use std::hash::Hash;
 
 impl<K: Eq + Hash + Drop, V: Drop, L: Insertion<K, V, K>, S: KeyHasher<K>> LruMap<K, V, L, S> {
-    /// Inserts entries one after another, as `insert` does. If the last entry is stored, it is the newest.
+    /// Inserts entries one after another, as `insert` does.
     ///
     /// ```
     /// map.try_extend([(4, 40), (5, 50)])?;

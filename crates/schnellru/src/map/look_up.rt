@@ -13,8 +13,7 @@ use std::hash::Hash;
 impl<K: Eq + Hash, V, L: Limiter<K, V>, S: KeyHasher<K>> LruMap<K, V, L, S> {
     ghost use Rattle.schnellru.specs.Lending.Values.{lends_value, lends_newest, lends_newest_value, ends_as};
 
-    /// Lends the value of a key for writing, and makes its entry the newest. Returns `None` if the key is not there.
-    /// The limiter is not notified of writes.
+    /// Lends the value of a key for writing, and makes its entry the newest. The limiter is not notified of writes.
     ///
     /// A `&str` looks up a `String` key: `map.get(&"a")`.
     ///
@@ -44,7 +43,7 @@ impl<K: Eq + Hash, V, L: Limiter<K, V>, S: KeyHasher<K>> LruMap<K, V, L, S> {
 
     /// Returns the entry of a key, and makes it the newest.
     ///
-    /// The returned key is the stored key, not the equal key that is looked up.
+    /// The returned key is the stored key.
     ///
     /// ```
     /// assert!(rt; map.get_key_value(&1) == Some((&1, &10)));
@@ -118,8 +117,7 @@ impl<K: Eq + Hash, V, L: Limiter<K, V>, S: KeyHasher<K>> LruMap<K, V, L, S> {
 
     /// Lends the value of the newest entry for writing.
     ///
-    /// Returns `None` if the map is empty. If `ensure_newest` has just returned true, the lent value is the value of
-    /// its key. Cost: `O(1)`.
+    /// Cost: `O(1)`.
     ///
     /// ```
     /// if let Some(count) = map.newest_mut() {
@@ -153,7 +151,7 @@ impl<K: Eq + Hash, V, L: Limiter<K, V>, S: KeyHasher<K>> LruMap<K, V, L, S> {
         &mut self.entries.pair_mut(b).value
     }
 
-    /// Returns whether a key is in the map. The order stays.
+    /// Returns whether a key is in the map.
     ///
     /// ```
     /// assert!(rt; map.contains(&1) && !map.contains(&9));
@@ -186,7 +184,7 @@ impl<K: Eq + Hash, V, L: Limiter<K, V>, S: KeyHasher<K>> LruMap<K, V, L, S> {
         Some(&self.pair_in(b).value)
     }
 
-    /// Returns the entry of a key. The order stays.
+    /// Returns the entry of a key.
     ///
     /// ```
     /// assert!(rt; map.peek_key_value(&1) == Some((&1, &10)));
@@ -227,7 +225,7 @@ impl<K: Eq + Hash, V, L: Limiter<K, V>, S: KeyHasher<K>> LruMap<K, V, L, S> {
         Some(self.value_in_mut(b))
     }
 
-    /// Returns the oldest entry. The order stays.
+    /// Returns the oldest entry.
     ///
     /// ```
     /// assert!(rt; map.peek_oldest() == Some((&1, &10)));
@@ -246,7 +244,7 @@ impl<K: Eq + Hash, V, L: Limiter<K, V>, S: KeyHasher<K>> LruMap<K, V, L, S> {
         Some((&pair.key, &pair.value))
     }
 
-    /// Returns the newest entry. The order stays.
+    /// Returns the newest entry.
     ///
     /// ```
     /// assert!(rt; map.peek_newest() == Some((&3, &30)));

@@ -7,8 +7,7 @@ use crate::map::LruMap;
 use lru_limits::{KeyHasher, Limiter};
 use std::hash::Hash;
 
-/// An iterator over the entries of a map, from both ends. `next` lends the newest entry that is left, until the next
-/// call of the iterator.
+/// An iterator over the entries of a map, from both ends.
 ///
 /// ```
 /// let mut walk = map.iter_mut();
@@ -50,8 +49,7 @@ impl<'a, K: Eq + Hash, V, L: Limiter<K, V>, S: KeyHasher<K>> IterMut<'a, K, V, L
         self.end.saturating_sub(self.start)
     }
 
-    /// Lends the newest entry that is left, with its value for writing, until the next call of the iterator. Returns
-    /// `None` if no entry is left.
+    /// Lends the newest entry that is left, with its value for writing, until the next call of the iterator.
     ///
     /// A caller's proof cannot use the clause `writes_back`. If `len` is not 0, proved code calls `lend_next` instead.
     ///
@@ -191,8 +189,7 @@ impl<K: Eq + Hash, V, L: Limiter<K, V>, S: KeyHasher<K>> LruMap<K, V, L, S> {
         }
     }
 
-    /// Calls the closure with each key and its value, newest first. The closure may write to the value. The order
-    /// stays.
+    /// Calls the closure with each key and its value, newest first. The order stays.
     ///
     /// ```
     /// map.for_each_mut(|_, value| *value = value.saturating_add(1));
