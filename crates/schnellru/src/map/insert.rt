@@ -224,7 +224,7 @@ impl<K: Eq + Hash, V, L: Limiter<K, V>, S: KeyHasher<K>> LruMap<K, V, L, S> {
     }
 
     /// Inserts a key that is not in the map, without a search. Takes what `insert_hashed` takes, and returns what
-    /// `insert` returns.
+    /// `insert` returns. The callback gets what `insert_with` passes.
     ///
     /// The prover checks that the key is absent. In Rust nothing does: if the key is there, the map then contains it
     /// twice.

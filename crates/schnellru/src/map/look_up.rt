@@ -117,7 +117,7 @@ impl<K: Eq + Hash, V, L: Limiter<K, V>, S: KeyHasher<K>> LruMap<K, V, L, S> {
 
     /// Lends the value of the newest entry for writing.
     ///
-    /// Cost: `O(1)`.
+    /// If `ensure_newest` has just returned true, the value is that of its key. Cost: `O(1)`.
     ///
     /// ```
     /// if let Some(count) = map.newest_mut() {
