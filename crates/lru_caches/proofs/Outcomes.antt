@@ -1,4 +1,3 @@
--- What follows from what a call returned.
 use Rattle.std.proofs.Common.{◌≡◌, true, false, Option, Some, None, is_some, Result, Ok, Err, OnOk, IfOk, OnSome, refl}
 use Rattle.std.proofs.lemmas.Bool.{true≢false, false≢true}
 

@@ -20,7 +20,7 @@ pub record Cached (B D : Type 0) : Type 0 where
   pub capacity : ℕ
   -- whether dirty pages stay until a flush
   pub keeps_dirty : Bool
-  -- how many successful calls found their page cached, and how many did not
+  -- how many successful reads, writes and pins found their page cached, and how many did not
   pub counts : Counts
   pub device : D
 

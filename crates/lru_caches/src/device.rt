@@ -1,4 +1,3 @@
-//! The trait of devices.
 ghost use Rattle.std.specs.Prelude.{◌≡◌, ◌≢◌, ◌⊎◌, ℕ, Bool, Option, Some, IsTrue, ◌↔◌, is_ok, IfOk, OnOk, IsOk};
 
 /// A device of numbered blocks, such as a disk or a file. Any call may fail.

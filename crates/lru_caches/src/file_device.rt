@@ -1,4 +1,3 @@
-//! A device over a file.
 ghost use Rattle.std.specs.Prelude.{◌≡◌, ℕ, Bool, ◌∷◌, [], nat_lt, if◌then◌else◌, IsTrue, IfOk, ◌^◌, ◌<◌};
 ghost use Rattle.lru_caches.specs.Files.{known, left, IsLeft, failures, IsHonest as AnsweredAsRecorded};
 ghost use Rattle.lru_caches.specs.Files.{written, unwritten, synced, unsynced};
@@ -54,8 +53,8 @@ pub struct FileDevice<F, const N: usize> {
 }
 
 impl<F: Read + Write + Seek, const N: usize> FileDevice<F, N> {
-    /// Makes a device of the first `count` blocks of a file. The file may be shorter. If a block is past the end of the
-    /// file, a read of the block fails, and a write makes the file longer.
+    /// Makes a device of the first `count` blocks of a file. The file may be shorter: past its end, a read fails, and a
+    /// write makes the file longer.
     ///
     /// ```
     /// let mut device: FileDevice<_, 4> = FileDevice::new(file, 3);
@@ -74,7 +73,7 @@ impl<F: Read + Write + Seek, const N: usize> FileDevice<F, N> {
         }
     }
 
-    /// Makes a device of all blocks that are whole in the file. Nothing is proved about their number.
+    /// Makes a device of all whole blocks of the file. Nothing is proved about their number.
     ///
     /// ```
     /// assert_eq!(rt; FileDevice::<_, 4>::open(Cursor::new(*b"zeroone.two.thr"))?.len(), 3);

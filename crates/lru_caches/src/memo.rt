@@ -1,4 +1,3 @@
-//! `Memo`. A contract sees a memo as the map of its stored results, and its function.
 ghost use Rattle.std.specs.Prelude.{◌≡◌, [], length, IfSome, Option, is_some};
 ghost use Rattle.std.specs.Fn.{FnReturnsAt, FnOnceReturnsAt};
 ghost use Rattle.std.specs.Map.{lookup};
@@ -17,8 +16,6 @@ pub(crate) mod loader;
 pub(crate) mod table;
 
 /// A function with its newest results, up to a limit.
-///
-/// A call of `answer` returns a result of the function (clause `answer`), and is a step of a map (clause `step`).
 ///
 /// ```
 /// let mut squares = Memo::new(alloc, ByLength::new(9), |n: &u64| n.wrapping_mul(*n));
@@ -162,8 +159,6 @@ impl<K: Eq + Hash + Drop, V: Drop, F: Fn(&K) -> V, L: Insertion<K, V, K>, S: Key
 > {
     /// Lends a closure the result that `answer` would return, and returns what the closure returns. The results need
     /// not be `Copy`.
-    ///
-    /// The closure is called once, even if the result is not stored.
     ///
     /// ```
     /// let mut blocks = Memo::new(alloc, ByLength::new(9), |n: &usize| vec![in alloc; 7u8; *n].ok());

@@ -1,4 +1,3 @@
-//! `PageCache`. A contract sees a cache as a `Cached`.
 ghost use Rattle.std.specs.Prelude.{◌≡◌, ◌≤◌, ℕ, [], Some, true, false, length, max, IsTrue, IsErr, ◌↔◌, IfOk, IfErr, OnOk, OnErr};
 ghost use Rattle.lru_model.specs.Lists.{is_empty};
 ghost use Rattle.lru_caches.specs.Pages.{shown, cleaned, IsCached, ShowsTheSame, CrashAdds, IsFlushCause, IsFlush, IsCutOff};
@@ -20,8 +19,6 @@ mod pages;
 mod pins;
 
 /// Why a call on a page cache failed. Unless a `sync` failed, the call changed no block that the cache shows.
-///
-/// A `PageError<E>` is `Display` if `E` is.
 ///
 /// ```
 /// assert_eq!(rt; cache.read(4), Err(PageError::NoBlock));
@@ -183,7 +180,7 @@ impl<B: Copy, D: BlockDevice<B>, S: KeyHasher<u64>> PageCache<B, D, S> {
         self.map.contains(&n)
     }
 
-    /// Returns how many successful reads, writes and pins found their page cached. The count stops at `u64::MAX`.
+    /// Returns how many successful reads, writes and pins found their page cached, at most `u64::MAX`.
     ///
     /// Cost: `O(1)`.
     ///
@@ -197,8 +194,7 @@ impl<B: Copy, D: BlockDevice<B>, S: KeyHasher<u64>> PageCache<B, D, S> {
         self.counts.hits
     }
 
-    /// Returns how many successful reads, writes and pins did not find their page cached. The count stops at
-    /// `u64::MAX`.
+    /// Returns how many successful reads, writes and pins did not find their page cached, at most `u64::MAX`.
     ///
     /// Cost: `O(1)`.
     ///
@@ -225,7 +221,7 @@ impl<B: Copy, D: BlockDevice<B>, S: KeyHasher<u64>> PageCache<B, D, S> {
         &self.device
     }
 
-    /// Writes all dirty pages to the device, and then calls its `sync`. The pages stay cached, and are clean then.
+    /// Writes all dirty pages to the device, and then calls its `sync`. The pages stay cached, and are clean.
     ///
     /// ```
     /// assert_eq!(rt; cache.flush(), Ok(()));

@@ -1,4 +1,3 @@
--- A put into a pool.
 use Rattle.std.proofs.Common.{◌≡◌, ◌≤◌, ◌<◌, ◌&&◌, ℕ, Bool, true, false, List, [], ◌∷◌, Option, Some, None, Result, Ok, Err, refl, sym}
 use Rattle.std.proofs.Common.{ap, ◌∙◌, subst, arith, sum_by}
 use Rattle.std.specs.Cmp.{IsEquivalence}

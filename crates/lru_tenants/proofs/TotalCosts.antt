@@ -1,4 +1,3 @@
--- The sum over all tenants.
 use Rattle.std.proofs.Common.{◌≡◌, ◌≤◌, ◌+◌, ℕ, Bool, List, [], ◌∷◌, Option, None, map, refl, sym, ap, ◌∙◌, arith}
 use Rattle.std.proofs.Common.{sum_by}
 use Rattle.std.specs.Option.{option_map, unwrap_or}

@@ -1,4 +1,3 @@
-//! `TenantCache`.
 ghost use Rattle.std.specs.Prelude.{◌≡◌, ◌+◌, [], length, Ok, None};
 ghost use Rattle.std.specs.Result.{OnErr};
 ghost use Rattle.std.specs.List.{IsDistinct};
@@ -26,8 +25,7 @@ use totals::is_above;
 
 /// A cache for many tenants. Each tenant has a name, and a map limited by its own budget.
 ///
-/// The limiter `L` says what an entry costs. `S` hashes names and keys. If `set_total_limit` set a total limit, the
-/// budgets of all tenants add up to at most this limit.
+/// The limiter `L` says what an entry costs. `S` hashes names and keys.
 ///
 /// In the examples of the calls, `cache` has one tenant, 1, with a budget of 3 and the entry (7, 2).
 ///

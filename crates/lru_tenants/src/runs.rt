@@ -1,4 +1,3 @@
-//! Lists of calls on a cache.
 ghost use Rattle.std.specs.Prelude.{◌≡◌, ◌≤◌, IfOk, IfSome, sum_by};
 ghost use Rattle.std.specs.Map.{values_of};
 ghost use Rattle.std.specs.Result.{OnErr};

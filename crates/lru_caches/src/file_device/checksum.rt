@@ -1,4 +1,3 @@
-//! The checksum of a block: 8 bytes at its end.
 ghost use Rattle.std.specs.Prelude.{◌≡◌, ◌≤◌, length, IfOk};
 ghost use Rattle.lru_caches.specs.Checksums.{hash_of as hash_of_bytes, with_tail, with_checksum as checked_block};
 

@@ -1,4 +1,3 @@
-//! A device over a file whose blocks have checksums.
 ghost use Rattle.std.specs.Prelude.{◌≡◌, ℕ, Bool, List, [], ◌∷◌, ◌-◌, ◌≤◌, take, nat_lt, if◌then◌else◌, IsTrue, IfOk, option_map};
 ghost use Rattle.lru_caches.specs.Checksums.{with_checksums, with_checksum as checked_block};
 ghost use Rattle.lru_caches.specs.Files.{known, left, IsLeft, failures, IsHonest as AnsweredAsRecorded};
@@ -57,7 +56,7 @@ impl<F: Read + Write + Seek, const N: usize> HashedFileDevice<F, N> {
         }
     }
 
-    /// Makes a device of all blocks that are whole in the file, as `FileDevice::open` does.
+    /// Makes a device of all whole blocks of the file, as `FileDevice::open` does.
     ///
     /// ```
     /// assert_eq!(rt; HashedFileDevice::<_, 16>::open(Cursor::new([0u8; 48]))?.len(), 3);

@@ -1,11 +1,10 @@
-//! A list of calls that only contracts see.
 ghost use Rattle.std.specs.Prelude.{◌≡◌, List, [], ◌∷◌};
 ghost use Rattle.std.specs.Borrow.{ftrue};
 ghost use Rattle.lru_caches.specs.Files.{Event, event_of};
 
 use std::marker::{Model, PhantomData};
 
-/// The calls on a file with their results, newest first.
+/// The calls on a file with their results, newest first. Only contracts see them.
 #[derive(Drop)]
 pub struct Record {
     marker: PhantomData<u8>,

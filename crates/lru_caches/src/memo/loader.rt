@@ -1,4 +1,3 @@
-//! `Loader`. A contract sees a loader as the map of its stored values, and its function.
 ghost use Rattle.std.specs.Prelude.{◌≡◌, [], length, None, Ok, IfOk, IfSome, OnErr};
 ghost use Rattle.std.specs.Fn.{FnReturnsAt, FnOnceReturnsAt};
 ghost use Rattle.std.specs.Map.{lookup};
@@ -13,9 +12,6 @@ use std::hash::Hash;
 use std::marker::Model;
 
 /// A memo of a function that may fail, such as a read of a file. It stores no failures.
-///
-/// A call of `load` returns a value of the function (clause `value`), or its error. An error changes nothing. A
-/// successful call is a step of a map (clause `step`).
 ///
 /// ```
 /// let disk = [10, 11, 12];
@@ -153,7 +149,7 @@ impl<
     ///
     /// # Errors
     ///
-    /// The function failed, with this error. The stored values stay.
+    /// The function failed, with this error. Nothing has changed.
     pub fn load(&mut self, key: K) -> Result<V, E>
         requires callable { F.IsAlwaysCallable self.old.function }
         requires known { AreAnswers K.eq (loads (FnReturnsAt F.Fn self.old.function)) self.old.map.pairs }

@@ -1,4 +1,3 @@
-//! If the cache is full: which page is evicted, and how.
 ghost use Rattle.std.specs.Prelude.{◌≡◌, ◌≢◌, ◌⊎◌, ◌≤◌, ◌<◌, ◌+◌, ℕ, ◌∷◌, length, nat_eq, None, Some, false};
 ghost use Rattle.std.specs.Prelude.{IsTrue, IfErr, IfOk, OnOk, OnErr};
 ghost use Rattle.std.specs.Map.{lookup};

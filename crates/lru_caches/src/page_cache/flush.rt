@@ -1,4 +1,3 @@
-//! The steps of a flush.
 ghost use Rattle.std.specs.Prelude.{◌≡◌, ◌≢◌, ◌⊎◌, ◌≤◌, ◌<◌, ℕ, length, nat_eq, Some, true, false};
 ghost use Rattle.std.specs.Prelude.{◌++◌, List, All, vec_capacity, IsPermutation, IsTrue, IfErr, OnOk, OnErr};
 ghost use Rattle.std.specs.List.{IsDistinct};

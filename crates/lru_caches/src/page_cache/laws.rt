@@ -1,4 +1,4 @@
-//! A law of page caches: the contract of a function that does nothing.
+//! A law: the contract of a function that does nothing.
 ghost use Rattle.std.specs.Prelude.{◌≡◌, ◌∷◌, ℕ, nat_eq, take, false};
 ghost use Rattle.lru_model.specs.Lists.{without};
 ghost use Rattle.lru_caches.specs.Pages.{pages_after, pinned};

@@ -1,4 +1,3 @@
-//! The steps of a page cache, over its map of pages and its device.
 ghost use Rattle.std.specs.Prelude.{◌≡◌, ◌≢◌, ◌⊎◌, ◌≤◌, ◌<◌, ◌+◌, ℕ, List, ◌∷◌, length, nat_eq, None, Some, Option};
 ghost use Rattle.std.specs.Prelude.{is_some, true, false, if◌then◌else◌, IsTrue, IfErr, IfOk, OnOk, OnErr};
 ghost use Rattle.std.specs.Fn.{FnOnceReturnsAt, FnOnceReturnsAtMut};
@@ -155,7 +154,6 @@ fn promote_hashed<B: Copy, S: KeyHasher<u64>>(map: &mut Pages<B, S>, hash: u64, 
     }
 }
 
-/// If page n is cached, overwrites its block. Returns whether it is cached.
 pub(super) fn overwrite<B: Copy, S: KeyHasher<u64>>(
     map: &mut Pages<B, S>,
     counts: &mut Counts,

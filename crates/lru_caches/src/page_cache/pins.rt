@@ -1,4 +1,3 @@
-//! Pages that may not be evicted: pinned pages and, if the cache keeps them, dirty pages.
 ghost use Rattle.std.specs.Prelude.{◌≡◌, ◌⊎◌, ℕ, Some, false, OnOk, IsOk};
 ghost use Rattle.lru_caches.specs.Pages.{shown, pages_pinned, pinned, unpinned_at, IsCached, ShowsTheSame, UsesPage};
 

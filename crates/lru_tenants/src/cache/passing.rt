@@ -1,4 +1,3 @@
-//! Calls that pass evicted or removed entries to a callback.
 ghost use Rattle.std.specs.Prelude.{◌≡◌, List, Some, true, false, Ok, IfOk, IfSome};
 ghost use Rattle.std.specs.Result.{OnErr};
 ghost use Rattle.lru_limits.specs.Admissions.{offers_of};

@@ -1,4 +1,3 @@
-//! Calls that remove a tenant's entries.
 ghost use Rattle.std.specs.Prelude.{◌≡◌};
 ghost use Rattle.lru_model.specs.Calls.{Remove, cleared};
 ghost use Rattle.lru_model.specs.Retains.{Retains};

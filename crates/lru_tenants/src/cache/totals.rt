@@ -1,4 +1,3 @@
-//! The total limit, and the sums over all tenants.
 ghost use Rattle.std.specs.Prelude.{◌≡◌, ◌≤◌, true, false, Ok, Err, IfSome, sum_by};
 ghost use Rattle.std.specs.Map.{values_of};
 ghost use Rattle.lru_tenants.specs.Cache.{budgets, is_above};

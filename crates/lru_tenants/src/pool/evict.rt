@@ -1,4 +1,3 @@
-//! Evictions from a pool: each evicts the oldest entry of the tenant furthest above its share.
 ghost use Rattle.std.specs.Prelude.{◌≡◌, ℕ, ◌+◌, ◌≤◌, ◌<◌, length, sum_by, Contains, Some};
 ghost use Rattle.std.specs.List.{All};
 ghost use Rattle.std.specs.Map.{values_of};

@@ -1,4 +1,3 @@
-//! What a pool keeps for a tenant.
 ghost use Rattle.std.specs.Prelude.{◌≡◌, ℕ, ◌+◌, ◌<◌, suc, length, Some};
 ghost use Rattle.lru_model.specs.Calls.{PopOldest};
 ghost use Rattle.lru_model.specs.State.{State, empty_map};

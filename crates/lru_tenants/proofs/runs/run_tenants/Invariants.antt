@@ -1,4 +1,3 @@
--- The calls so far are a run of each tenant.
 use Rattle.std.proofs.Common.{List, ◌≡◌, ◌≤◌, ◌++◌, length, vec_len, vec_capacity}
 use Rattle.std.specs.Vec.Iter.{into_iter_items, into_iter_len}
 use Rattle.lru_limits.specs.Admissions.{offers_of}

@@ -1,4 +1,3 @@
--- The removed pairs were passed to the callback, oldest first.
 use Rattle.std.proofs.Common.{◌≡◌, ◌++◌, List, length, reverse}
 use denote.Param.Always.{always_mut}
 use Rattle.lru_model.specs.Callbacks.{CalledWith}

@@ -1,4 +1,3 @@
--- The calls so far spared every other host.
 use Rattle.std.specs.Prelude.{string_eq}
 use Rattle.lru_limits.specs.Texts.{names_text}
 use Rattle.lru_tenants.specs.Pool.{SparesOthers}

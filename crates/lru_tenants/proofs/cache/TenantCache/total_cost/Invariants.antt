@@ -1,4 +1,3 @@
--- The sum so far, and a bound on it.
 use Rattle.std.proofs.Common.{◌≡◌, ◌≤◌, ◌*◌, ◌^◌, length, sum_by}
 use Rattle.lru_tenants.proofs.cache.TenantCache.total_cost.Given as goal
 

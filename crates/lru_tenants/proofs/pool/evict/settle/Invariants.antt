@@ -1,4 +1,3 @@
--- The evictions so far, and what they keep.
 use Rattle.std.proofs.Common.{◌≡◌, length, sum_by}
 use Rattle.std.specs.List.{All}
 use Rattle.std.specs.Map.{values_of}
