@@ -45,8 +45,8 @@ pub extern "C" fn rattle_texts(
     sum
 }
 
-/// Inserts values of 100 bytes into a map of at most `length` entries, and looks up each key. The values are parts of
-/// `bytes`. Returns a sum over the last bytes of the found values.
+/// Inserts values of 100 bytes, parts of `bytes`, into a map of at most `length` entries, and looks up each key.
+/// Returns a sum over the last bytes of the found values.
 #[unsafe(no_mangle)]
 pub extern "C" fn rattle_large_values(
     alloc: Global,

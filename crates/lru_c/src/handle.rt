@@ -95,7 +95,7 @@ impl Slot {
 }
 
 /// A handle: a map on the heap, or none. The map has at most its maximum length of entries (`FitsHandle`). A contract
-/// sees the map. C sees an address, or if there is no map, null.
+/// sees the map.
 ///
 /// Nothing drops a handle, because its map cannot be freed without an allocator.
 #[repr(C)]

@@ -66,7 +66,6 @@ module _ {K V : Type 0} (weight : K → V → ℕ) (n : ℕ) (fits : n < 2 ^ 63)
   abbrev offering : Left
   offering = record { pairs = pairs; limiter = spending weight n (spent costs pairs + weight key v) }
 
-  -- these contents with the pair in front
   abbrev onto : Left → Left
   onto c = record { pairs = (key, v) ∷ c.pairs; limiter = c.limiter }
 

@@ -15,8 +15,8 @@ use Rattle.lru_theory.proofs.Lists.{cached_taken}
 use Rattle.lru_replay.specs.References.{Cache, Referenced, Did, of_cost, of_length}
 use Rattle.lru_replay.proofs.ReferenceRuns.{IsCache, after, length_is, cost_is, did_keys}
 
--- What is true of two caches is true of two maps. The smaller cache begins with the keys `first`. If it contains the
--- first l keys of the larger cache after the trace, the smaller map contains the first l keys of the larger map.
+-- The smaller cache begins with the keys `first`. If it contains the first l keys of the larger cache after the trace,
+-- the smaller map contains the first l keys of the larger map.
 module _ {K V S H : Type 0} {cache : Cache K V S H} (is : IsCache cache) (old other : State K V S H) (trace first : List K)
     (missed more : ℕ) (small large : State K V S H) (run : Referenced cache old trace missed small)
     (others : Referenced cache other trace more large) (begin : AreEqual cache.eq (keys_of old.pairs) first) where

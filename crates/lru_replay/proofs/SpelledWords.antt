@@ -17,7 +17,6 @@ use Rattle.lru_replay.specs.declared.lines.words.Numbers.TheVariants as numbers
 use Rattle.lru_replay.specs.Grammar.{Words, Fit, SpellsCall, SpellsLimit, pair_spelling, numbers_text, said_of}
 use Rattle.lru_replay.specs.Grammar.{call_words, limit_words}
 
--- the word has at least one byte, and at most `most`
 abbrev pub IsWithin : ℕ → List ℕ → Type 0
 IsWithin most word = (0 < length word) × (length word ≤ most)
 

@@ -1,4 +1,4 @@
--- Runs of calls. Each call is a step from the state that the previous call left.
+-- Runs of calls.
 use Rattle.std.specs.Prelude.{◌≡◌, ℕ, Bool, List, [], ◌∷◌, ◌⊎◌, MatchOption}
 use Rattle.std.specs.List.{AllByRecursion}
 use Rattle.lru_limits.specs.Rules.{Rules, Offers}

@@ -1,5 +1,4 @@
 -- The rules and the offers of `ByCost` for numbers, and the running total that a limiter of a replay reports.
--- `Limiters` defines the rules and offers of the other limiters.
 use Rattle.std.specs.Prelude.{ℕ, Option, Some, None}
 use Rattle.lru_limits.specs.Rules.{Rules, Offers}
 use Rattle.lru_limits.specs.Budget.{Budget, by_cost, charges}

@@ -1,5 +1,4 @@
--- A whole replay. `IsOutput` says what is written for an input if nothing fails. `Replays` says what was read and
--- written, depending on how the replay ended.
+-- A whole replay.
 use Rattle.std.specs.Prelude.{◌≡◌, ℕ, List, [], ◌∷◌, ◌⊎◌, Option, OnSome, IfSome, Result, Ok, Err}
 use Rattle.std.specs.Io.KnownBytes.{Appends, IsAtEnd}
 use Rattle.lru_limits.specs.Limiters.{length_rules, length_offers, memory_rules, no_rules, all_offers}

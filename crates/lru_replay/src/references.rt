@@ -27,8 +27,7 @@ use std::hash::Hash;
 
 /// These calls make a reference if they return `Ok`: an insert (`inserts`), a `try_insert` (`tries`), and a call of a
 /// memo (`remembers`). If the map contains the key, a get (`gets`) and a promotion (`promotes`) make a reference. The
-/// program may write through the loan of the get. If a get returns `None`, the insert after it makes the reference. A
-/// reference to a key is also a reference to each equal key (`equal`).
+/// program may write through the loan of the get. A reference to a key is also a reference to each equal key (`equal`).
 pub fn calls_make_references<K: Eq + Hash + Drop, V: Drop, S: KeyHasher<K>>()
     ensures inserts { (key : K) (value : V) (kept : Bool) (old new : State K V ByLength S) →
         KeepsToLength old → IsSized new →
@@ -94,9 +93,8 @@ pub fn gets_that_insert_if_made_make_references<
     laws::calls_keep_the_length::<K, V, ByLength, S>();
 }
 
-/// What other calls do to the keys: a get or a promotion, even if the key is not in the map (`promotes`), a removal
-/// (`removes`), a clear (`clears`), a reservation (`reserves`), a shrink (`shrinks`), a write (`writes`), and a call
-/// that changes nothing (`looks`).
+/// What other calls do to the keys. `promotes` covers gets and promotions, even if the key is not in the map, and
+/// `looks` covers each call that changes nothing.
 pub fn calls_change_the_keys<K: Eq + Hash + Drop, V: Drop, S: KeyHasher<K>>()
     ensures promotes { (names : K → Bool) (key : K) (old new : State K V ByLength S) →
         names ≡ K.eq key → IsSized new → new ≡ promoted names old → Does K.eq (KeyCall.promotes key) old new }
@@ -118,8 +116,8 @@ pub fn calls_change_the_keys<K: Eq + Hash + Drop, V: Drop, S: KeyHasher<K>>()
     laws::calls_keep_the_length::<K, V, ByLength, S>();
 }
 
-/// A program made the references of a trace, and makes one more reference. This reference hits (`hits`) or misses
-/// (`misses`). The map still keeps to its length (`keeps`).
+/// A program made the references of a trace, and makes one more, which hits (`hits`) or misses (`misses`). The map
+/// still keeps to its length (`keeps`).
 pub fn programs_make_references<K: Eq + Hash + Drop, V: Drop, S: KeyHasher<K>>()
     ensures hits { (trace : List K) (missed : ℕ) (key : K) (value : V) (old mid new : State K V ByLength S) →
         Referenced (of_length K.eq) old trace missed mid → lookup (K.eq key) mid.pairs ≡ Some value →

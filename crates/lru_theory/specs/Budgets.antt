@@ -17,9 +17,10 @@ module _ {K : Type 0} (eq : K → K → Bool) (cost : K → ℕ) where
   abbrev pub refer_within : ℕ → K → List K → List K
   refer_within n key keys = affordable cost n (key ∷ remove_key (eq key) keys)
 
-  -- the keys after a trace, and below, how many references of the trace miss
+  -- the keys after a trace
   abbrev pub cached_within : ℕ → List K → List K → List K
   cached_within n = cached_by (refer_within n)
 
+  -- how many references of the trace miss
   abbrev pub faults_within : ℕ → List K → List K → ℕ
   faults_within n = faults_by eq (refer_within n)

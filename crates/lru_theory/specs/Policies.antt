@@ -26,8 +26,8 @@ module _ {K : Type 0} (eq : K → K → Bool) (places : ℕ) where
     pub stores : is_in eq key new ≡ true
     pub pays : outside eq old new ≤ paid
 
-  -- `Loads` for a policy that need not store the key of the reference. If the key was not in its cache, and is not
-  -- stored, the policy pays for this key, too.
+  -- `Loads` for a policy that need not store the referenced key. If the key was not in its cache, and is not stored,
+  -- the policy pays for this key, too.
   pub record Bypasses (key : K) (old : List K) (paid : ℕ) (new : List K) : Type 0 where
     pub fits : length new ≤ places
     pub stored : is_in eq key new ≡ true → outside eq old new ≤ paid

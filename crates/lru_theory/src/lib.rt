@@ -26,7 +26,7 @@ pub fn more_places_never_miss_more<K: Eq>()
 {}
 
 /// LRU is competitive, whatever both caches contain at first. Take any policy with h places, which may know the whole
-/// trace in advance, and an LRU cache of k ≥ h places. The policy begins with the keys `first`, and pays `paid` times.
+/// trace, and an LRU cache of k ≥ h places. The policy begins with the keys `first`, and pays `paid` times.
 ///
 /// - If the policy stores each referenced key, and may load keys ahead, LRU misses at most
 ///   `k / (k + 1 - h) * paid + length first` times (`loads`).
@@ -45,8 +45,8 @@ pub fn lru_is_competitive<K: Eq>()
         (k - h) * misses K.eq k past trace ≤ k * paid + (k - h) * length first }
 {}
 
-/// Loading keys ahead gains nothing. Suppose that a policy with h places begins with at most h keys, loads keys ahead,
-/// and pays `paid` times. Then some demand policy with h places and the same first keys misses at most `paid` times.
+/// Loading keys ahead gains nothing. If a policy with h places begins with at most h keys, loads keys ahead, and pays
+/// `paid` times, some demand policy with h places and the same first keys misses at most `paid` times.
 pub fn loading_ahead_gains_nothing<K: Eq>()
     ensures { (h : ℕ) (trace first left : List K) (paid : ℕ) → length first ≤ h →
         Served (Loads K.eq h) left first trace paid →
@@ -54,10 +54,9 @@ pub fn loading_ahead_gains_nothing<K: Eq>()
 {}
 
 /// A cache of n places is *included* in a cache of m places if its keys are keys of the larger cache, in the same
-/// order. The larger cache must contain at most m - n more keys. If the smaller cache is included before some calls, it
+/// order, and the larger cache contains at most m - n more keys. If the smaller cache is included before some calls, it
 /// is included after them (`included`). So the larger cache finds each key that the smaller cache finds (`finds`), and
-/// misses no more often in a trace (`misses`). The calls may reference keys, make them the newest, remove them or look
-/// at them.
+/// misses no more often in a trace (`misses`). `KeyCall` lists the calls.
 pub fn a_smaller_cache_is_included<K: Eq>()
     ensures included { (n m : ℕ) (calls : List (KeyCall K)) (small large : List K) → n ≤ m →
         IsIncluded K.eq n m small large →
@@ -68,8 +67,8 @@ pub fn a_smaller_cache_is_included<K: Eq>()
         faults K.eq m large trace ≤ faults K.eq n small trace }
 {}
 
-/// A larger budget never means more misses. Suppose that the cache with the smaller budget contains the newest keys of
-/// the other cache. Then it still does after any trace (`front`), and misses at least as often (`misses`).
+/// A larger budget never means more misses. If the cache with the smaller budget contains the newest keys of the other
+/// cache, it still does after any trace (`front`), and misses at least as often (`misses`).
 pub fn a_larger_budget_never_misses_more<K: Eq>()
     ensures front { (cost : K → ℕ) (n m some : ℕ) (keys trace : List K) → n ≤ m →
         let small = cached_within K.eq cost n (take some keys) trace in

@@ -1,5 +1,4 @@
--- The times of next references. A policy that knows the rest of the trace knows these times. A reference at time i
--- comes after i other references.
+-- The times of next references. A reference at time i comes after i other references.
 use Rattle.std.specs.Prelude.{◌≡◌, ℕ, suc, ◌+◌, nat_lt, Bool, if◌then◌else◌, List, [], ◌∷◌, Option, IfSome}
 use Rattle.std.specs.Ordering.{nat_cmp}
 use Rattle.std.specs.BTreeSet.{insert_key}

@@ -1,5 +1,4 @@
-//! Rows of lines of the program `replay`. Each row is replayed in one piece, in single bytes, and with each read and
-//! each write failing in turn.
+//! Rows of lines of the program `replay`.
 use crate::row::Row;
 use crate::streams::{Failure, Narrow, Slow, count_lines, error_at, front_lines};
 use lru_replay::{ReplayEnd, ReplayError, replay, status};

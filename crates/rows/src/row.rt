@@ -1,4 +1,4 @@
-//! Rows of a data file. `docs/ROWS.md` explains their form.
+//! Rows of a data file.
 use crate::escapes::unescape;
 use std::alloc::Global;
 use std::fmt::Write;

@@ -12,8 +12,7 @@ use std::marker::{Model, PhantomData};
 use std::mem::replace;
 use std::ptr::null_mut;
 
-/// The weight of an entry in addition to its key and its value: the bytes of a bucket, which contains two vectors and
-/// two links.
+/// The weight of an entry in addition to its key and its value: the bytes of a bucket.
 pub const OVERHEAD: u64 = 64;
 
 pub type BytesMap = LruMap<Vec<u8>, Vec<u8>, ByWeight<64>>;

@@ -1,4 +1,3 @@
--- None of the bytes so far is the byte to find.
 use Rattle.std.proofs.Common.{take}
 use Rattle.lru_replay.specs.Lines.{Lacks}
 use Rattle.lru_replay.proofs.lines.bytes.index_of.Given as goal
