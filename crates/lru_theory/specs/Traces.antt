@@ -57,10 +57,11 @@ module _ {K : Type 0} (eq : K → K → Bool) where
   faults_by refer keys [] = 0
   faults_by refer keys (key ∷ trace) = fault key keys + faults_by refer (refer key keys) trace
 
-  -- `cached_by` and `faults_by` for an LRU cache of n places
+  -- `cached_by` for an LRU cache of n places
   abbrev pub cached : ℕ → List K → List K → List K
   cached n = cached_by (refer n)
 
+  -- `faults_by` for an LRU cache of n places
   abbrev pub faults : ℕ → List K → List K → ℕ
   faults n = faults_by (refer n)
 

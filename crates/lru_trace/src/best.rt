@@ -49,8 +49,8 @@ impl Best {
         self.nexts[now]
     }
 
-    /// Returns how often MIN with `places` places misses, if it begins with no keys. MIN stores each referenced key. If
-    /// it then has too many keys, it evicts the other key whose next reference comes last. No policy with `places`
+    /// Returns how often MIN with `places` places misses, if it begins with no keys. MIN stores each referenced key, if
+    /// it has a place. If it then has too many keys, it evicts the other key whose next reference comes last. No policy with `places`
     /// places that begins with no keys, stores each referenced key, and loads keys only on demand misses less often.
     ///
     /// Cost: for n places, `O(log n)` for each reference. The memory is in proportion to the smaller of n and the

@@ -1,6 +1,4 @@
 // Erased from crates/lru_caches/src/device.rt: do not edit.
-//! The trait of devices.
-
 #[allow(unused_imports)]
 use crate::rattle_std::prelude::*;
 

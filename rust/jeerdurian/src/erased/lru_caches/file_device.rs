@@ -1,6 +1,4 @@
 // Erased from crates/lru_caches/src/file_device.rt: do not edit.
-//! A device over a file.
-
 #[allow(unused_imports)]
 use crate::rattle_std::prelude::*;
 
@@ -60,8 +58,8 @@ pub struct FileDevice<F, const N: usize> {
 }
 
 impl<F: Read + Write + Seek, const N: usize> FileDevice<F, N> {
-    /// Makes a device of the first `count` blocks of a file. The file may be shorter. If a block is past the end of the
-    /// file, a read of the block fails, and a write makes the file longer.
+    /// Makes a device of the first `count` blocks of a file. The file may be shorter: past its end, a read fails, and a
+    /// write makes the file longer.
     ///
     /// ```text
     /// let mut device: FileDevice<_, 4> = FileDevice::new(file, 3);
@@ -72,7 +70,7 @@ impl<F: Read + Write + Seek, const N: usize> FileDevice<F, N> {
         FileDevice { file: RecordedFile::new(file), count, is_usable: true }
     }
 
-    /// Makes a device of all blocks that are whole in the file. Nothing is proved about their number.
+    /// Makes a device of all whole blocks of the file. Nothing is proved about their number.
     ///
     /// ```text
     /// assert_eq!(rt; FileDevice::<_, 4>::open(Cursor::new(*b"zeroone.two.thr"))?.len(), 3);

@@ -1,6 +1,4 @@
 // Erased from crates/lru_caches/src/memo.rt: do not edit.
-//! `Memo`. A contract sees a memo as the map of its stored results, and its function.
-
 #[allow(unused_imports)]
 use crate::rattle_std::prelude::*;
 
@@ -12,8 +10,6 @@ pub(crate) mod loader;
 pub(crate) mod table;
 
 /// A function with its newest results, up to a limit.
-///
-/// A call of `answer` returns a result of the function (clause `answer`), and is a step of a map (clause `step`).
 ///
 /// ```text
 /// let mut squares = Memo::new(alloc, ByLength::new(9), |n: &u64| n.wrapping_mul(*n));
@@ -96,8 +92,6 @@ impl<K: Eq + Hash, V: Copy, F: Fn(&K) -> V, L: Insertion<K, V, K>, S: KeyHasher<
 impl<K: Eq + Hash, V, F: Fn(&K) -> V, L: Insertion<K, V, K>, S: KeyHasher<K>> Memo<K, V, F, L, S> {
     /// Lends a closure the result that `answer` would return, and returns what the closure returns. The results need
     /// not be `Copy`.
-    ///
-    /// The closure is called once, even if the result is not stored.
     ///
     /// ```text
     /// let mut blocks = Memo::new(alloc, ByLength::new(9), |n: &usize| vec![in alloc; 7u8; *n].ok());

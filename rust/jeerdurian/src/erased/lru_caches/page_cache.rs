@@ -1,6 +1,4 @@
 // Erased from crates/lru_caches/src/page_cache.rt: do not edit.
-//! `PageCache`. A contract sees a cache as a `Cached`.
-
 #[allow(unused_imports)]
 use crate::rattle_std::prelude::*;
 
@@ -19,8 +17,6 @@ mod pages;
 mod pins;
 
 /// Why a call on a page cache failed. Unless a `sync` failed, the call changed no block that the cache shows.
-///
-/// A `PageError<E>` is `Display` if `E` is.
 ///
 /// ```text
 /// assert_eq!(rt; cache.read(4), Err(PageError::NoBlock));
@@ -153,7 +149,7 @@ impl<B: Copy, D: BlockDevice<B>, S: KeyHasher<u64>> PageCache<B, D, S> {
         self.map.contains(&n)
     }
 
-    /// Returns how many successful reads, writes and pins found their page cached. The count stops at `u64::MAX`.
+    /// Returns how many successful reads, writes and pins found their page cached, at most `u64::MAX`.
     ///
     /// Cost: `O(1)`.
     ///
@@ -165,8 +161,7 @@ impl<B: Copy, D: BlockDevice<B>, S: KeyHasher<u64>> PageCache<B, D, S> {
         self.counts.hits
     }
 
-    /// Returns how many successful reads, writes and pins did not find their page cached. The count stops at
-    /// `u64::MAX`.
+    /// Returns how many successful reads, writes and pins did not find their page cached, at most `u64::MAX`.
     ///
     /// Cost: `O(1)`.
     ///
@@ -189,7 +184,7 @@ impl<B: Copy, D: BlockDevice<B>, S: KeyHasher<u64>> PageCache<B, D, S> {
         &self.device
     }
 
-    /// Writes all dirty pages to the device, and then calls its `sync`. The pages stay cached, and are clean then.
+    /// Writes all dirty pages to the device, and then calls its `sync`. The pages stay cached, and are clean.
     ///
     /// ```text
     /// assert_eq!(rt; cache.flush(), Ok(()));

@@ -1,6 +1,4 @@
 // Erased from crates/lru_tenants/src/cache.rt: do not edit.
-//! `TenantCache`.
-
 #[allow(unused_imports)]
 use crate::rattle_std::prelude::*;
 
@@ -20,8 +18,7 @@ use totals::is_above;
 
 /// A cache for many tenants. Each tenant has a name, and a map limited by its own budget.
 ///
-/// The limiter `L` says what an entry costs. `S` hashes names and keys. If `set_total_limit` set a total limit, the
-/// budgets of all tenants add up to at most this limit.
+/// The limiter `L` says what an entry costs. `S` hashes names and keys.
 ///
 /// In the examples of the calls, `cache` has one tenant, 1, with a budget of 3 and the entry (7, 2).
 ///

@@ -1,6 +1,4 @@
 // Erased from crates/lru_tenants/src/pool.rt: do not edit.
-//! `TenantPool`.
-
 #[allow(unused_imports)]
 use crate::rattle_std::prelude::*;
 
@@ -21,7 +19,7 @@ use part::{Part, cost_of, opened};
 /// A cache for many tenants. Each tenant has its own share of one limit, and any tenant may use the rest.
 ///
 /// All costs add up to at most the limit. While a tenant's cost is within its share, no call of another tenant changes
-/// the tenant. `put` says which entries it evicts.
+/// the tenant.
 ///
 /// In the examples of the calls, `pool` has a limit of 5 and two tenants. Tenant 1 has a share of 3 and the entry
 /// (7, 2). Tenant 2 has a share of 1 and no entry.

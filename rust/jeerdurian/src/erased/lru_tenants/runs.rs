@@ -1,6 +1,4 @@
 // Erased from crates/lru_tenants/src/runs.rt: do not edit.
-//! Lists of calls on a cache.
-
 #[allow(unused_imports)]
 use crate::rattle_std::prelude::*;
 

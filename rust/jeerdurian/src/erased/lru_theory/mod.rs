@@ -15,7 +15,7 @@ pub fn a_cache_is_the_newest<K: Eq>() {}
 pub fn more_places_never_miss_more<K: Eq>() {}
 
 /// LRU is competitive, whatever both caches contain at first. Take any policy with h places, which may know the whole
-/// trace in advance, and an LRU cache of k ≥ h places. The policy begins with the keys `first`, and pays `paid` times.
+/// trace, and an LRU cache of k ≥ h places. The policy begins with the keys `first`, and pays `paid` times.
 ///
 /// - If the policy stores each referenced key, and may load keys ahead, LRU misses at most
 ///   `k / (k + 1 - h) * paid + length first` times (`loads`).
@@ -24,19 +24,18 @@ pub fn more_places_never_miss_more<K: Eq>() {}
 ///   times (`bypasses`).
 pub fn lru_is_competitive<K: Eq>() {}
 
-/// Loading keys ahead gains nothing. Suppose that a policy with h places begins with at most h keys, loads keys ahead,
-/// and pays `paid` times. Then some demand policy with h places and the same first keys misses at most `paid` times.
+/// Loading keys ahead gains nothing. If a policy with h places begins with at most h keys, loads keys ahead, and pays
+/// `paid` times, some demand policy with h places and the same first keys misses at most `paid` times.
 pub fn loading_ahead_gains_nothing<K: Eq>() {}
 
 /// A cache of n places is *included* in a cache of m places if its keys are keys of the larger cache, in the same
-/// order. The larger cache must contain at most m - n more keys. If the smaller cache is included before some calls, it
+/// order, and the larger cache contains at most m - n more keys. If the smaller cache is included before some calls, it
 /// is included after them (`included`). So the larger cache finds each key that the smaller cache finds (`finds`), and
-/// misses no more often in a trace (`misses`). The calls may reference keys, make them the newest, remove them or look
-/// at them.
+/// misses no more often in a trace (`misses`). `KeyCall` lists the calls.
 pub fn a_smaller_cache_is_included<K: Eq>() {}
 
-/// A larger budget never means more misses. Suppose that the cache with the smaller budget contains the newest keys of
-/// the other cache. Then it still does after any trace (`front`), and misses at least as often (`misses`).
+/// A larger budget never means more misses. If the cache with the smaller budget contains the newest keys of the other
+/// cache, it still does after any trace (`front`), and misses at least as often (`misses`).
 pub fn a_larger_budget_never_misses_more<K: Eq>() {}
 
 /// A policy that stores each referenced key pays at least as often as MIN misses, whether it loads keys ahead (`loads`)

@@ -32,9 +32,9 @@ impl Best {
         (*at!(self.nexts, now))
     }
 
-    /// Returns how often MIN with `places` places misses, if it begins with no keys. MIN stores each referenced key. If
-    /// it then has too many keys, it evicts the other key whose next reference comes last. No policy that stores each
-    /// referenced key misses less often.
+    /// Returns how often MIN with `places` places misses, if it begins with no keys. MIN stores each referenced key, if
+    /// it has a place. If it then has too many keys, it evicts the other key whose next reference comes last. No policy with `places`
+    /// places that begins with no keys, stores each referenced key, and loads keys only on demand misses less often.
     ///
     /// Cost: for n places, `O(log n)` for each reference. The memory is in proportion to the smaller of n and the
     /// number of keys.
@@ -58,7 +58,8 @@ impl Best {
     }
 
     /// Returns how often MIN with bypass and `places` places misses, if it begins with no keys. This policy need not
-    /// store the key that is referenced. No policy misses less often.
+    /// store the referenced key. No policy with `places` places that begins with no keys, and loads keys only on
+    /// demand, misses less often.
     ///
     /// Cost: as `min_misses`.
     ///

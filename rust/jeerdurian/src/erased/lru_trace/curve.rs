@@ -41,8 +41,7 @@ impl Curve {
         Curve::make(alloc, None)
     }
 
-    /// Makes a curve that also keeps the references, with 8 bytes for each. From these, `best` makes a `Best`, which
-    /// counts how often the best possible policies miss.
+    /// Makes a curve that also keeps the references, for `best`, with 8 bytes for each.
     ///
     /// ```text
     /// let mut curve = Curve::keeping_references(alloc)?;

@@ -15,12 +15,11 @@ const MOST_LEVELS: u32 = 59;
 
 /// The keys of a trace, by the time of their last reference.
 ///
-/// Keys are the numbers that `add_key` returned. A contract sees the recency list: each key that was referenced, the
-/// last referenced key first.
+/// Keys are the numbers that `add_key` returned. A contract sees the recency list.
 ///
 /// Each reference takes the next slot of a log, and the slot that its key had before becomes free. If the log is full,
 /// the keys move to the front of a new log. If about half of the slots or more contain keys, the new log has twice as
-/// many slots. So the memory is in proportion to the number of keys, however long the trace is.
+/// many slots. So the memory is in proportion to the number of keys.
 
 pub struct Distances {
     log: Vec<Option<usize>>,

@@ -91,9 +91,8 @@ fn refer_line(curve: &mut Curve, options: Options, warm: bool, line: &[u8]) -> R
     Ok(Others { malformed: 0, skipped: 0 })
 }
 
-/// References the key of each remaining line, if the key is in the sample. Returns how many lines are malformed or
-/// skipped. A key is text of 1 to 64 bytes: the line, or a column of it. The first keys may be a warm-up, whose
-/// references are not counted. After each million lines, writes the number of lines to `progress`.
+/// References the key of each remaining line (see `trace`), if the key is in the sample. Returns how many lines are
+/// malformed or skipped. After each million lines, writes the number of lines to `progress`.
 ///
 /// # Errors
 ///

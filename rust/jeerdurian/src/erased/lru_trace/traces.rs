@@ -52,10 +52,8 @@ fn read_trace<R: BufRead, P: Write>(
 /// what is written. `docs/TRACE.md` shows examples.
 ///
 /// The first line names sizes. A later line spells a key if the line, or a column of it, is text of 1 to 64 bytes.
-/// Otherwise the line counts as malformed. If the key of a line after the warm-up is not in the sample, the line counts
-/// as skipped.
-/// `Policies::Best` also writes the misses of the best possible policies: in the text form for each named size, and in
-/// the other forms also for each power of two.
+/// Otherwise the line counts as malformed. `Policies::Best` also writes the misses of the best possible policies: in
+/// the text form for each named size, and in the other forms also for each power of two.
 ///
 /// Cost: `O(log n)` expected for each line and n keys. The memory is in proportion to the number of keys and the
 /// longest line. With `Policies::Best` the memory is also in proportion to the number of lines, and each size costs

@@ -26,7 +26,7 @@ mod positions;
 pub type Iter<'a, K, V, L> = Walk<'a, K, V, <L as Limiter<K, V>>::LinkType>;
 
 impl<K: Eq + Hash, V, L: Limiter<K, V>, S: KeyHasher<K>> LruMap<K, V, L, S> {
-    /// Returns an iterator over the entries, newest first. The order stays.
+    /// Returns an iterator over the entries, newest first.
     ///
     /// ```text
     /// let mut total = 0u64;
@@ -43,7 +43,7 @@ impl<K: Eq + Hash, V, L: Limiter<K, V>, S: KeyHasher<K>> LruMap<K, V, L, S> {
         self.entries.iter()
     }
 
-    /// Returns an iterator over the keys, newest first. The order stays.
+    /// Returns an iterator over the keys, newest first.
     ///
     /// ```text
     /// assert!(rt; map.keys().next() == Some(&3) && map.keys().next_back() == Some(&1));
@@ -56,7 +56,7 @@ impl<K: Eq + Hash, V, L: Limiter<K, V>, S: KeyHasher<K>> LruMap<K, V, L, S> {
         self.entries.keys()
     }
 
-    /// Returns an iterator over the values, newest first. The order stays.
+    /// Returns an iterator over the values, newest first.
     ///
     /// ```text
     /// assert!(rt; map.values().next() == Some(&30) && map.values().len() == 3);
@@ -69,7 +69,7 @@ impl<K: Eq + Hash, V, L: Limiter<K, V>, S: KeyHasher<K>> LruMap<K, V, L, S> {
         self.entries.values()
     }
 
-    /// Returns the entry at this index in the order of use. The newest entry has index 0. The order stays.
+    /// Returns the entry at this index in the order of use. The newest entry has index 0.
     ///
     /// ```text
     /// assert!(rt; map.get_index(0) == Some((&3, &30)) && map.get_index(3).is_none());
@@ -83,7 +83,7 @@ impl<K: Eq + Hash, V, L: Limiter<K, V>, S: KeyHasher<K>> LruMap<K, V, L, S> {
         Some((&pair.key, &pair.value))
     }
 
-    /// Returns the index of a key in the order of use. The newest key has index 0. The order stays.
+    /// Returns the index of a key in the order of use. The newest key has index 0.
     ///
     /// ```text
     /// assert_eq!(rt; (map.get_index_of(&1), map.get_index_of(&9)), (Some(2), None));

@@ -107,7 +107,7 @@ pub enum Answer<K, V> {
 
 /// Carries out the calls on the map, one after another, and returns one answer for each.
 ///
-/// Each answer is what the call on the map returns. `docs/RUNS.md` explains how to read a run.
+/// Each answer is what the call on the map returns.
 ///
 /// ```text
 /// let mut map: LruMap<u64, u64> = LruMap::new(alloc, ByLength::new(3), [1, 2, 3, 4], 16);

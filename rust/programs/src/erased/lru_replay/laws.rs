@@ -15,8 +15,8 @@ pub fn lists_are_runs<K: Eq + Hash, V, L: Insertion<K, V, K>, S: KeyHasher<K>>()
 
 /// A run does to a map what it does to a list of pairs with distinct keys (`exact`), under two premises. First, the
 /// limiter permits every growth, as `ByLength`, `ByCost` and the unlimited limiters do. Second, there is a table for
-/// each number of pairs that the map may have. `ListCallStep` defines the steps on the list. If the map has n pairs and
-/// the run m calls, it is enough that there is a table for 8 * (n + m + 1) pairs (`reached`).
+/// each number of pairs that the map may have. If the map has n pairs and the run m calls, it is enough that there is a
+/// table for 8 * (n + m + 1) pairs (`reached`).
 pub fn granted_calls_are_exact<K: Eq + Hash, V, L: Insertion<K, V, K>, S: KeyHasher<K>>() {
     laws::granted_inserts_are_exact::<K, V, K, L, S>();
     laws::calls_add_one_pair::<K, V, K, L, S>();

@@ -11,8 +11,7 @@ use crate::rattle_std::hash::Hash;
 
 /// These calls make a reference if they return `Ok`: an insert (`inserts`), a `try_insert` (`tries`), and a call of a
 /// memo (`remembers`). If the map contains the key, a get (`gets`) and a promotion (`promotes`) make a reference. The
-/// program may write through the loan of the get. If a get returns `None`, the insert after it makes the reference. A
-/// reference to a key is also a reference to each equal key (`equal`).
+/// program may write through the loan of the get. A reference to a key is also a reference to each equal key (`equal`).
 pub fn calls_make_references<K: Eq + Hash, V, S: KeyHasher<K>>() {
     laws::inserts_leave_the_newest::<K, V, S>();
     laws::maps_keep_to_their_length::<K, V, S>();
@@ -33,23 +32,23 @@ pub fn gets_that_insert_if_made_make_references<K: Eq + Hash, V, E, F: FnOnce() 
     laws::calls_keep_the_length::<K, V, ByLength, S>();
 }
 
-/// What other calls do to the keys: a get or a promotion, even if the key is not in the map (`promotes`), a removal
-/// (`removes`), a clear (`clears`), a reservation (`reserves`), a shrink (`shrinks`), a write (`writes`), and a call
-/// that changes nothing (`looks`).
+/// What other calls do to the keys. `promotes` covers gets and promotions, even if the key is not in the map, and
+/// `looks` covers each call that changes nothing.
 pub fn calls_change_the_keys<K: Eq + Hash, V, S: KeyHasher<K>>() {
     laws::inserts_leave_the_newest::<K, V, S>();
     laws::maps_keep_to_their_length::<K, V, S>();
     laws::calls_keep_the_length::<K, V, ByLength, S>();
 }
 
-/// A program made the references of a trace, and makes one more reference. This reference hits (`hits`) or misses
-/// (`misses`). The map still keeps to its length (`keeps`).
+/// A program made the references of a trace, and makes one more, which hits (`hits`) or misses (`misses`). The map
+/// still keeps to its length (`keeps`).
 pub fn programs_make_references<K: Eq + Hash, V, S: KeyHasher<K>>() {}
 
 /// After the references of a trace, the map contains the `max_length` keys that were referenced last (`keys`). A
 /// reference misses exactly if it is the first reference to its key, or if its reuse distance is at least `max_length`
-/// (`misses`). Keys that were in the map before count as referenced before the trace, the oldest key first. The map
-/// counts the misses: `placed`, the count of entries that inserts stored, rises by the number of misses (`stored`).
+/// (`misses`). Keys that were in the map before count as referenced before the trace, the oldest key first. If
+/// `max_length` is not 0, the map counts the misses: `placed`, the count of entries that inserts stored, rises by the
+/// number of misses, up to `u64::MAX` (`stored`).
 pub fn references_keep_the_newest<K: Eq + Hash, V, S: KeyHasher<K>>() {}
 
 /// More capacity never means more misses. Suppose that the references of one trace are made on two maps, by any calls.

@@ -1,6 +1,5 @@
 // Erased from crates/rows/src/lines.rt: do not edit.
-//! Rows of lines of the program `replay`. Each row is replayed in one piece, in single bytes, and with each read and
-//! each write failing in turn.
+//! Rows of lines of the program `replay`.
 #[allow(unused_imports)]
 use crate::rattle_std::prelude::*;
 

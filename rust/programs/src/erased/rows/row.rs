@@ -1,5 +1,5 @@
 // Erased from crates/rows/src/row.rt: do not edit.
-//! Rows of a data file. `docs/ROWS.md` explains their form.
+//! Rows of a data file.
 #[allow(unused_imports)]
 use crate::rattle_std::prelude::*;
 

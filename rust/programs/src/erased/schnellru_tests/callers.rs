@@ -22,7 +22,7 @@ fn put(map: &mut LruMap<u64, u64>, key: u64, value: u64) -> Result<bool, AllocEr
     Ok(kept)
 }
 
-/// Does what `put` does, for any types, with a limiter that stores values unchanged.
+/// Does what `put` does, for any types, with a limiter that changes no value.
 fn put_any<K: Eq + Hash, V, L: Insertion<K, V, K>>(
     map: &mut LruMap<K, V, L>,
     key: K,

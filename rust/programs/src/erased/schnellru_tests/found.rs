@@ -6,8 +6,7 @@ use crate::rattle_std::prelude::*;
 
 use crate::erased::schnellru::LruMap;
 
-/// Writes the value of a text and makes its entry the newest, if the text is there, with one search. Returns whether
-/// the text is there.
+/// Writes the value of a text and makes its entry the newest, if the text is there. Returns whether the text is there.
 fn refresh(map: &mut LruMap<String, u64>, text: &str, value: u64) -> bool {
     match map.find_entry(&text) {
         Some(mut entry) => {
@@ -19,8 +18,7 @@ fn refresh(map: &mut LruMap<String, u64>, text: &str, value: u64) -> bool {
     }
 }
 
-/// Removes the entry of a text if its value is below `least`, and otherwise makes the entry the newest, with one
-/// search.
+/// Removes the entry of a text if its value is below `least`, and otherwise makes the entry the newest.
 fn take_below(map: &mut LruMap<String, u64>, text: &str, least: u64) -> Option<(String, u64)> {
     let mut entry = map.find_entry(&text)?;
     if *entry.get() < least {
@@ -30,8 +28,7 @@ fn take_below(map: &mut LruMap<String, u64>, text: &str, least: u64) -> Option<(
     None
 }
 
-/// Writes the value of a text and makes its entry the oldest, if the text is there, with one search. Returns whether
-/// the text is there.
+/// Writes the value of a text and makes its entry the oldest, if the text is there. Returns whether the text is there.
 fn put_last(map: &mut LruMap<String, u64>, text: &str, value: u64) -> bool {
     match map.find_entry(&text) {
         Some(mut entry) => {

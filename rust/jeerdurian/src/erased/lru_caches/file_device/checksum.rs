@@ -1,6 +1,4 @@
 // Erased from crates/lru_caches/src/file_device/checksum.rt: do not edit.
-//! The checksum of a block: 8 bytes at its end.
-
 #[allow(unused_imports)]
 use crate::rattle_std::prelude::*;
 

@@ -1,6 +1,4 @@
 // Erased from crates/lru_caches/src/file_device/hashed.rt: do not edit.
-//! A device over a file whose blocks have checksums.
-
 #[allow(unused_imports)]
 use crate::rattle_std::prelude::*;
 
@@ -45,7 +43,7 @@ impl<F: Read + Write + Seek, const N: usize> HashedFileDevice<F, N> {
         HashedFileDevice { file: RecordedFile::new(file), count, is_usable: true }
     }
 
-    /// Makes a device of all blocks that are whole in the file, as `FileDevice::open` does.
+    /// Makes a device of all whole blocks of the file, as `FileDevice::open` does.
     ///
     /// ```text
     /// assert_eq!(rt; HashedFileDevice::<_, 16>::open(Cursor::new([0u8; 48]))?.len(), 3);

@@ -1,12 +1,10 @@
 // Erased from crates/lru_caches/src/file_device/record.rt: do not edit.
-//! A list of calls that only contracts see.
-
 #[allow(unused_imports)]
 use crate::rattle_std::prelude::*;
 
 use crate::rattle_std::marker::PhantomData;
 
-/// The calls on a file with their results, newest first.
+/// The calls on a file with their results, newest first. Only contracts see them.
 
 pub struct Record {
     marker: PhantomData<u8>,

@@ -1,6 +1,4 @@
 // Erased from crates/lru_caches/src/memo/loader.rt: do not edit.
-//! `Loader`. A contract sees a loader as the map of its stored values, and its function.
-
 #[allow(unused_imports)]
 use crate::rattle_std::prelude::*;
 
@@ -9,9 +7,6 @@ use crate::rattle_std::alloc::Global;
 use crate::rattle_std::hash::Hash;
 
 /// A memo of a function that may fail, such as a read of a file. It stores no failures.
-///
-/// A call of `load` returns a value of the function (clause `value`), or its error. An error changes nothing. A
-/// successful call is a step of a map (clause `step`).
 ///
 /// ```text
 /// let disk = [10, 11, 12];
@@ -92,7 +87,7 @@ impl<K: Eq + Hash, V: Copy, E, F: Fn(&K) -> Result<V, E>, L: Insertion<K, V, K>,
     ///
     /// # Errors
     ///
-    /// The function failed, with this error. The stored values stay.
+    /// The function failed, with this error. Nothing has changed.
     pub fn load(&mut self, key: K) -> Result<V, E> {
         self.load_with(key, |value| *value)
     }

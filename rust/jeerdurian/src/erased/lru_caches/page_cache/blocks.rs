@@ -1,6 +1,4 @@
 // Erased from crates/lru_caches/src/page_cache/blocks.rt: do not edit.
-//! Reads and writes of the blocks of a page cache.
-
 #[allow(unused_imports)]
 use crate::rattle_std::prelude::*;
 
@@ -26,9 +24,9 @@ impl<B: Copy, D: BlockDevice<B>, S: KeyHasher<u64>> PageCache<B, D, S> {
 
     /// Returns a block, and makes its page the newest.
     ///
-    /// If the page is not cached and the cache is full, the cache evicts the oldest page that may be evicted. If this
-    /// page is dirty, the cache first writes it to the device. A pinned page may not be evicted. If the cache
-    /// [keeps dirty pages](Self::set_keeps_dirty), a dirty page may not be evicted either.
+    /// If the page is not cached and the cache is full, evicts the oldest page that may be evicted, and first writes
+    /// it to the device if it is dirty. A pinned page may not be evicted, nor may a dirty page if the cache
+    /// [keeps dirty pages](Self::set_keeps_dirty).
     ///
     /// ```text
     /// assert_eq!(rt; (cache.read(1), cache.len()), (Ok(20), 1));
@@ -39,8 +37,8 @@ impl<B: Copy, D: BlockDevice<B>, S: KeyHasher<u64>> PageCache<B, D, S> {
     ///
     /// # Errors
     ///
-    /// If the page is cached, none. `Broken`, `NoBlock` or `Full`. `Device`: the read failed, or a page could not be
-    /// written back, and no page was evicted. `Memory`: a page may have been evicted.
+    /// Fails only if the page is not cached. `Broken`, `NoBlock` or `Full`: see [`PageError`]. `Device`: the read
+    /// failed, or a page could not be written back; no page was evicted. `Memory`: a page may have been evicted.
     pub fn read(&mut self, n: u64) -> Result<B, PageError<D::Error>> {
         self.read_with(n, |block| *block)
     }
@@ -91,8 +89,7 @@ impl<B: Copy, D: BlockDevice<B>, S: KeyHasher<u64>> PageCache<B, D, S> {
     ///
     /// # Errors
     ///
-    /// `Broken`, even if the page is cached. The other errors are as for `read`. After an error, the block is not
-    /// replaced.
+    /// `Broken`, even if the page is cached. Otherwise as `read`. After an error, the block is not replaced.
     pub fn write(&mut self, n: u64, block: B) -> Result<(), PageError<D::Error>> {
         admit(&self.device, n)?;
         let hash = self.map.hasher().hash_named(&n);
@@ -118,8 +115,7 @@ impl<B: Copy, D: BlockDevice<B>, S: KeyHasher<u64>> PageCache<B, D, S> {
     ///
     /// # Errors
     ///
-    /// `Broken`, even if the page is cached. The other errors are as for `read`. After an error, the closure is not
-    /// called.
+    /// `Broken`, even if the page is cached. Otherwise as `read`. After an error, the closure is not called.
     pub fn write_with<R, U: FnOnce(&mut B) -> R>(&mut self, n: u64, write: U) -> Result<R, PageError<D::Error>> {
         if !self.device.is_usable() {
             return Err(PageError::Broken);

@@ -1,6 +1,4 @@
 // Erased from crates/lru_caches/src/page_cache/evict.rt: do not edit.
-//! If the cache is full: which page is evicted, and how.
-
 #[allow(unused_imports)]
 use crate::rattle_std::prelude::*;
 

@@ -1,6 +1,4 @@
 // Erased from crates/lru_caches/src/page_cache/flush.rt: do not edit.
-//! The steps of a flush.
-
 #[allow(unused_imports)]
 use crate::rattle_std::prelude::*;
 

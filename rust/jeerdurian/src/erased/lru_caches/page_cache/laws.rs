@@ -1,5 +1,5 @@
 // Erased from crates/lru_caches/src/page_cache/laws.rt: do not edit.
-//! A law of page caches: the contract of a function that does nothing.
+//! A law: the contract of a function that does nothing.
 
 #[allow(unused_imports)]
 use crate::rattle_std::prelude::*;

@@ -1,6 +1,4 @@
 // Erased from crates/lru_caches/src/page_cache/pages.rt: do not edit.
-//! The steps of a page cache, over its map of pages and its device.
-
 #[allow(unused_imports)]
 use crate::rattle_std::prelude::*;
 
@@ -84,7 +82,6 @@ fn promote_hashed<B: Copy, S: KeyHasher<u64>>(map: &mut Pages<B, S>, hash: u64, 
     }
 }
 
-/// If page n is cached, overwrites its block. Returns whether it is cached.
 pub(super) fn overwrite<B: Copy, S: KeyHasher<u64>>(
     map: &mut Pages<B, S>,
     counts: &mut Counts,

@@ -1,6 +1,4 @@
 // Erased from crates/lru_caches/src/page_cache/pins.rt: do not edit.
-//! Pages that may not be evicted: pinned pages and, if the cache keeps them, dirty pages.
-
 #[allow(unused_imports)]
 use crate::rattle_std::prelude::*;
 

@@ -1,6 +1,4 @@
 // Erased from crates/lru_tenants/src/cache/passing.rt: do not edit.
-//! Calls that pass evicted or removed entries to a callback.
-
 #[allow(unused_imports)]
 use crate::rattle_std::prelude::*;
 

@@ -1,6 +1,4 @@
 // Erased from crates/lru_tenants/src/cache/reading.rt: do not edit.
-//! Calls that read a tenant's map.
-
 #[allow(unused_imports)]
 use crate::rattle_std::prelude::*;
 

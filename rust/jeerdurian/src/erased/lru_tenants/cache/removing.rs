@@ -1,6 +1,4 @@
 // Erased from crates/lru_tenants/src/cache/removing.rt: do not edit.
-//! Calls that remove a tenant's entries.
-
 #[allow(unused_imports)]
 use crate::rattle_std::prelude::*;
 

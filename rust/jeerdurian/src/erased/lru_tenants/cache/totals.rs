@@ -1,6 +1,4 @@
 // Erased from crates/lru_tenants/src/cache/totals.rt: do not edit.
-//! The total limit, and the sums over all tenants.
-
 #[allow(unused_imports)]
 use crate::rattle_std::prelude::*;
 

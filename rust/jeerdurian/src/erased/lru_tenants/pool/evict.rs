@@ -1,6 +1,4 @@
 // Erased from crates/lru_tenants/src/pool/evict.rt: do not edit.
-//! Evictions from a pool: each evicts the oldest entry of the tenant furthest above its share.
-
 #[allow(unused_imports)]
 use crate::rattle_std::prelude::*;
 

@@ -1,6 +1,4 @@
 // Erased from crates/lru_tenants/src/pool/part.rt: do not edit.
-//! What a pool keeps for a tenant.
-
 #[allow(unused_imports)]
 use crate::rattle_std::prelude::*;
 

@@ -32,8 +32,7 @@ impl<K: Eq + Hash, V, L: Limiter<K, V>, S: KeyHasher<K>> LruMap<K, V, L, S> {
         Some(self.value_in_mut(b))
     }
 
-    /// Returns the value of an entry that `is_eq` accepts. The order stays. For the calls of `is_eq`, see
-    /// `get_by_hash`.
+    /// Searches as `get_by_hash` does, and returns the value. The order stays.
     ///
     /// ```text
     /// let hash = RandomState::default().hash_one(&1u64);
@@ -49,8 +48,7 @@ impl<K: Eq + Hash, V, L: Limiter<K, V>, S: KeyHasher<K>> LruMap<K, V, L, S> {
         Some(&self.pair_in(b).value)
     }
 
-    /// Searches for an entry that `is_eq` accepts, and lends its value for writing. The order stays. For the calls of
-    /// `is_eq`, see `get_by_hash`.
+    /// Searches as `get_by_hash` does, and lends the value for writing. The order stays.
     ///
     /// ```text
     /// let hash = RandomState::default().hash_one(&1u64);

@@ -17,8 +17,8 @@ impl<K: TryClone, V: TryClone, L: Limiter<K, V> + TryClone, S: TryClone> LruMap<
     /// ```
     ///
     /// A clone of a key must equal the key, and a clone of the hasher must return the same hashes. `Clone` cannot
-    /// require this, so `LruMap` does not implement it. Cost: `O(buckets)`, two requests for memory if the map has
-    /// buckets, and what the clones of keys, values, limiter and hasher request.
+    /// require this, so `LruMap` does not implement it. Cost: `O(buckets)`, two allocations if the map has buckets, and
+    /// what the clones of keys, values, limiter and hasher allocate.
     ///
     /// # Errors
     ///

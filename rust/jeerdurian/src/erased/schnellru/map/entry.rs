@@ -26,9 +26,7 @@ pub struct OccupiedEntry<'a, K, V, L: Limiter<K, V>, S> {
 }
 
 impl<K: Eq + Hash, V, L: Limiter<K, V>, S: KeyHasher<K>> LruMap<K, V, L, S> {
-    /// Searches for a key, and returns a handle on its entry. Returns `None` if the key is not there. The order stays.
-    ///
-    /// With the handle, the caller reads, writes, promotes, demotes or removes the entry without a second search.
+    /// Searches for a key, and returns a handle on its entry. The order stays.
     ///
     /// ```text
     /// if let Some(entry) = map.find_entry(&1) {
@@ -48,8 +46,7 @@ impl<K: Eq + Hash, V, L: Limiter<K, V>, S: KeyHasher<K>> LruMap<K, V, L, S> {
         Some(OccupiedEntry { map: self, bucket })
     }
 
-    /// Searches for an entry that `is_eq` accepts, and returns a handle on it. The order stays. For the calls of
-    /// `is_eq`, see `get_by_hash`.
+    /// Searches as `get_by_hash` does, and returns a handle on the entry. The order stays.
     ///
     /// ```text
     /// let hash = RandomState::default().hash_one(&1u64);
@@ -98,7 +95,7 @@ impl<'a, K: Eq + Hash, V, L: Limiter<K, V>, S: KeyHasher<K>> OccupiedEntry<'a, K
         &self.map.pair_in(self.bucket).value
     }
 
-    /// Lends the value for writing. The order stays. The limiter is not notified of writes.
+    /// Lends the value for writing. The order stays.
     ///
     /// ```text
     /// if let Some(mut entry) = map.find_entry(&1) {
@@ -114,8 +111,7 @@ impl<'a, K: Eq + Hash, V, L: Limiter<K, V>, S: KeyHasher<K>> OccupiedEntry<'a, K
         self.map.value_in_mut(bucket)
     }
 
-    /// Lends the value for writing, until the loan of the map ends. The order stays. The limiter is not notified of
-    /// writes.
+    /// Lends the value for writing, until the loan of the map ends. The order stays.
     ///
     /// ```text
     /// if let Some(entry) = map.find_entry(&1) {
@@ -161,7 +157,7 @@ impl<'a, K: Eq + Hash, V, L: Limiter<K, V>, S: KeyHasher<K>> OccupiedEntry<'a, K
         self.map.demote_at(self.bucket);
     }
 
-    /// Removes the entry. Returns the stored key and its value. The other entries keep their order.
+    /// Removes the entry. Returns the stored key and its value.
     ///
     /// ```text
     /// let removed = map.find_entry(&1).map(|entry| entry.remove_entry());

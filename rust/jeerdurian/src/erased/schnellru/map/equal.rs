@@ -15,8 +15,7 @@ use crate::rattle_std::hash::Hash;
 ///
 /// Cost: `O(1)` if the lengths differ, else `O(n)` for n entries.
 ///
-/// Follows `LinkedHashMap` of the crate `hashlink`. A `get` changes the order of use, so it may make equal maps
-/// unequal.
+/// Follows `LinkedHashMap` of the crate `hashlink`. A `get` may make equal maps unequal.
 impl<K: Eq + Hash, V: PartialEq, L: Limiter<K, V>, S: KeyHasher<K>> PartialEq for LruMap<K, V, L, S> {
     fn eq(&self, other: &Self) -> bool {
         self.entries == other.entries

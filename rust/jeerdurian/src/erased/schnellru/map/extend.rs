@@ -8,7 +8,7 @@ use crate::rattle_std::alloc::AllocError;
 use crate::rattle_std::hash::Hash;
 
 impl<K: Eq + Hash, V, L: Insertion<K, V, K>, S: KeyHasher<K>> LruMap<K, V, L, S> {
-    /// Inserts entries one after another, as `insert` does. If the last entry is stored, it is the newest.
+    /// Inserts entries one after another, as `insert` does.
     ///
     /// ```text
     /// map.try_extend([(4, 40), (5, 50)])?;

@@ -101,9 +101,9 @@ impl<K: Eq + Hash, V, L: Limiter<K, V>, S: KeyHasher<K>> LruMap<K, V, L, S> {
     /// Lends the value of a key for writing. If the key is not there, inserts it with the value that the closure
     /// returns.
     ///
-    /// If the key is there, the closure is not called, and the entry of the key becomes the newest. If the new entry is
-    /// not in the map afterwards, the result is `None`. A caller's proof cannot use the clause `writes_back`, so proved
-    /// code calls `ensure_newest` and `newest_mut` instead.
+    /// If the key is there, its entry becomes the newest, and the closure is not called. If the new entry is not in the
+    /// map afterwards, the result is `None`. A caller's proof cannot use the clause `writes_back`, so proved code calls
+    /// `ensure_newest` and `newest_mut` instead.
     ///
     /// ```text
     /// assert_eq!(rt; map.get_or_insert(1, || 10)?.copied(), Some(10));
@@ -129,8 +129,7 @@ impl<K: Eq + Hash, V, L: Limiter<K, V>, S: KeyHasher<K>> LruMap<K, V, L, S> {
         kept_or(lent)
     }
 
-    /// Does what `ensure_newest` does, with a closure that may fail. If the closure fails, nothing changes. Cost: as
-    /// `ensure_newest`.
+    /// Does what `ensure_newest` does, with a closure that may fail. Cost: as `ensure_newest`.
     ///
     /// ```text
     /// assert!(rt; map.ensure_newest_fallible(4, || Err(7u8)).is_err());
@@ -141,8 +140,8 @@ impl<K: Eq + Hash, V, L: Limiter<K, V>, S: KeyHasher<K>> LruMap<K, V, L, S> {
     ///
     /// # Errors
     ///
-    /// `Caller` contains the error of the closure. `Memory` means that the closure succeeded, but the insert ran out of
-    /// memory. Some of the oldest entries may have been evicted.
+    /// `Caller` contains the error of the closure. Then nothing has changed. `Memory` means that the closure succeeded,
+    /// and the insert failed as `insert` does.
     pub fn ensure_newest_fallible<I: LookupKey<K>, E, F: FnOnce() -> Result<V, E>>(
         &mut self,
         key: I,
@@ -196,8 +195,7 @@ impl<K: Eq + Hash, V, L: Limiter<K, V>, S: KeyHasher<K>> LruMap<K, V, L, S> {
         self.lend_if_kept(kept)
     }
 
-    /// Does what `get_or_insert` does, with a closure that may fail. If the closure fails, nothing changes. Cost: as
-    /// `get_or_insert`.
+    /// Does what `get_or_insert` does, with a closure that may fail. Cost: as `get_or_insert`.
     ///
     /// ```text
     /// assert!(rt; map.get_or_insert_fallible(5, || Err(7u8)).is_err());

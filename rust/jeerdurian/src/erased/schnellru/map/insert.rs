@@ -13,15 +13,13 @@ impl<K: Eq + Hash, V, L: Limiter<K, V>, S: KeyHasher<K>> LruMap<K, V, L, S> {
     /// Inserts a key with a value, as the newest entry. Returns whether the key is in the map afterwards.
     ///
     /// If the key is there, the stored key gets the new value. If the limiter rejects the new value, the entry is
-    /// removed, and the result is false. If the key is new, the limiter returns the entry to store. If it returns
-    /// `None`, nothing is stored, and the result is false. If the limiter would be over its limit with one more entry,
-    /// the oldest entry is evicted first.
+    /// removed. If the key is new, the limiter returns the entry to store. If it returns `None`, nothing is stored. If
+    /// the limiter would be over its limit with one more entry, the oldest entry is evicted first.
     ///
     /// If no bucket can take the new entry, the table grows. A table with fewer than half of the entries that it may
     /// hold is rehashed instead. If no larger table exists, or if the limiter refuses it, the oldest entries are
-    /// evicted until a bucket can take the new entry. If the evictions leave fewer than half of the entries that the
-    /// table may hold, the table is rehashed. If there is no entry to evict, the new entry is not stored, and the
-    /// result is false.
+    /// evicted until a bucket can take the new entry. If the evictions leave fewer than half of what the table may
+    /// hold, the table is rehashed. If there is no entry to evict, the new entry is not stored.
     ///
     /// At the end, if the key is in the map, the oldest entries are evicted while the limiter is over its limit. A
     /// replaced value is dropped before anything is evicted.
@@ -56,9 +54,9 @@ impl<K: Eq + Hash, V, L: Limiter<K, V>, S: KeyHasher<K>> LruMap<K, V, L, S> {
 }
 
 impl<K: Eq + Hash, V, L: Limiter<K, V>, S: KeyHasher<K>> LruMap<K, V, L, S> {
-    /// Does what `insert` does, and passes entries to the callback: the evicted entries, oldest first, and an entry
-    /// that is removed because its new value is rejected. The callback also gets an entry that `on_insert` returned but
-    /// the map could not store. Before each call of the callback, `on_removed` may write to the entry.
+    /// Does what `insert` does, and passes entries to the callback: the evicted entries, oldest first, an entry that is
+    /// removed because its new value is rejected, and an entry that `on_insert` returned but the map could not store.
+    /// `on_removed` may write to each of them first.
     ///
     /// The callback gets each of these entries once, even if the result is an `Err`. Only tests show that the callback
     /// gets an entry before the limiter is called again. The callback does not get a replaced value.
@@ -73,7 +71,7 @@ impl<K: Eq + Hash, V, L: Limiter<K, V>, S: KeyHasher<K>> LruMap<K, V, L, S> {
     ///
     /// # Errors
     ///
-    /// Fails as `insert` does. If an allocation for the table failed, the callback also got the new entry.
+    /// Fails as `insert` does.
     #[inline(always)]
     pub fn insert_with<I: LookupKey<K>, F: FnMut(K, V)>(
         &mut self,
@@ -91,8 +89,8 @@ impl<K: Eq + Hash, V, L: Limiter<K, V>, S: KeyHasher<K>> LruMap<K, V, L, S> {
         kept
     }
 
-    // Before anything is evicted, drops the value that the map does not keep. So a limiter that counts live values no
-    // longer counts this value.
+    // Before the evictions, drops the value that the map does not keep, so that a limiter that counts live values no
+    // longer counts it.
     #[inline(always)]
     fn insert_or_drop<I: LookupKey<K>, F: FnMut(K, V)>(
         &mut self,
@@ -186,9 +184,11 @@ impl<K: Eq + Hash, V, L: Limiter<K, V>, S: KeyHasher<K>> LruMap<K, V, L, S> {
         inserted
     }
 
-    /// Does what `insert_hashed` does, without a search for the key. The key must not be in the map.
+    /// Inserts a key that is not in the map, without a search. Takes what `insert_hashed` takes, and returns what
+    /// `insert` returns. The callback gets what `insert_with` passes.
     ///
-    /// The prover checks this. In Rust nothing does: if the key is in the map, the map then contains the key twice.
+    /// The prover checks that the key is absent. In Rust nothing does: if the key is there, the map then contains it
+    /// twice.
     ///
     /// ```text
     /// let hash = map.hasher().hash_named(&5);

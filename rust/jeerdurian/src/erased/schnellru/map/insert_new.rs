@@ -70,8 +70,8 @@ impl<K: Eq + Hash, V, L: Limiter<K, V>, S: KeyHasher<K>> LruMap<K, V, L, S> {
     fn insert_pair<F: FnMut(K, V)>(&mut self, hash: u64, pair: (K, V), sink: &mut F) -> Result<bool, AllocError> {
         self.settle();
         self.make_room(sink);
-        // `insert_without_growth` takes the key and the value as two arguments. If it took a pair, each insert would
-        // first clear memory for a pair.
+        // `insert_without_growth` takes a key and a value. If it took a pair, each insert would first clear memory for
+        // it.
         let (key, value) = pair;
         if self.growth_left() == 0 {
             return self.insert_without_growth(hash, key, value, sink);
@@ -80,7 +80,7 @@ impl<K: Eq + Hash, V, L: Limiter<K, V>, S: KeyHasher<K>> LruMap<K, V, L, S> {
         Ok(self.evict_over_limit(sink))
     }
 
-    // Tries a deleted bucket first. The function is out of line, because only inserts without growth left call it.
+    // Tries a deleted bucket first. Out of line, because only inserts without growth left call it.
     #[cold]
     #[inline(never)]
     fn insert_without_growth<F: FnMut(K, V)>(
@@ -99,8 +99,8 @@ impl<K: Eq + Hash, V, L: Limiter<K, V>, S: KeyHasher<K>> LruMap<K, V, L, S> {
         }
     }
 
-    // Under `ByMemoryUsage`, each insert of a new pair may call this function. It is out of line, so that the code of
-    // other inserts stays short.
+    // Under `ByMemoryUsage`, each insert of a new pair may call this function. Out of line, so that the code of other
+    // inserts stays short.
     #[inline(never)]
     fn insert_without_bucket<F: FnMut(K, V)>(
         &mut self,

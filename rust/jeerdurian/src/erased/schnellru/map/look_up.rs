@@ -7,8 +7,7 @@ use crate::erased::schnellru::map::LruMap;
 use crate::rattle_std::hash::Hash;
 
 impl<K: Eq + Hash, V, L: Limiter<K, V>, S: KeyHasher<K>> LruMap<K, V, L, S> {
-    /// Lends the value of a key for writing, and makes its entry the newest. Returns `None` if the key is not there.
-    /// The limiter is not notified of writes.
+    /// Lends the value of a key for writing, and makes its entry the newest. The limiter is not notified of writes.
     ///
     /// A `&str` looks up a `String` key: `map.get(&"a")`.
     ///
@@ -31,7 +30,7 @@ impl<K: Eq + Hash, V, L: Limiter<K, V>, S: KeyHasher<K>> LruMap<K, V, L, S> {
 
     /// Returns the entry of a key, and makes it the newest.
     ///
-    /// The returned key is the stored key, not the equal key that is looked up.
+    /// The returned key is the stored key.
     ///
     /// ```text
     /// assert!(rt; map.get_key_value(&1) == Some((&1, &10)));
@@ -92,8 +91,7 @@ impl<K: Eq + Hash, V, L: Limiter<K, V>, S: KeyHasher<K>> LruMap<K, V, L, S> {
 
     /// Lends the value of the newest entry for writing.
     ///
-    /// Returns `None` if the map is empty. If `ensure_newest` has just returned true, the lent value is the value of
-    /// its key. Cost: `O(1)`.
+    /// If `ensure_newest` has just returned true, the value is that of its key. Cost: `O(1)`.
     ///
     /// ```text
     /// if let Some(count) = map.newest_mut() {
@@ -115,7 +113,7 @@ impl<K: Eq + Hash, V, L: Limiter<K, V>, S: KeyHasher<K>> LruMap<K, V, L, S> {
         &mut self.entries.pair_mut(b).value
     }
 
-    /// Returns whether a key is in the map. The order stays.
+    /// Returns whether a key is in the map.
     ///
     /// ```text
     /// assert!(rt; map.contains(&1) && !map.contains(&9));
@@ -144,7 +142,7 @@ impl<K: Eq + Hash, V, L: Limiter<K, V>, S: KeyHasher<K>> LruMap<K, V, L, S> {
         Some(&self.pair_in(b).value)
     }
 
-    /// Returns the entry of a key. The order stays.
+    /// Returns the entry of a key.
     ///
     /// ```text
     /// assert!(rt; map.peek_key_value(&1) == Some((&1, &10)));
@@ -178,7 +176,7 @@ impl<K: Eq + Hash, V, L: Limiter<K, V>, S: KeyHasher<K>> LruMap<K, V, L, S> {
         Some(self.value_in_mut(b))
     }
 
-    /// Returns the oldest entry. The order stays.
+    /// Returns the oldest entry.
     ///
     /// ```text
     /// assert!(rt; map.peek_oldest() == Some((&1, &10)));
@@ -195,7 +193,7 @@ impl<K: Eq + Hash, V, L: Limiter<K, V>, S: KeyHasher<K>> LruMap<K, V, L, S> {
         Some((&pair.key, &pair.value))
     }
 
-    /// Returns the newest entry. The order stays.
+    /// Returns the newest entry.
     ///
     /// ```text
     /// assert!(rt; map.peek_newest() == Some((&3, &30)));

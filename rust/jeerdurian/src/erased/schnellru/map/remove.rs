@@ -45,7 +45,7 @@ impl<K: Eq + Hash, V, L: Limiter<K, V>, S: KeyHasher<K>> LruMap<K, V, L, S> {
         Some(take_out(&mut self.entries, &mut self.limiter, b))
     }
 
-    /// Removes a key. Returns the stored key and its value. The other entries keep their order.
+    /// Removes a key. Returns the stored key and its value.
     ///
     /// ```text
     /// assert_eq!(rt; map.remove_entry(&1), Some((1, 10)));
@@ -158,8 +158,8 @@ pub(super) fn notify<K, V, L: Limiter<K, V>>(limiter: &mut L, pair: (K, V)) -> (
     (key, value)
 }
 
-// The callback of the calls that take no callback. It drops each entry that a call evicts, removes or cannot store:
-// first the key, then the value. Parameters without a name would be dropped in the opposite order.
+// The callback of the calls that take none. Drops the entry: first the key, then the value. Parameters without a name
+// would be dropped in the opposite order.
 pub(crate) fn discard<K, V>(key: K, value: V) {
     drop(key);
     drop(value);

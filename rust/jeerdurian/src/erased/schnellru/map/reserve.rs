@@ -30,7 +30,7 @@ impl<K: Eq + Hash, V, L: Limiter<K, V>, S: KeyHasher<K>> LruMap<K, V, L, S> {
     /// - `TooLarge`: `len` + n overflows, or the table would need more buckets than the links can number, or more than
     ///   `isize::MAX - 15` bytes. The map does not rehash its table instead, even if the entries would then fit.
     /// - `Refused`: the limiter refused the larger table.
-    /// - `Memory`: the map ran out of memory.
+    /// - `Memory`: out of memory.
     ///
     /// Before `Refused` or `Memory`, `on_grow` may have changed the limiter. The change stays.
     ///

@@ -8,8 +8,7 @@ use crate::erased::schnellru::map::remove::discard;
 use crate::rattle_std::hash::Hash;
 
 impl<K: Eq + Hash, V, L: Admission<K, V> + Copy, S: KeyHasher<K>> LruMap<K, V, L, S> {
-    /// Inserts a new key with its value, as the newest entry, without an eviction. If this fails, returns the key and
-    /// the value.
+    /// Inserts a new key with its value, as the newest entry, without an eviction.
     ///
     /// If no growth is left, `try_insert` reserves growth instead of filling a deleted bucket. So if the limiter
     /// refuses a larger table, `try_insert` may return an entry that `insert` would store without an eviction.
@@ -43,9 +42,7 @@ impl<K: Eq + Hash, V, L: Admission<K, V> + Copy, S: KeyHasher<K>> LruMap<K, V, L
         self.try_insert_hashed(hash, key, value)
     }
 
-    /// Does what `try_insert` does, but gets the hash of the key from the caller.
-    ///
-    /// The hash must be the result of `map.hasher().hash_named(&key)`. The prover checks this.
+    /// Does what `try_insert` does, but gets the hash of the key from the caller. For the hash, see `insert_hashed`.
     ///
     /// ```text
     /// let hash = map.hasher().hash_named(&4);

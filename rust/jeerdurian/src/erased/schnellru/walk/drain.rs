@@ -10,8 +10,6 @@ use crate::rattle_std::iter::FusedIterator;
 /// An iterator that takes the entries out of a map, from both ends. Dropping the iterator clears the map. `mem::forget`
 /// of the iterator leaves the remaining entries in the map.
 ///
-/// The limiter is notified of the clear, but not of each entry that the clear drops.
-///
 /// ```text
 /// let mut sum = 0u64;
 /// for (key, value) in map.drain() {
@@ -79,7 +77,7 @@ impl<K: Eq + Hash, V, L: Limiter<K, V>, S: KeyHasher<K>> LruMap<K, V, L, S> {
     /// assert!(rt; map.is_empty());
     /// ```
     ///
-    /// Cost: `O(1)`, and `O(1)` for each entry that is taken.
+    /// Cost: `O(1)`, and `O(1)` for each entry that is taken. The drop of the iterator costs as much as `clear`.
     ///
     /// Follows schnellru's `LruMap::drain`.
     pub fn drain(&mut self) -> Drain<'_, K, V, L, S> {

@@ -6,8 +6,7 @@ use crate::erased::lru_limits::{KeyHasher, Limiter};
 use crate::erased::schnellru::map::LruMap;
 use crate::rattle_std::hash::Hash;
 
-/// An iterator over the entries of a map, from both ends. `next` lends the newest entry that is left, until the next
-/// call of the iterator.
+/// An iterator over the entries of a map, from both ends.
 ///
 /// ```text
 /// let mut walk = map.iter_mut();
@@ -38,8 +37,7 @@ impl<'a, K: Eq + Hash, V, L: Limiter<K, V>, S: KeyHasher<K>> IterMut<'a, K, V, L
         self.end.saturating_sub(self.start)
     }
 
-    /// Lends the newest entry that is left, with its value for writing, until the next call of the iterator. Returns
-    /// `None` if no entry is left.
+    /// Lends the newest entry that is left, with its value for writing, until the next call of the iterator.
     ///
     /// A caller's proof cannot use the clause `writes_back`. If `len` is not 0, proved code calls `lend_next` instead.
     ///
@@ -147,8 +145,7 @@ impl<K: Eq + Hash, V, L: Limiter<K, V>, S: KeyHasher<K>> LruMap<K, V, L, S> {
         IterMut { map: self, start: 0, end, front, back }
     }
 
-    /// Calls the closure with each key and its value, newest first. The closure may write to the value. The order
-    /// stays.
+    /// Calls the closure with each key and its value, newest first. The order stays.
     ///
     /// ```text
     /// map.for_each_mut(|_, value| *value = value.saturating_add(1));

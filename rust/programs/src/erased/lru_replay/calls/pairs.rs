@@ -33,7 +33,6 @@ pub fn insert_with<K: Eq + Hash, V, L: Insertion<K, V, K>, S: KeyHasher<K>>(
     }
 }
 
-/// Takes out the `front` newest pairs and then the `back` oldest pairs, and drops the others.
 pub fn drain_pairs<K: Eq + Hash, V, L: Insertion<K, V, K>, S: KeyHasher<K>>(
     alloc: Global,
     map: &mut LruMap<K, V, L, S>,

@@ -93,8 +93,8 @@ pub enum Ending {
     Nothing,
 }
 
-/// Reads the next line to its end, and holds its first `HELD` bytes. If a look at the reader's buffer is interrupted,
-/// `read_line` looks again.
+/// Reads the next line to its end, and holds its first `HELD` bytes. An interrupted look at the reader's buffer is
+/// repeated.
 ///
 /// # Errors
 ///

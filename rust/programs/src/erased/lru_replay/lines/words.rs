@@ -1,6 +1,5 @@
 // Erased from crates/lru_replay/src/lines/words.rt: do not edit.
-//! What a line means: the first line means the limit of the map, and each other line means a call. A line is a word and
-//! at most two numbers.
+//! What a line means: the first line means the limit of the map, and each other line means a call.
 
 #[allow(unused_imports)]
 use crate::rattle_std::prelude::*;
