@@ -1,5 +1,5 @@
 //! The type `LruMap`. A contract sees a map as a `State`: the limiter, the hasher, the states of the buckets, the
-//! counts, and the pairs, newest first.
+//! counts, and the entries, newest first.
 ghost use Rattle.std.specs.Prelude.{◌≡◌};
 ghost use Rattle.lru_limits.specs.Mixing.{seeded};
 ghost use Rattle.lru_model.specs.Sizes.{max_of_32_bits};

@@ -1,4 +1,4 @@
-//! Moves all pairs of a `LinkedTable` into a table of another size, or rehashes them.
+//! Moves all entries of a `LinkedTable` into a table of another size, or rehashes them.
 ghost use Rattle.std.specs.Prelude.{◌≡◌, ◌+◌, ◌^◌, ◌<◌, ◌≤◌, length};
 ghost use Rattle.std.specs.Prelude.{IfOk, OnOk, OnErr, IsOk};
 ghost use Rattle.group_table.specs.Sizes.{IsBucketCount, full_capacity};

@@ -3,9 +3,9 @@ ghost use Rattle.ordered_table.specs.OrderedTable.{pairs_of};
 use crate::ordered::OrderedTable;
 use group_table::LinkType;
 
-/// Two tables are equal if they have equal pairs in the same order, in any buckets.
+/// Two tables are equal if they have equal entries in the same order, in any buckets.
 ///
-/// Cost: `O(n)` for n pairs, and `O(1)` if the lengths differ.
+/// Cost: `O(n)` for n entries, and `O(1)` if the lengths differ.
 impl<K: PartialEq, V: PartialEq, N: LinkType> PartialEq for OrderedTable<K, V, N> {
     ghost use Rattle.std.specs.Prelude.{◌&&◌};
     ghost use Rattle.std.specs.Cmp.{and_per, on_per};

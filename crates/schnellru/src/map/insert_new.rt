@@ -4,8 +4,8 @@ ghost use Rattle.lru_model.specs.State.{contents, growth_left};
 ghost use Rattle.lru_model.specs.Inserts.{Insert, PlacesNew, PlacesAndTrims};
 ghost use Rattle.lru_model.specs.Place.{HasNoBucket};
 ghost use Rattle.lru_model.specs.MayTake.{MayTakeEach, MayTakeNew};
-ghost use Rattle.lru_model.specs.Callbacks.{noting, noting_offers, noted};
-ghost use Rattle.schnellru.specs.Inside.Passing.{Passes};
+ghost use Rattle.lru_model.specs.Callbacks.{noting_offers};
+ghost use Rattle.schnellru.specs.Inside.Passing.{PassesAs};
 
 use crate::map::LruMap;
 use lru_limits::{Insertion, KeyHasher, Limiter, LookupKey};
@@ -32,9 +32,8 @@ impl<K: Eq + Hash, V, L: Limiter<K, V>, S: KeyHasher<K>> LruMap<K, V, L, S> {
         requires callable { MayTakeNew L.rules F.FnMut L.offers I.names key value (contents self.old) sink.old }
         requires hash { (k : K) → IsTrue (I.names key k) → hash ≡ S.hash_of self.old.hasher k }
         requires absent { lookup_entry (I.names key) self.old.pairs ≡ None }
-        ensures passed { Passes F.FnMut sink.old sink.new (λ before after. Insert (noting L.rules)
-            (noting_offers L.offers) I.names S.hash_of key value
-            (noted before self.old) result (noted after self.new)) }
+        ensures passed { PassesAs F.FnMut L.rules sink.old sink.new self.old self.new (λ rules old new.
+            Insert rules (noting_offers L.offers) I.names S.hash_of key value old result new) }
     {
         if OrderedTable::<K, V, L::LinkType>::entry_bytes() > SMALL {
             self.insert_in_line(hash, key, value, sink)
@@ -57,9 +56,8 @@ impl<K: Eq + Hash, V, L: Limiter<K, V>, S: KeyHasher<K>> LruMap<K, V, L, S> {
         requires callable { MayTakeNew L.rules F.FnMut L.offers I.names key value (contents self.old) sink.old }
         requires hash { (k : K) → IsTrue (I.names key k) → hash ≡ S.hash_of self.old.hasher k }
         requires absent { lookup_entry (I.names key) self.old.pairs ≡ None }
-        ensures passed { Passes F.FnMut sink.old sink.new (λ before after. Insert (noting L.rules)
-            (noting_offers L.offers) I.names S.hash_of key value
-            (noted before self.old) result (noted after self.new)) }
+        ensures passed { PassesAs F.FnMut L.rules sink.old sink.new self.old self.new (λ rules old new.
+            Insert rules (noting_offers L.offers) I.names S.hash_of key value old result new) }
     {
         self.insert_in_line(hash, key, value, sink)
     }
@@ -77,9 +75,8 @@ impl<K: Eq + Hash, V, L: Limiter<K, V>, S: KeyHasher<K>> LruMap<K, V, L, S> {
         requires callable { MayTakeNew L.rules F.FnMut L.offers I.names key value (contents self.old) sink.old }
         requires hash { (k : K) → IsTrue (I.names key k) → hash ≡ S.hash_of self.old.hasher k }
         requires absent { lookup_entry (I.names key) self.old.pairs ≡ None }
-        ensures passed { Passes F.FnMut sink.old sink.new (λ before after. Insert (noting L.rules)
-            (noting_offers L.offers) I.names S.hash_of key value
-            (noted before self.old) result (noted after self.new)) }
+        ensures passed { PassesAs F.FnMut L.rules sink.old sink.new self.old self.new (λ rules old new.
+            Insert rules (noting_offers L.offers) I.names S.hash_of key value old result new) }
     {
         // This is one match, because a `?` would copy the pair once more.
         match self
@@ -92,7 +89,7 @@ impl<K: Eq + Hash, V, L: Limiter<K, V>, S: KeyHasher<K>> LruMap<K, V, L, S> {
         }
     }
 
-    // Stores a pair that the limiter returned, with evictions before and after.
+    // Stores an entry that the limiter returned, with evictions before and after.
     fn insert_pair<F: FnMut(K, V)>(
         &mut self,
         hash: u64,
@@ -102,8 +99,8 @@ impl<K: Eq + Hash, V, L: Limiter<K, V>, S: KeyHasher<K>> LruMap<K, V, L, S> {
         requires callable { MayTakeEach L.rules F.FnMut (pair ∷ self.old.pairs) sink.old }
         requires hash { hash ≡ S.hash_of self.old.hasher pair.0 }
         requires absent { lookup_entry (K.eq pair.0) self.old.pairs ≡ None }
-        ensures passed { Passes F.FnMut sink.old sink.new (λ before after. PlacesNew (noting L.rules)
-            S.hash_of pair (noted before self.old) result (noted after self.new)) }
+        ensures passed { PassesAs F.FnMut L.rules sink.old sink.new self.old self.new (λ rules old new.
+            PlacesNew rules S.hash_of pair old result new) }
     {
         self.settle();
         self.make_room(sink);
@@ -131,8 +128,8 @@ impl<K: Eq + Hash, V, L: Limiter<K, V>, S: KeyHasher<K>> LruMap<K, V, L, S> {
         requires hash { hash ≡ S.hash_of self.old.hasher key }
         requires absent { lookup_entry (K.eq key) self.old.pairs ≡ None }
         requires no_growth_left { growth_left self.old ≡ 0 }
-        ensures passed { Passes F.FnMut sink.old sink.new (λ before after. PlacesAndTrims (noting L.rules)
-            S.hash_of (key, value) (noted before self.old) result (noted after self.new)) }
+        ensures passed { PassesAs F.FnMut L.rules sink.old sink.new self.old self.new (λ rules old new.
+            PlacesAndTrims rules S.hash_of (key, value) old result new) }
     {
         if self.is_empty() {
             return self.insert_without_bucket(hash, (key, value), sink);
@@ -143,7 +140,7 @@ impl<K: Eq + Hash, V, L: Limiter<K, V>, S: KeyHasher<K>> LruMap<K, V, L, S> {
         }
     }
 
-    // Under `ByMemoryUsage`, each insert of a new pair may call this function. Out of line, so that the code of other
+    // Under `ByMemoryUsage`, each insert of a new entry may call this function. Out of line, so that the code of other
     // inserts stays short.
     #[inline(never)]
     fn insert_without_bucket<F: FnMut(K, V)>(
@@ -156,8 +153,8 @@ impl<K: Eq + Hash, V, L: Limiter<K, V>, S: KeyHasher<K>> LruMap<K, V, L, S> {
         requires hash { hash ≡ S.hash_of self.old.hasher pair.0 }
         requires absent { lookup_entry (K.eq pair.0) self.old.pairs ≡ None }
         requires no_bucket { HasNoBucket hash self.old }
-        ensures passed { Passes F.FnMut sink.old sink.new (λ before after. PlacesAndTrims (noting L.rules)
-            S.hash_of pair (noted before self.old) result (noted after self.new)) }
+        ensures passed { PassesAs F.FnMut L.rules sink.old sink.new self.old self.new (λ rules old new.
+            PlacesAndTrims rules S.hash_of pair old result new) }
     {
         if !self.store_without_bucket(hash, pair, sink)? {
             return Ok(false);

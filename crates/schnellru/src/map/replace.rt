@@ -5,9 +5,9 @@ ghost use Rattle.lru_model.specs.Inserts.{replacement, unkept_of};
 ghost use Rattle.lru_model.specs.Lists.{lookup_entry};
 ghost use Rattle.lru_model.specs.MayTake.{MayTakeRejected};
 ghost use Rattle.lru_model.specs.State.{place_in, contents};
-ghost use Rattle.lru_model.specs.Callbacks.{noting, noting_offers, noted};
+ghost use Rattle.lru_model.specs.Callbacks.{noting_offers};
 ghost use Rattle.schnellru.specs.Inside.Steps.{IsReplaced, IsRemoved, IsOffered};
-ghost use Rattle.schnellru.specs.Inside.Passing.{Passes, PassesRemoved};
+ghost use Rattle.schnellru.specs.Inside.Passing.{PassesAs, PassesRemoved};
 
 use crate::map::LruMap;
 use crate::map::remove::take_out;
@@ -17,7 +17,7 @@ use std::hash::Hash;
 use std::mem;
 
 impl<K: Eq + Hash, V, L: Limiter<K, V>, S: KeyHasher<K>> LruMap<K, V, L, S> {
-    // Offers the limiter a new value for the pair in a bucket. If the limiter rejects the value, the pair is removed
+    // Offers the limiter a new value for the entry in a bucket. If the limiter rejects the value, the entry is removed
     // and passed to the callback.
     #[inline]
     pub(super) fn offer_at<I: LookupKey<K>, F: FnMut(K, V)>(
@@ -33,8 +33,8 @@ impl<K: Eq + Hash, V, L: Limiter<K, V>, S: KeyHasher<K>> LruMap<K, V, L, S> {
             MayTakeRejected L.rules F.FnMut (replacement L.rules L.offers I.names pair key value (contents self.old))
             sink.old }
         requires found { place_in (I.names key) self.old ≡ Some b }
-        ensures passed { Passes F.FnMut sink.old sink.new (λ before after. IsOffered (noting L.rules)
-            (noting_offers L.offers) I.names key value (noted before self.old) result (noted after self.new)) }
+        ensures passed { PassesAs F.FnMut L.rules sink.old sink.new self.old self.new (λ rules old new.
+            IsOffered rules (noting_offers L.offers) I.names key value old result new) }
         ensures kept { result.0 ≡ true → sink.new ≡ sink.old }
         ensures there { result.0 ≡ true → Contains self.new.table.places b }
     {

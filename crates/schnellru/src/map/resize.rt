@@ -1,4 +1,4 @@
-//! Moves all pairs to a larger table, or rehashes the table.
+//! Moves all entries to a larger table, or rehashes the table.
 ghost use Rattle.std.specs.Prelude.{◌≡◌, ℕ, ◌+◌, ◌-◌, ◌*◌, ◌/◌, ◌^◌, ◌<◌, ◌≤◌, [], length, Some, IfSome, OnOk, OnErr};
 ghost use Rattle.std.specs.Prelude.{IsOk};
 ghost use Rattle.group_table.specs.Sizes.{IsPowerFromFour, full_capacity};

@@ -1,5 +1,5 @@
-//! Stores a new pair in a free bucket. If no bucket can take the pair, first rehashes or grows the table, or evicts the
-//! oldest pairs.
+//! Stores a new entry in a free bucket. If no bucket can take it, first rehashes or grows the table, or evicts the
+//! oldest entries.
 ghost use Rattle.std.specs.Prelude.{◌≡◌, ℕ, ◌+◌, ◌-◌, ◌*◌, ◌/◌, ◌<◌, ◌≤◌, [], ◌∷◌, length, true, None, Some, List};
 ghost use Rattle.std.specs.Prelude.{Ok, OnOk, OnErr, IfErr, IsOk};
 ghost use Rattle.group_table.specs.Sizes.{IsPowerFromFour, full_capacity};
@@ -8,9 +8,8 @@ ghost use Rattle.lru_model.specs.Sizes.{usage};
 ghost use Rattle.lru_model.specs.State.{buckets, growth_left, IsAhead};
 ghost use Rattle.lru_model.specs.Place.{Place, Evicts, IsPlacedInTable, IsPlacedByMove, FillsBucket, HasNoBucket};
 ghost use Rattle.lru_model.specs.Place.{IsOutgrown, outcome_of, unstored};
-ghost use Rattle.lru_model.specs.Callbacks.{noting, noted};
 ghost use Rattle.lru_model.specs.MayTake.{MayTakeEach};
-ghost use Rattle.schnellru.specs.Inside.Passing.{Passes};
+ghost use Rattle.schnellru.specs.Inside.Passing.{PassesAs};
 
 use crate::map::LruMap;
 use crate::map::remove::notify;
@@ -48,7 +47,7 @@ impl<K: Eq + Hash, V, L: Limiter<K, V>, S: KeyHasher<K>> LruMap<K, V, L, S> {
         Ok(())
     }
 
-    // Returns whether the pair is stored.
+    // Returns whether the entry is stored.
     pub(super) fn store_without_bucket<F: FnMut(K, V)>(
         &mut self,
         hash: u64,
@@ -59,8 +58,8 @@ impl<K: Eq + Hash, V, L: Limiter<K, V>, S: KeyHasher<K>> LruMap<K, V, L, S> {
         requires hash { hash ≡ S.hash_of self.old.hasher pair.0 }
         requires absent { lookup_entry (K.eq pair.0) self.old.pairs ≡ None }
         requires no_bucket { HasNoBucket hash self.old }
-        ensures passed { Passes F.FnMut sink.old sink.new (λ before after. Place (noting L.rules)
-            S.hash_of pair (noted before self.old) (outcome_of result) (noted after self.new)) }
+        ensures passed { PassesAs F.FnMut L.rules sink.old sink.new self.old self.new (λ rules old new.
+            Place rules S.hash_of pair old (outcome_of result) new) }
         ensures callable { result ≡ Ok true → MayTakeEach L.rules F.FnMut self.new.pairs sink.new }
     {
         let buckets = self.bucket_count();
@@ -81,8 +80,8 @@ impl<K: Eq + Hash, V, L: Limiter<K, V>, S: KeyHasher<K>> LruMap<K, V, L, S> {
         requires hash { hash ≡ S.hash_of self.old.hasher pair.0 }
         requires absent { lookup_entry (K.eq pair.0) self.old.pairs ≡ None }
         requires outgrown { IsOutgrown hash self.old }
-        ensures passed { Passes F.FnMut sink.old sink.new (λ before after. Place (noting L.rules)
-            S.hash_of pair (noted before self.old) (outcome_of result) (noted after self.new)) }
+        ensures passed { PassesAs F.FnMut L.rules sink.old sink.new self.old self.new (λ rules old new.
+            Place rules S.hash_of pair old (outcome_of result) new) }
         ensures callable { result ≡ Ok true → MayTakeEach L.rules F.FnMut self.new.pairs sink.new }
     {
         match self.next_table(1) {
@@ -97,7 +96,7 @@ impl<K: Eq + Hash, V, L: Limiter<K, V>, S: KeyHasher<K>> LruMap<K, V, L, S> {
         }
     }
 
-    // Evicts the oldest pairs until the new pair can be stored. If the map is empty, does not store the pair.
+    // Evicts the oldest entries until the new entry can be stored. If the map is empty, does not store the entry.
     fn store_without_growth<F: FnMut(K, V)>(
         &mut self,
         hash: u64,
@@ -108,8 +107,8 @@ impl<K: Eq + Hash, V, L: Limiter<K, V>, S: KeyHasher<K>> LruMap<K, V, L, S> {
         requires hash { hash ≡ S.hash_of self.old.hasher pair.0 }
         requires absent { lookup_entry (K.eq pair.0) self.old.pairs ≡ None }
         requires outgrown { IsOutgrown hash self.old }
-        ensures passed { Passes F.FnMut sink.old sink.new (λ before after. Evicts (noting L.rules) hash pair
-            (noted before self.old) (noted before self.old) (outcome_of result) (noted after self.new)) }
+        ensures passed { PassesAs F.FnMut L.rules sink.old sink.new self.old self.new (λ rules old new.
+            Evicts rules hash pair old old (outcome_of result) new) }
         ensures callable { result ≡ Ok true → MayTakeEach L.rules F.FnMut self.new.pairs sink.new }
     {
         if self.is_empty() {
@@ -130,8 +129,8 @@ impl<K: Eq + Hash, V, L: Limiter<K, V>, S: KeyHasher<K>> LruMap<K, V, L, S> {
         requires absent { lookup_entry (K.eq pair.0) self.old.pairs ≡ None }
         requires some { 0 < length self.old.pairs }
         requires outgrown { IsOutgrown hash self.old }
-        ensures passed { Passes F.FnMut sink.old sink.new (λ before after. Evicts (noting L.rules) hash pair
-            (noted before self.old) (noted before self.old) (outcome_of result) (noted after self.new)) }
+        ensures passed { PassesAs F.FnMut L.rules sink.old sink.new self.old self.new (λ rules old new.
+            Evicts rules hash pair old old (outcome_of result) new) }
         ensures callable { result ≡ Ok true → MayTakeEach L.rules F.FnMut self.new.pairs sink.new }
     {
         let buckets = self.bucket_count();
@@ -165,8 +164,8 @@ impl<K: Eq + Hash, V, L: Limiter<K, V>, S: KeyHasher<K>> LruMap<K, V, L, S> {
         requires usable { (bytes : ℕ) × (usage self.old.entry_bytes count ≡ Some bytes) }
         requires half { 2 * length self.old.pairs ≤ full_capacity count }
         requires paid { IsAhead (length self.old.pairs) self.old.counts }
-        ensures passed { Passes F.FnMut sink.old sink.new (λ before after. IsPlacedByMove (noting L.rules) pair count
-            (noted before self.old) (outcome_of result) (noted after self.new)) }
+        ensures passed { PassesAs F.FnMut L.rules sink.old sink.new self.old self.new (λ rules old new.
+            IsPlacedByMove rules pair count old (outcome_of result) new) }
         ensures succeeds { self.old.pairs ≡ [] → count ≡ buckets self.old → IsOk result }
         ensures callable { result ≡ Ok true → MayTakeEach L.rules F.FnMut self.new.pairs sink.new }
     {
@@ -185,8 +184,8 @@ impl<K: Eq + Hash, V, L: Limiter<K, V>, S: KeyHasher<K>> LruMap<K, V, L, S> {
 
     fn pass_unstored<F: FnMut(K, V)>(&mut self, pair: (K, V), sink: &mut F)
         requires callable { (others : List (K × V)) × MayTakeEach L.rules F.FnMut (pair ∷ others) sink.old }
-        ensures passed { Passes F.FnMut sink.old sink.new (λ before after. noted after self.new ≡ unstored
-            (noting L.rules) pair (noted before self.old)) }
+        ensures passed { PassesAs F.FnMut L.rules sink.old sink.new self.old self.new (λ rules old new.
+            new ≡ unstored rules pair old) }
     {
         let (key, value) = notify(&mut self.limiter, pair);
         sink(key, value);
