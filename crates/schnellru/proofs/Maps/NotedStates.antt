@@ -104,8 +104,8 @@ module _ {K V S H I F : Type 0} (closure : Mut F (K × (V × Unit {0})) (Unit {0
     (offer : IsOffered rules offers names i v old result new) (accepted : result.0 ≡ true → g ≡ f)
     (rejected : result.0 ≡ false
     → PassesRemoved closure rules (replacement rules offers names offer.pair i v (contents old)) f g) where
-  pub noted_offer : Passes closure f g (λ before after. IsOffered (noting rules) (noting_offers offers) names i v
-      (noted before old) result (noted after new))
+  pub noted_offer : Passes closure rules f g old new (λ rules old new.
+      IsOffered rules (noting_offers offers) names i v old result new)
   noted_offer first before taken = go result.0 refl
     where
       by : Replaced K V S

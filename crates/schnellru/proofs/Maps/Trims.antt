@@ -14,9 +14,8 @@ module _ {K V S H F : Type 0} (rules : Rules K V S) (closure : Mut F (K × (V ×
   -- The evicted pairs were passed to the callback. A trim of the current map and a trim of the old map have the same
   -- result.
   abbrev pub IsTrimmedTo : State K V S H → F → Type 0
-  IsTrimmedTo st f = Passes closure sink f (λ before after.
-      Leaves (noted before old) (contents (noted after st)) (noted after st)
-      × (trim (noting rules) (contents (noted before old)) ≡ trim (noting rules) (contents (noted after st))))
+  IsTrimmedTo st f = Passes closure rules sink f old st (λ rules old st.
+      Leaves old (contents st) st × (trim rules (contents old) ≡ trim rules (contents st)))
 
   pub trims_more : (st u : State K V S H) (f g : F) (pair : K × V) → 0 < length st.pairs
       → rules.is_over_the_limit st.limiter (length st.pairs) ≡ true → PopOldest rules st (Some pair) u

@@ -6,18 +6,15 @@ use Rattle.lru_model.specs.Callbacks.{CalledWith, noting, noted}
 use Rattle.lru_model.specs.State.{State}
 
 module _ {K V F : Type 0} (closure : Mut F (K × (V × Unit {0})) (Unit {0})) where
-  -- The callback is f before this part of the call, and g after it. `step` relates two lists: the pairs that were
-  -- passed before this part, and all pairs that were passed by its end.
-  abbrev pub Passes : F → F → (List (K × V) → List (K × V) → Type 0) → Type 0
-  Passes f g step = (first : F) (before : List (K × V)) → CalledWith closure first before f → (after : List (K × V))
-      × CalledWith closure first after g × step before after
-
-  -- This part of the call turns the map `old` into `new` as `step` says, and passes to the callback what the limiter is
-  -- notified of.
-  abbrev pub PassesAs : {S H : Type 0} → Rules K V S → F → F → State K V S H → State K V S H
+  -- This part of a call turns the map `old` into `new` as `step` says, and the callback f into g. The callback gets the
+  -- pairs of which the limiter is notified: `before` are all pairs that it got before this part, and `after` all that
+  -- it got by its end.
+  abbrev pub Passes : {S H : Type 0} → Rules K V S → F → F → State K V S H → State K V S H
       → (Rules K V (S × List (K × V)) → State K V (S × List (K × V)) H → State K V (S × List (K × V)) H → Type 0)
       → Type 0
-  PassesAs rules f g old new step = Passes f g (λ before after. step (noting rules) (noted before old) (noted after new))
+  Passes rules f g old new step = (first : F) (before : List (K × V)) → CalledWith closure first before f
+      → (after : List (K × V)) × CalledWith closure first after g
+      × step (noting rules) (noted before old) (noted after new)
 
   -- after a rejected replacement, the callback gets the removed pair, with what `on_removed` wrote
   abbrev pub PassesRemoved : {S : Type 0} → Rules K V S → Replaced K V S → F → F → Type 0

@@ -5,7 +5,7 @@ ghost use Rattle.lru_model.specs.Inserts.{Insert, kept_of, unkept_value};
 ghost use Rattle.lru_model.specs.Theorems.{InsertEnds};
 ghost use Rattle.lru_model.specs.MayTake.{MayTakeInserted};
 ghost use Rattle.lru_model.specs.Callbacks.{noting_offers, CalledWith, InsertPasses};
-ghost use Rattle.schnellru.specs.Inside.Passing.{PassesAs};
+ghost use Rattle.schnellru.specs.Inside.Passing.{Passes};
 
 use crate::map::LruMap;
 use crate::map::remove::discard;
@@ -118,7 +118,7 @@ impl<K: Eq + Hash, V: Drop, L: Limiter<K, V>, S: KeyHasher<K>> LruMap<K, V, L, S
         L: Insertion<K, V, I>,
         requires callable { MayTakeInserted L.rules F.FnMut L.offers I.names key value (contents self.old) sink.old }
         requires hash { (k : K) → IsTrue (I.names key k) → hash ≡ S.hash_of self.old.hasher k }
-        ensures passed { PassesAs F.FnMut L.rules sink.old sink.new self.old self.new (λ rules old new.
+        ensures passed { Passes F.FnMut L.rules sink.old sink.new self.old self.new (λ rules old new.
             Insert rules (noting_offers L.offers) I.names S.hash_of key value old result new) }
     {
         match self.find_hashed(hash, &key) {
@@ -280,7 +280,7 @@ impl<K: Eq + Hash, V, L: Limiter<K, V>, S: KeyHasher<K>> LruMap<K, V, L, S> {
         L: Insertion<K, V, I>,
         requires callable { MayTakeInserted L.rules F.FnMut L.offers I.names key value (contents self.old) sink.old }
         requires hash { (k : K) → IsTrue (I.names key k) → hash ≡ S.hash_of self.old.hasher k }
-        ensures passed { PassesAs F.FnMut L.rules sink.old sink.new self.old self.new (λ rules old new.
+        ensures passed { Passes F.FnMut L.rules sink.old sink.new self.old self.new (λ rules old new.
             Insert rules (noting_offers L.offers) I.names S.hash_of key value old (kept_of result) new) }
         ensures unkept { IfOk result (λ inserted. inserted.unkept
             ≡ unkept_value L.rules L.offers I.names key value (contents self.old)) }

@@ -5,7 +5,7 @@ ghost use Rattle.lru_model.specs.Inserts.{Insert, PlacesNew, PlacesAndTrims};
 ghost use Rattle.lru_model.specs.Place.{HasNoBucket};
 ghost use Rattle.lru_model.specs.MayTake.{MayTakeEach, MayTakeNew};
 ghost use Rattle.lru_model.specs.Callbacks.{noting_offers};
-ghost use Rattle.schnellru.specs.Inside.Passing.{PassesAs};
+ghost use Rattle.schnellru.specs.Inside.Passing.{Passes};
 
 use crate::map::LruMap;
 use lru_limits::{Insertion, KeyHasher, Limiter, LookupKey};
@@ -32,7 +32,7 @@ impl<K: Eq + Hash, V, L: Limiter<K, V>, S: KeyHasher<K>> LruMap<K, V, L, S> {
         requires callable { MayTakeNew L.rules F.FnMut L.offers I.names key value (contents self.old) sink.old }
         requires hash { (k : K) → IsTrue (I.names key k) → hash ≡ S.hash_of self.old.hasher k }
         requires absent { lookup_entry (I.names key) self.old.pairs ≡ None }
-        ensures passed { PassesAs F.FnMut L.rules sink.old sink.new self.old self.new (λ rules old new.
+        ensures passed { Passes F.FnMut L.rules sink.old sink.new self.old self.new (λ rules old new.
             Insert rules (noting_offers L.offers) I.names S.hash_of key value old result new) }
     {
         if OrderedTable::<K, V, L::LinkType>::entry_bytes() > SMALL {
@@ -56,7 +56,7 @@ impl<K: Eq + Hash, V, L: Limiter<K, V>, S: KeyHasher<K>> LruMap<K, V, L, S> {
         requires callable { MayTakeNew L.rules F.FnMut L.offers I.names key value (contents self.old) sink.old }
         requires hash { (k : K) → IsTrue (I.names key k) → hash ≡ S.hash_of self.old.hasher k }
         requires absent { lookup_entry (I.names key) self.old.pairs ≡ None }
-        ensures passed { PassesAs F.FnMut L.rules sink.old sink.new self.old self.new (λ rules old new.
+        ensures passed { Passes F.FnMut L.rules sink.old sink.new self.old self.new (λ rules old new.
             Insert rules (noting_offers L.offers) I.names S.hash_of key value old result new) }
     {
         self.insert_in_line(hash, key, value, sink)
@@ -75,7 +75,7 @@ impl<K: Eq + Hash, V, L: Limiter<K, V>, S: KeyHasher<K>> LruMap<K, V, L, S> {
         requires callable { MayTakeNew L.rules F.FnMut L.offers I.names key value (contents self.old) sink.old }
         requires hash { (k : K) → IsTrue (I.names key k) → hash ≡ S.hash_of self.old.hasher k }
         requires absent { lookup_entry (I.names key) self.old.pairs ≡ None }
-        ensures passed { PassesAs F.FnMut L.rules sink.old sink.new self.old self.new (λ rules old new.
+        ensures passed { Passes F.FnMut L.rules sink.old sink.new self.old self.new (λ rules old new.
             Insert rules (noting_offers L.offers) I.names S.hash_of key value old result new) }
     {
         // This is one match, because a `?` would copy the pair once more.
@@ -99,7 +99,7 @@ impl<K: Eq + Hash, V, L: Limiter<K, V>, S: KeyHasher<K>> LruMap<K, V, L, S> {
         requires callable { MayTakeEach L.rules F.FnMut (pair ∷ self.old.pairs) sink.old }
         requires hash { hash ≡ S.hash_of self.old.hasher pair.0 }
         requires absent { lookup_entry (K.eq pair.0) self.old.pairs ≡ None }
-        ensures passed { PassesAs F.FnMut L.rules sink.old sink.new self.old self.new (λ rules old new.
+        ensures passed { Passes F.FnMut L.rules sink.old sink.new self.old self.new (λ rules old new.
             PlacesNew rules S.hash_of pair old result new) }
     {
         self.settle();
@@ -128,7 +128,7 @@ impl<K: Eq + Hash, V, L: Limiter<K, V>, S: KeyHasher<K>> LruMap<K, V, L, S> {
         requires hash { hash ≡ S.hash_of self.old.hasher key }
         requires absent { lookup_entry (K.eq key) self.old.pairs ≡ None }
         requires no_growth_left { growth_left self.old ≡ 0 }
-        ensures passed { PassesAs F.FnMut L.rules sink.old sink.new self.old self.new (λ rules old new.
+        ensures passed { Passes F.FnMut L.rules sink.old sink.new self.old self.new (λ rules old new.
             PlacesAndTrims rules S.hash_of (key, value) old result new) }
     {
         if self.is_empty() {
@@ -153,7 +153,7 @@ impl<K: Eq + Hash, V, L: Limiter<K, V>, S: KeyHasher<K>> LruMap<K, V, L, S> {
         requires hash { hash ≡ S.hash_of self.old.hasher pair.0 }
         requires absent { lookup_entry (K.eq pair.0) self.old.pairs ≡ None }
         requires no_bucket { HasNoBucket hash self.old }
-        ensures passed { PassesAs F.FnMut L.rules sink.old sink.new self.old self.new (λ rules old new.
+        ensures passed { Passes F.FnMut L.rules sink.old sink.new self.old self.new (λ rules old new.
             PlacesAndTrims rules S.hash_of pair old result new) }
     {
         if !self.store_without_bucket(hash, pair, sink)? {

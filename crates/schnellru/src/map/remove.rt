@@ -7,7 +7,7 @@ ghost use Rattle.lru_model.specs.Calls.{left_of, Remove, RemoveEntry, PopOldest,
 ghost use Rattle.lru_model.specs.Inserts.{make_room};
 ghost use Rattle.lru_model.specs.MayTake.{MayTakeEach};
 ghost use Rattle.ordered_table.specs.OrderedTable.{IsLinked, KeysFit};
-ghost use Rattle.schnellru.specs.Inside.Passing.{PassesAs};
+ghost use Rattle.schnellru.specs.Inside.Passing.{Passes};
 ghost use Rattle.schnellru.specs.Inside.Steps.{IsTakenOut};
 
 use crate::map::LruMap;
@@ -139,7 +139,7 @@ impl<K: Eq + Hash, V, L: Limiter<K, V>, S: KeyHasher<K>> LruMap<K, V, L, S> {
     #[inline]
     pub(super) fn make_room<F: FnMut(K, V)>(&mut self, sink: &mut F)
         requires callable { (pair : K × V) × MayTakeEach L.rules F.FnMut (pair ∷ self.old.pairs) sink.old }
-        ensures passed { PassesAs F.FnMut L.rules sink.old sink.new self.old self.new (λ rules old new.
+        ensures passed { Passes F.FnMut L.rules sink.old sink.new self.old self.new (λ rules old new.
             Leaves old (make_room rules (contents old)) new) }
         ensures callable { (pair : K × V) → MayTakeEach L.rules F.FnMut (pair ∷ self.old.pairs) sink.old →
             MayTakeEach L.rules F.FnMut (pair ∷ self.new.pairs) sink.new }
@@ -155,7 +155,7 @@ impl<K: Eq + Hash, V, L: Limiter<K, V>, S: KeyHasher<K>> LruMap<K, V, L, S> {
         requires some { 0 < length self.old.pairs }
         requires callable { MayTakeEach L.rules F.FnMut self.old.pairs sink.old }
         ensures left { result ≡ not (is_empty self.new.pairs) }
-        ensures passed { PassesAs F.FnMut L.rules sink.old sink.new self.old self.new (λ rules old new.
+        ensures passed { Passes F.FnMut L.rules sink.old sink.new self.old self.new (λ rules old new.
             Leaves old (trim rules (contents old)) new) }
     {
         if self.is_over_the_limit() {
@@ -172,7 +172,7 @@ impl<K: Eq + Hash, V, L: Limiter<K, V>, S: KeyHasher<K>> LruMap<K, V, L, S> {
         requires over { L.rules.is_over_the_limit self.old.limiter (length self.old.pairs) ≡ true }
         requires callable { MayTakeEach L.rules F.FnMut self.old.pairs sink.old }
         ensures left { result ≡ not (is_empty self.new.pairs) }
-        ensures passed { PassesAs F.FnMut L.rules sink.old sink.new self.old self.new (λ rules old new.
+        ensures passed { Passes F.FnMut L.rules sink.old sink.new self.old self.new (λ rules old new.
             Leaves old (trim rules (contents old)) new) }
     {
         'evictions: loop {

@@ -7,7 +7,7 @@ ghost use Rattle.lru_model.specs.MayTake.{MayTakeRejected};
 ghost use Rattle.lru_model.specs.State.{place_in, contents};
 ghost use Rattle.lru_model.specs.Callbacks.{noting_offers};
 ghost use Rattle.schnellru.specs.Inside.Steps.{IsReplaced, IsRemoved, IsOffered};
-ghost use Rattle.schnellru.specs.Inside.Passing.{PassesAs, PassesRemoved};
+ghost use Rattle.schnellru.specs.Inside.Passing.{Passes, PassesRemoved};
 
 use crate::map::LruMap;
 use crate::map::remove::take_out;
@@ -33,7 +33,7 @@ impl<K: Eq + Hash, V, L: Limiter<K, V>, S: KeyHasher<K>> LruMap<K, V, L, S> {
             MayTakeRejected L.rules F.FnMut (replacement L.rules L.offers I.names pair key value (contents self.old))
             sink.old }
         requires found { place_in (I.names key) self.old ≡ Some b }
-        ensures passed { PassesAs F.FnMut L.rules sink.old sink.new self.old self.new (λ rules old new.
+        ensures passed { Passes F.FnMut L.rules sink.old sink.new self.old self.new (λ rules old new.
             IsOffered rules (noting_offers L.offers) I.names key value old result new) }
         ensures kept { result.0 ≡ true → sink.new ≡ sink.old }
         ensures there { result.0 ≡ true → Contains self.new.table.places b }

@@ -9,7 +9,7 @@ ghost use Rattle.lru_model.specs.State.{buckets, growth_left, IsAhead};
 ghost use Rattle.lru_model.specs.Place.{Place, Evicts, IsPlacedInTable, IsPlacedByMove, FillsBucket, HasNoBucket};
 ghost use Rattle.lru_model.specs.Place.{IsOutgrown, outcome_of, unstored};
 ghost use Rattle.lru_model.specs.MayTake.{MayTakeEach};
-ghost use Rattle.schnellru.specs.Inside.Passing.{PassesAs};
+ghost use Rattle.schnellru.specs.Inside.Passing.{Passes};
 
 use crate::map::LruMap;
 use crate::map::remove::notify;
@@ -58,7 +58,7 @@ impl<K: Eq + Hash, V, L: Limiter<K, V>, S: KeyHasher<K>> LruMap<K, V, L, S> {
         requires hash { hash ≡ S.hash_of self.old.hasher pair.0 }
         requires absent { lookup_entry (K.eq pair.0) self.old.pairs ≡ None }
         requires no_bucket { HasNoBucket hash self.old }
-        ensures passed { PassesAs F.FnMut L.rules sink.old sink.new self.old self.new (λ rules old new.
+        ensures passed { Passes F.FnMut L.rules sink.old sink.new self.old self.new (λ rules old new.
             Place rules S.hash_of pair old (outcome_of result) new) }
         ensures callable { result ≡ Ok true → MayTakeEach L.rules F.FnMut self.new.pairs sink.new }
     {
@@ -80,7 +80,7 @@ impl<K: Eq + Hash, V, L: Limiter<K, V>, S: KeyHasher<K>> LruMap<K, V, L, S> {
         requires hash { hash ≡ S.hash_of self.old.hasher pair.0 }
         requires absent { lookup_entry (K.eq pair.0) self.old.pairs ≡ None }
         requires outgrown { IsOutgrown hash self.old }
-        ensures passed { PassesAs F.FnMut L.rules sink.old sink.new self.old self.new (λ rules old new.
+        ensures passed { Passes F.FnMut L.rules sink.old sink.new self.old self.new (λ rules old new.
             Place rules S.hash_of pair old (outcome_of result) new) }
         ensures callable { result ≡ Ok true → MayTakeEach L.rules F.FnMut self.new.pairs sink.new }
     {
@@ -107,7 +107,7 @@ impl<K: Eq + Hash, V, L: Limiter<K, V>, S: KeyHasher<K>> LruMap<K, V, L, S> {
         requires hash { hash ≡ S.hash_of self.old.hasher pair.0 }
         requires absent { lookup_entry (K.eq pair.0) self.old.pairs ≡ None }
         requires outgrown { IsOutgrown hash self.old }
-        ensures passed { PassesAs F.FnMut L.rules sink.old sink.new self.old self.new (λ rules old new.
+        ensures passed { Passes F.FnMut L.rules sink.old sink.new self.old self.new (λ rules old new.
             Evicts rules hash pair old old (outcome_of result) new) }
         ensures callable { result ≡ Ok true → MayTakeEach L.rules F.FnMut self.new.pairs sink.new }
     {
@@ -129,7 +129,7 @@ impl<K: Eq + Hash, V, L: Limiter<K, V>, S: KeyHasher<K>> LruMap<K, V, L, S> {
         requires absent { lookup_entry (K.eq pair.0) self.old.pairs ≡ None }
         requires some { 0 < length self.old.pairs }
         requires outgrown { IsOutgrown hash self.old }
-        ensures passed { PassesAs F.FnMut L.rules sink.old sink.new self.old self.new (λ rules old new.
+        ensures passed { Passes F.FnMut L.rules sink.old sink.new self.old self.new (λ rules old new.
             Evicts rules hash pair old old (outcome_of result) new) }
         ensures callable { result ≡ Ok true → MayTakeEach L.rules F.FnMut self.new.pairs sink.new }
     {
@@ -164,7 +164,7 @@ impl<K: Eq + Hash, V, L: Limiter<K, V>, S: KeyHasher<K>> LruMap<K, V, L, S> {
         requires usable { (bytes : ℕ) × (usage self.old.entry_bytes count ≡ Some bytes) }
         requires half { 2 * length self.old.pairs ≤ full_capacity count }
         requires paid { IsAhead (length self.old.pairs) self.old.counts }
-        ensures passed { PassesAs F.FnMut L.rules sink.old sink.new self.old self.new (λ rules old new.
+        ensures passed { Passes F.FnMut L.rules sink.old sink.new self.old self.new (λ rules old new.
             IsPlacedByMove rules pair count old (outcome_of result) new) }
         ensures succeeds { self.old.pairs ≡ [] → count ≡ buckets self.old → IsOk result }
         ensures callable { result ≡ Ok true → MayTakeEach L.rules F.FnMut self.new.pairs sink.new }
@@ -184,7 +184,7 @@ impl<K: Eq + Hash, V, L: Limiter<K, V>, S: KeyHasher<K>> LruMap<K, V, L, S> {
 
     fn pass_unstored<F: FnMut(K, V)>(&mut self, pair: (K, V), sink: &mut F)
         requires callable { (others : List (K × V)) × MayTakeEach L.rules F.FnMut (pair ∷ others) sink.old }
-        ensures passed { PassesAs F.FnMut L.rules sink.old sink.new self.old self.new (λ rules old new.
+        ensures passed { Passes F.FnMut L.rules sink.old sink.new self.old self.new (λ rules old new.
             new ≡ unstored rules pair old) }
     {
         let (key, value) = notify(&mut self.limiter, pair);

@@ -1,6 +1,6 @@
 ghost use Rattle.std.specs.Prelude.{List};
 ghost use Rattle.lru_model.specs.Callbacks.{noting_offers, CalledWith};
-ghost use Rattle.schnellru.specs.Inside.Passing.{PassesAs};
+ghost use Rattle.schnellru.specs.Inside.Passing.{Passes};
 ghost use Rattle.lru_model.specs.MayTake.{MayTakeReplaced};
 ghost use Rattle.lru_model.specs.State.{IsMap, contents};
 ghost use Rattle.lru_model.specs.Updates.{Update, UpdatePasses};
@@ -76,7 +76,7 @@ impl<K: Eq + Hash, V, L: Limiter<K, V>, S: KeyHasher<K>> LruMap<K, V, L, S> {
     where
         L: Insertion<K, V, I>,
         requires callable { MayTakeReplaced L.rules F.FnMut L.offers I.names key value (contents self.old) sink.old }
-        ensures passed { PassesAs F.FnMut L.rules sink.old sink.new self.old self.new (λ rules old new.
+        ensures passed { Passes F.FnMut L.rules sink.old sink.new self.old self.new (λ rules old new.
             Update rules (noting_offers L.offers) I.names key value old result new) }
     {
         let b = match self.find(&key) {

@@ -5,7 +5,6 @@ use Rattle.group_table.specs.Sizes.{full_capacity}
 use Rattle.lru_model.specs.State.{buckets, contents, Leaves, pops}
 use Rattle.lru_model.specs.Place.{OldestEvicted}
 use Rattle.lru_model.specs.MayTake.{MayTakeEach}
-use Rattle.lru_model.specs.Callbacks.{noting, noted}
 use Rattle.schnellru.specs.Inside.Passing.{Passes}
 use Rattle.lru_model.proofs.States.Placements.{IsStuck}
 use Rattle.schnellru.proofs.map.LruMap.store_after_eviction.Given as goal
@@ -15,8 +14,8 @@ invariant-evictions g l = record {
   callable : MayTakeEach g.L.Limiter.rules g.F.FnMut (l.pair ∷ l.self.pairs) l.sink;
   n : ℕ;
   gone : OldestEvicted g.L.Limiter.rules l.hash n l.fn.self l.self;
-  passed : Passes g.F.FnMut l.fn.sink l.sink (λ before after.
-      OldestEvicted (noting g.L.Limiter.rules) l.hash n (noted before l.fn.self) (noted after l.self));
+  passed : Passes g.F.FnMut g.L.Limiter.rules l.fn.sink l.sink l.fn.self l.self (λ rules.
+      OldestEvicted rules l.hash n);
   leaves : Leaves l.fn.self (pops g.L.Limiter.rules n (contents l.fn.self)) l.self;
   stuck : IsStuck l.hash (full_capacity (buckets l.fn.self) / 2) l.self.table.states (length l.self.pairs);
   same_pair : l.pair ≡ l.fn.pair;
