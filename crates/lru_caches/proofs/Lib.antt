@@ -11,3 +11,4 @@ pub mod StoredAnswers
 pub mod TurnedEntries
 pub mod RetainedEntries
 pub mod TakenEntries
+pub mod OtherEntries

@@ -1,3 +1,4 @@
+pub mod Counted
 pub mod Pages
 pub mod Files
 pub mod LeftLemma
