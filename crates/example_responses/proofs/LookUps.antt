@@ -1,6 +1,6 @@
 -- How a look-up of a response changes its host.
 use Rattle.std.proofs.Common.{◌≡◌, ◌<◌, ◌≤◌, ℕ, arith, Result, Ok, Err, is_ok, Bool, true, false, is_some, List, []}
-use Rattle.std.proofs.Common.{◌∷◌, Option, Some, None, cond, refl, sym, ap, ◌∙◌, subst}
+use Rattle.std.proofs.Common.{◌∷◌, Option, Some, None, cond, refl, sym, ap, ◌∙◌, subst, inl}
 use Rattle.std.specs.Cmp.{IsEquivalence}
 use Rattle.std.specs.List.{All, IsDistinct}
 use Rattle.std.specs.Map.{keys_of, values_of, remove_entry}
@@ -14,9 +14,9 @@ use Rattle.lru_model.specs.Calls.{promoted, Remove}
 use Rattle.lru_model.specs.Lists.{lookup, lookup_entry, after, front, without}
 use Rattle.lru_model.specs.State.{State, notified_of}
 use Rattle.lru_tenants.specs.Cache.{Cache, tenant, IsTenant, Leaves, On}
-use Rattle.lru_tenants.specs.TenantRuns.{Gets, OfOpen, IfOpen}
+use Rattle.lru_tenants.specs.TenantRuns.{Gets, OfOpen, IfOpen, read_of}
 use Rattle.lru_tenants.specs.declared.error.TenantError.{TenantError}
-use Rattle.example_responses.specs.LookUps.{fresh_at, looked_up, LooksUp}
+use Rattle.example_responses.specs.LookUps.{fresh_at, looked_up, LooksUp, GetsCopy, IsCopy, Copies, CopiesFrom}
 use Rattle.example_responses.specs.declared.cache.Response.{Response}
 use Rattle.std.specs.Prelude.{IfSome}
 use Rattle.lru_model.proofs.PairLists.NamedPairs.{no_pair}
@@ -116,12 +116,12 @@ module _ {K S : Type 0} (names : K → Bool) (now : ℕ) where
   pub get-finds : (was : Option (State K Response Budget S)) (found : Option Response)
       (left : Option (State K Response Budget S))
       → Gets names was (Ok found) left → fresh_at now found ≡ found
-      → OfOpen (LooksUp names now) was (Ok found) left
+      → OfOpen (LooksUp names now) was (Ok (is_some found)) left
   get-finds None found left (says, is) same = absurd (ok≢err says)
   get-finds (Some map) found left (says, is) same =
       let value = ok-same says in (
         promoted names map,
-        ap Ok (sym same ∙ ap (fresh_at now) value),
+        ap (λ o. Ok (is_some o)) (sym same ∙ ap (fresh_at now) value),
         is,
         ap (λ pairs. record (promoted names map) { pairs = pairs })
             (front-looked_up names now map.pairs found (sym value) same),
@@ -131,7 +131,8 @@ module _ {K S : Type 0} (names : K → Bool) (now : ℕ) where
 pub on-finds : {N K S : Type 0} {eq : N → N → Bool} (names : K → Bool) (now : ℕ) (host : N → Bool)
     (old mid : Cache N K Response Budget S)
     (answer : Result (Option Response) TenantError) (found : Option Response) → On eq host (Gets names) old answer mid
-    → answer ≡ Ok found → fresh_at now found ≡ found → On eq host (OfOpen (LooksUp names now)) old (Ok found) mid
+    → answer ≡ Ok found → fresh_at now found ≡ found
+    → On eq host (OfOpen (LooksUp names now)) old (Ok (is_some found)) mid
 on-finds {eq = eq} names now host old mid answer found (left, gets, leaves) is same = (
   left,
   get-finds names now (tenant host old) found left (subst (λ a. Gets names (tenant host old) a left) is gets) same,
@@ -176,7 +177,7 @@ module _ {N K S : Type 0} {eq : N → N → Bool} {keys : K → K → Bool}
       → fresh_at now (Some response) ≡ None
       → IfSome (tenant host mid) (λ map. IsDistinct keys (keys_of map.pairs))
       → On eq host (IfOpen (Remove rules names)) mid (Ok removed) new
-      → On eq host (OfOpen (LooksUp names now)) old (Ok None) new
+      → On eq host (OfOpen (LooksUp names now)) old (Ok false) new
   stale-removed keeps removed answer (first, does, kept) said stale distinct (left, removes, leaves) =
       let gets : On eq host (Gets names) old (Ok (Some response)) mid =
       (first, subst (λ a. Gets names (tenant host old) a first) said does, kept) in
@@ -194,12 +195,58 @@ module _ {N K S : Type 0} {eq : N → N → Bool} {keys : K → K → Bool}
       ∙ ap (λ notified. record map.limiter { cost = notified.cost })
       (sym (ap (λ st. st.limiter) remove.state.is)) in (
         left,
-        subst (λ t. OfOpen (LooksUp names now) t (Ok None) left) (sym was) (
+        subst (λ t. OfOpen (LooksUp names now) t (Ok false) left) (sym was) (
           own,
-          ap Ok (sym same),
+          ap (λ o. Ok (is_some o)) (sym same),
           now-is,
           remove.state.is ∙ (λ i. record map { pairs = list i; limiter = limiter i; table = own.table }),
           none ∙ sym same,
         ),
         leaves-both host gets.0 left old mid new gets.2 leaves,
       )
+
+module _ {N K S : Type 0} {eq : N → N → Bool} (names : K → Bool) (now : ℕ) (host : N → Bool)
+    (old mid : Cache N K Response Budget S) where
+  -- a look-up, and then a copy of the response if it is fresh
+  pub copies-fresh : (said : Result Bool TenantError) (there : Bool) (answer : Result (Option Response) TenantError)
+      → On eq host (OfOpen (LooksUp names now)) old said mid → said ≡ Ok there
+      → (there ≡ true → CopiesFrom names (tenant host mid) answer) → (there ≡ false → answer ≡ Ok None)
+      → On eq host (OfOpen (GetsCopy names now)) old answer mid
+  copies-fresh said there answer (left, looks, leaves) is-said copied none =
+      (left, go (tenant host old) (subst (λ a. OfOpen (LooksUp names now) (tenant host old) a left) is-said looks), leaves)
+    where
+      copy-of : (fresh : Option Response) (own : State K Response Budget S) → there ≡ is_some fresh
+          → tenant host mid ≡ Some own → lookup names own.pairs ≡ fresh → Copies fresh answer
+      copy-of None own is now-is found = none is
+      copy-of (Some stored) own is now-is found =
+          subst (λ o. Copies o answer) found (subst (λ t. CopiesFrom names t answer) now-is (copied is))
+
+      go : (was : Option (State K Response Budget S)) → OfOpen (LooksUp names now) was (Ok there) left
+          → OfOpen (GetsCopy names now) was answer left
+      go None (says, is) = absurd (ok≢err says)
+      go (Some map) (own, says, is, list, found) = (
+        own,
+        copy-of (fresh_at now (lookup names map.pairs)) own (ok-same says) (leaves.own ∙ is) found,
+        is,
+        list,
+      )
+
+  pub fails-alike : (e : TenantError) → On eq host (OfOpen (LooksUp names now)) old (Err e) mid
+      → On eq host (OfOpen (GetsCopy names now)) old (Err e) mid
+  fails-alike e (left, looks, leaves) = (left, go (tenant host old) looks, leaves)
+    where
+      error-of : {T : Type 0} → Result T TenantError → TenantError
+      error-of (Ok x) = e
+      error-of (Err f) = f
+
+      go : (was : Option (State K Response Budget S)) → OfOpen (LooksUp names now) was (Err e) left
+          → OfOpen (GetsCopy names now) was (Err e) left
+      go None (says, is) = (ap (λ answer. Err (error-of answer)) says, is)
+      go (Some map) looks = absurd (ok≢err (sym looks.1))
+
+pub copied-from : {K S : Type 0} (names : K → Bool) (host : Option (State K Response Budget S)) (stored copy : Response)
+    → read_of (λ map. lookup names map.pairs) host ≡ Ok (Some stored) → IsCopy stored copy
+    → CopiesFrom names host (Ok (Some copy))
+copied-from names None stored copy is same = absurd (ok≢err (sym is))
+copied-from names (Some map) stored copy is same =
+    subst (λ o. Copies o (Ok (Some copy))) (sym (ok-same is)) (inl (copy, same, refl))

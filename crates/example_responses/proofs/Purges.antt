@@ -19,7 +19,7 @@ use Rattle.lru_model.specs.State.{State}
 use Rattle.lru_tenants.specs.Cache.{Cache, tenant, On}
 use Rattle.lru_tenants.specs.TenantRuns.{IfOpen, OfOpen}
 use Rattle.lru_tenants.specs.declared.error.TenantError.{TenantError}
-use Rattle.example_responses.specs.LookUps.{LooksUp, fresh_at}
+use Rattle.example_responses.specs.LookUps.{GetsCopy, Copies, fresh_at}
 use Rattle.example_responses.specs.Purges.{is_below, PurgesBelow}
 use Rattle.example_responses.specs.declared.cache.Response.{Response}
 
@@ -77,7 +77,7 @@ pub purged-missing : {N S : Type 0} {eq : N → N → Bool} (host : N → Bool) 
     → starts_with nat_eq path prefix ≡ true → (old mid new : Cache N (String Global) Response Budget S)
     (done : Unit {0}) (answer : Result (Option Response) TenantError)
     → On eq host (IfOpen (PurgesBelow prefix)) old (Ok done) mid
-    → On eq host (OfOpen (LooksUp (names_text path) now)) mid answer new → IfOk answer (λ found. found ≡ None)
+    → On eq host (OfOpen (GetsCopy (names_text path) now)) mid answer new → IfOk answer (λ found. found ≡ None)
 purged-missing {N} {S} {eq} host prefix path now below old mid new done answer (left, purges, leaves)
     (after, looks, others) = go (tenant host old) purges
   where
@@ -85,6 +85,6 @@ purged-missing {N} {S} {eq} host prefix path now below old mid new done answer (
         → IfOk answer (λ found. found ≡ None)
     go None (says, is) = absurd (true≢false (ap is_ok says))
     go (Some was) (result, own, does, says, is) =
-        let looked = subst (λ t. OfOpen (LooksUp (names_text path) now) t answer after) (leaves.own ∙ is) looks in
-        subst (λ a. IfOk a (λ found. found ≡ None)) (sym looked.1)
-        (ap (fresh_at now) (none-below prefix path below was own does))
+        let looked = subst (λ t. OfOpen (GetsCopy (names_text path) now) t answer after) (leaves.own ∙ is) looks in
+        subst (λ a. IfOk a (λ found. found ≡ None)) (sym (subst (λ o. Copies (fresh_at now o) answer)
+        (none-below prefix path below was own does) looked.1)) refl

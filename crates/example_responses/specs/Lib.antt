@@ -1,2 +1,3 @@
 pub mod LookUps
 pub mod Purges
+pub mod Puts

@@ -1,0 +1,22 @@
+-- What a put of a response does.
+use Rattle.std.specs.Prelude.{◌≡◌, ◌⊎◌, ℕ, Bool, List, Result, Err, string_bytes, string_eq}
+use Rattle.std.specs.declared.string.String.{String}
+use Rattle.std.specs.declared.alloc.Global.{Global}
+use Rattle.lru_limits.specs.Budget.{Budget}
+use Rattle.lru_limits.specs.Rules.{Rules, Offers}
+use Rattle.lru_tenants.specs.Cache.{Cache, On}
+use Rattle.lru_tenants.specs.TenantRuns.{OfOpen, Puts}
+use Rattle.lru_tenants.specs.declared.error.TenantError.{TenantError}
+use Rattle.lru_tenants.specs.declared.error.TenantError.TheVariants.{Memory}
+use Rattle.example_responses.specs.declared.cache.Response.{Response}
+
+-- The path was copied into a key, and the response was put at this key. Or memory ran out for the copy, and nothing
+-- has changed.
+abbrev pub PutsPath : {N S : Type 0} → Rules (String Global) Response Budget
+    → Offers (String Global) Response Budget (String Global) → (Budget → ℕ) → (S → String Global → ℕ) → (N → N → Bool)
+    → (N → Bool) → List ℕ → Response → Cache N (String Global) Response Budget S → Result Bool TenantError
+    → Cache N (String Global) Response Budget S → Type 0
+PutsPath rules offers budget_of hash_of eq host path response old answer new =
+    ((key : String Global) × (string_bytes key ≡ path)
+    × On eq host (OfOpen (Puts rules offers budget_of string_eq hash_of key response)) old answer new)
+    ⊎ ((answer ≡ Err Memory) × (new ≡ old))
