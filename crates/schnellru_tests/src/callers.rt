@@ -1,6 +1,7 @@
 //! Callers of a map, whose contracts follow from the contracts of its calls: the code of docs/CALLING.md.
 ghost use Rattle.std.specs.Prelude.{◌≡◌, ◌≤◌, ◌<◌, ◌⊎◌, ℕ, ◌+◌, ◌*◌, ◌/◌, ◌∷◌, ◌++◌, List, length, reverse, take, nat_eq};
 ghost use Rattle.std.specs.Prelude.{Some, None, Ok, IfOk, OnOk, OnErr, true, is_some, sum_by, string_len};
+ghost use Rattle.std.specs.Prelude.{map as mapped};
 ghost use Rattle.std.specs.List.{All, IsDistinct};
 ghost use Rattle.std.specs.String.{string_eq};
 ghost use Rattle.group_table.specs.Bucket.{deleted};
@@ -107,6 +108,17 @@ fn fetch<F: Fn(&String) -> String>(
     let text = load(&key);
     map.insert(key, text.clone()?)?;
     Ok(text)
+}
+
+/// Writes 0 as each value, newest first. Nothing else changes.
+fn reset(map: &mut LruMap<String, u64>)
+    ensures { map.new ≡ record map.old { pairs = mapped (λ pair. (pair.0, 0)) map.old.pairs } }
+{
+    let mut walk = map.iter_mut();
+    'pairs: while walk.len() > 0 {
+        let (_, value) = walk.lend_next();
+        *value = 0;
+    }
 }
 
 /// Puts a number under each text into a new map. On average, growth moved each stored entry at most twice.

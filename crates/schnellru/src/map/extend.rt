@@ -42,7 +42,7 @@ impl<K: Eq + Hash + Drop, V: Drop, L: Insertion<K, V, K>, S: KeyHasher<K>> LruMa
         for (key, value) in entries {
             self.insert(key, value)?;
         }
-        let _ = &self.entries;
+        self.show_map();
         Ok(())
     }
 }

@@ -76,9 +76,9 @@ impl<K: Eq + Hash + Drop, V: Drop, L: Limiter<K, V>, S: KeyHasher<K>> LruMap<K, 
             (IsOutOfMemoryFor L.rules L.offers I.names S.hash_of (F.post make) key self.old self.new) }
         ensures map { IsMap K.eq self.new }
     {
-        let _ = &self.entries;
+        self.show_map();
         let answer = self.make_newest(key, make);
-        let _ = &self.entries;
+        self.show_map();
         answer
     }
 
@@ -110,7 +110,7 @@ impl<K: Eq + Hash + Drop, V: Drop, L: Limiter<K, V>, S: KeyHasher<K>> LruMap<K, 
             L.LinkType.LinkType S.KeyHasher S.Hasher.Hasher self.entry
             (λ answer map. (answer ≡ kept) × (map ≡ self.old)) result) }
     {
-        let _ = &self.entries;
+        self.show_map();
         match kept {
             Ok(true) => Ok(self.newest_value_mut()),
             Ok(false) => Err(NotLent::NotKept),
@@ -198,9 +198,9 @@ impl<K: Eq + Hash + Drop, V: Drop, L: Limiter<K, V>, S: KeyHasher<K>> LruMap<K, 
             self.new }
         ensures map { IsMap K.eq self.new }
     {
-        let _ = &self.entries;
+        self.show_map();
         let answer = self.make_newest_if_made(key, make);
-        let _ = &self.entries;
+        self.show_map();
         answer
     }
 

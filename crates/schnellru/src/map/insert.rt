@@ -98,9 +98,9 @@ impl<K: Eq + Hash, V: Drop, L: Limiter<K, V>, S: KeyHasher<K>> LruMap<K, V, L, S
         ensures map { IsMap K.eq self.new }
     {
         let hash = self.hasher.hash_named(&key);
-        let _ = &self.entries;
+        self.show_map();
         let kept = self.insert_or_drop(hash, key, value, sink);
-        let _ = &self.entries;
+        self.show_map();
         kept
     }
 
@@ -216,9 +216,9 @@ impl<K: Eq + Hash, V, L: Limiter<K, V>, S: KeyHasher<K>> LruMap<K, V, L, S> {
         ensures ends { InsertEnds L.rules L.offers I.names S.hash_of key value self.old (kept_of result) self.new }
         ensures map { IsMap K.eq self.new }
     {
-        let _ = &self.entries;
+        self.show_map();
         let inserted = self.insert_or_replace(hash, key, value, sink);
-        let _ = &self.entries;
+        self.show_map();
         inserted
     }
 
@@ -261,9 +261,9 @@ impl<K: Eq + Hash, V, L: Limiter<K, V>, S: KeyHasher<K>> LruMap<K, V, L, S> {
         ensures ends { InsertEnds L.rules L.offers I.names S.hash_of key value self.old result self.new }
         ensures map { IsMap K.eq self.new }
     {
-        let _ = &self.entries;
+        self.show_map();
         let kept = self.insert_new(hash, key, value, sink);
-        let _ = &self.entries;
+        self.show_map();
         kept
     }
 

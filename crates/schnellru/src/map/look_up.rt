@@ -132,7 +132,7 @@ impl<K: Eq + Hash, V, L: Limiter<K, V>, S: KeyHasher<K>> LruMap<K, V, L, S> {
         ensures map { (last : V) → IsMap K.eq (record self.old { pairs = set_newest self.old.pairs last }) }
     {
         if self.is_empty() {
-            let _ = &self.entries;
+            self.show_map();
             return None;
         }
         Some(self.newest_value_mut())

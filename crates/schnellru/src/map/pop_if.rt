@@ -30,7 +30,7 @@ impl<K: Eq + Hash, V, L: Limiter<K, V>, S: KeyHasher<K>> LruMap<K, V, L, S> {
         ensures freed { IfSome result (λ _. Frees (last self.old.table.places) self.old.table self.new.table) }
         ensures map { IsMap K.eq self.new }
     {
-        let _ = &self.entries;
+        self.show_map();
         let (key, value) = self.peek_oldest()?;
         if !accepts(key, value) {
             return None;
@@ -61,7 +61,7 @@ impl<K: Eq + Hash, V, L: Limiter<K, V>, S: KeyHasher<K>> LruMap<K, V, L, S> {
             Frees (last self.old.table.places) self.old.table self.new.table)) }
         ensures map { IsMap K.eq self.new }
     {
-        let _ = &self.entries;
+        self.show_map();
         match self.peek_oldest() {
             None => Ok(None),
             Some((key, value)) => match release(key, value) {

@@ -32,7 +32,7 @@ impl<K: Eq + Hash, V, L: Limiter<K, V>, S: KeyHasher<K>> LruMap<K, V, L, S> {
         ensures map { IsMap K.eq self.new }
     {
         if self.is_empty() {
-            let _ = &self.entries;
+            self.show_map();
             return None;
         }
         Some(self.take_oldest())

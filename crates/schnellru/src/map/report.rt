@@ -22,7 +22,7 @@ impl<K: Eq + Hash, V, L: Limiter<K, V>, S: KeyHasher<K>> LruMap<K, V, L, S> {
         ensures shrunk { result.shrunk ≡ self.now.counts.shrunk }
         ensures paid { result.moved ≤ 2 * result.placed + result.shrunk }
     {
-        let _ = &self.entries;
+        self.show_map();
         MoveReport {
             moved: self.moved,
             placed: self.entries.placed(),

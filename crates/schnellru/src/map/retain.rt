@@ -67,7 +67,7 @@ impl<K: Eq + Hash, V, L: Limiter<K, V>, S: KeyHasher<K>> LruMap<K, V, L, S> {
                 sink(key, value);
             }
         }
-        let _ = &self.entries;
+        self.show_map();
     }
 
     #[inline]

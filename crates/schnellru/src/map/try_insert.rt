@@ -71,9 +71,9 @@ impl<K: Eq + Hash + Drop, V: Drop, L: Admission<K, V> + Copy, S: KeyHasher<K>> L
         ensures ends { TryInsertEnds L.terms L.rules key value self.old K.eq S.hash_of result self.new }
         ensures map { IsMap K.eq self.new }
     {
-        let _ = &self.entries;
+        self.show_map();
         let inserted = self.try_insert_if_absent(hash, key, value);
-        let _ = &self.entries;
+        self.show_map();
         inserted
     }
 

@@ -63,7 +63,7 @@ impl<K: Eq + Hash, V, L: Limiter<K, V>, S: KeyHasher<K>> LruMap<K, V, L, S> {
         ensures map { IsMap K.eq self.new }
     {
         let updated = self.update_entry(key, value, sink);
-        let _ = &self.entries;
+        self.show_map();
         updated
     }
 

@@ -73,6 +73,15 @@ fn fetch<F: Fn(&String) -> String>(
     Ok(text)
 }
 
+/// Writes 0 as each value, newest first. Nothing else changes.
+fn reset(map: &mut LruMap<String, u64>) {
+    let mut walk = map.iter_mut();
+    'pairs: while walk.len() > 0 {
+        let (_, value) = walk.lend_next();
+        *value = 0;
+    }
+}
+
 /// Puts a number under each text into a new map. On average, growth moved each stored entry at most twice.
 fn count_all(alloc: Global, texts: &[String]) -> Result<MoveReport, AllocError> {
     laws::runs_begin_with_maps::<String, u64, ByLength, RandomState>();

@@ -1,5 +1,4 @@
-use Rattle.std.proofs.Common.{[], refl, subst}
-use Rattle.lru_model.specs.State.{IsMap}
+use Rattle.std.proofs.Common.{[], refl}
 use Rattle.lru_model.proofs.Theorems.OutOfMemory.{insert_ends}
 use Rattle.lru_model.proofs.Theorems.PlainInserts.{plain_insert}
 use Rattle.lru_model.proofs.CallbackLemmas.{takes_always}
@@ -12,10 +11,8 @@ pub returns-clause-passed : goal.returns-clause-passed
 returns-clause-passed g c = c.insert_or_drop-kept.ensures.passed c.args.sink.now [] refl
 
 pub returns-clause-ends : goal.returns-clause-ends
-returns-clause-ends g c =
-    let old : IsMap g.K.PartialEq.eq c.args.self.now = subst
-    (IsMap g.K.PartialEq.eq) c.self.view_is c.self.invariant.map in
-    insert_ends g.met.I.LookupKey.laws g.met.L.Insertion.laws old (returns-clause-step g c)
+returns-clause-ends g c = insert_ends g.met.I.LookupKey.laws g.met.L.Insertion.laws c.show_map.ensures
+    (returns-clause-step g c)
 
 pub returns-clause-callable : goal.returns-clause-callable
 returns-clause-callable g c = let (passed, taken, step) = returns-clause-passed g c in

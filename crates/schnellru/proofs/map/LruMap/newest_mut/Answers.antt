@@ -12,7 +12,7 @@ returns-then-is_empty g c =
         writes_back = tt;
         value = sym none.value;
         map = λ last. subst (λ ps. IsMap equal (record st { pairs = ps })) (sym (none.set last))
-            (subst (IsMap equal) c.self.view_is c.self.invariant.map);
+            c.show_map.ensures;
       },
     )
 

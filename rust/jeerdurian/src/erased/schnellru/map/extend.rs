@@ -28,7 +28,7 @@ where {
         for (key, value) in entries {
             self.insert(key, value)?;
         }
-        let _ = &self.entries;
+        self.show_map();
         Ok(())
     }
 }

@@ -55,9 +55,9 @@ impl<K: Eq + Hash, V, L: Limiter<K, V>, S: KeyHasher<K>> LruMap<K, V, L, S> {
     where
         L: Insertion<K, V, I>,
     {
-        let _ = &self.entries;
+        self.show_map();
         let answer = self.make_newest(key, make);
-        let _ = &self.entries;
+        self.show_map();
         answer
     }
 
@@ -78,7 +78,7 @@ impl<K: Eq + Hash, V, L: Limiter<K, V>, S: KeyHasher<K>> LruMap<K, V, L, S> {
     // Lends the newest value if `kept` is `Ok(true)`.
     #[inline]
     fn lend_if_kept<E>(&mut self, kept: Result<bool, E>) -> Result<&mut V, NotLent<E>> {
-        let _ = &self.entries;
+        self.show_map();
         match kept {
             Ok(true) => Ok(self.newest_value_mut()),
             Ok(false) => Err(NotLent::NotKept),
@@ -150,9 +150,9 @@ impl<K: Eq + Hash, V, L: Limiter<K, V>, S: KeyHasher<K>> LruMap<K, V, L, S> {
     where
         L: Insertion<K, V, I>,
     {
-        let _ = &self.entries;
+        self.show_map();
         let answer = self.make_newest_if_made(key, make);
-        let _ = &self.entries;
+        self.show_map();
         answer
     }
 

@@ -83,9 +83,9 @@ impl<K: Eq + Hash, V, L: Limiter<K, V>, S: KeyHasher<K>> LruMap<K, V, L, S> {
         L: Insertion<K, V, I>,
     {
         let hash = self.hasher.hash_named(&key);
-        let _ = &self.entries;
+        self.show_map();
         let kept = self.insert_or_drop(hash, key, value, sink);
-        let _ = &self.entries;
+        self.show_map();
         kept
     }
 
@@ -178,9 +178,9 @@ impl<K: Eq + Hash, V, L: Limiter<K, V>, S: KeyHasher<K>> LruMap<K, V, L, S> {
     where
         L: Insertion<K, V, I>,
     {
-        let _ = &self.entries;
+        self.show_map();
         let inserted = self.insert_or_replace(hash, key, value, sink);
-        let _ = &self.entries;
+        self.show_map();
         inserted
     }
 
@@ -214,9 +214,9 @@ impl<K: Eq + Hash, V, L: Limiter<K, V>, S: KeyHasher<K>> LruMap<K, V, L, S> {
     where
         L: Insertion<K, V, I>,
     {
-        let _ = &self.entries;
+        self.show_map();
         let kept = self.insert_new(hash, key, value, sink);
-        let _ = &self.entries;
+        self.show_map();
         kept
     }
 

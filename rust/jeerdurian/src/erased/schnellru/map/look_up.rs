@@ -101,7 +101,7 @@ impl<K: Eq + Hash, V, L: Limiter<K, V>, S: KeyHasher<K>> LruMap<K, V, L, S> {
     #[inline]
     pub fn newest_mut(&mut self) -> Option<&mut V> {
         if self.is_empty() {
-            let _ = &self.entries;
+            self.show_map();
             return None;
         }
         Some(self.newest_value_mut())

@@ -22,7 +22,7 @@ impl<K: Eq + Hash, V, L: Limiter<K, V>, S: KeyHasher<K>> LruMap<K, V, L, S> {
     ///
     /// Follows std's `Vec::pop_if`.
     pub fn pop_oldest_if<F: FnOnce(&K, &V) -> bool>(&mut self, accepts: F) -> Option<(K, V)> {
-        let _ = &self.entries;
+        self.show_map();
         let (key, value) = self.peek_oldest()?;
         if !accepts(key, value) {
             return None;
@@ -43,7 +43,7 @@ impl<K: Eq + Hash, V, L: Limiter<K, V>, S: KeyHasher<K>> LruMap<K, V, L, S> {
     ///
     /// Returns the error of the closure. Then nothing has changed.
     pub fn try_pop_oldest<E, F: FnOnce(&K, &V) -> Result<(), E>>(&mut self, release: F) -> Result<Option<(K, V)>, E> {
-        let _ = &self.entries;
+        self.show_map();
         match self.peek_oldest() {
             None => Ok(None),
             Some((key, value)) => match release(key, value) {

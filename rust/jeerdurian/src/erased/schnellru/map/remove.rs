@@ -22,7 +22,7 @@ impl<K: Eq + Hash, V, L: Limiter<K, V>, S: KeyHasher<K>> LruMap<K, V, L, S> {
     #[inline]
     pub fn pop_oldest(&mut self) -> Option<(K, V)> {
         if self.is_empty() {
-            let _ = &self.entries;
+            self.show_map();
             return None;
         }
         Some(self.take_oldest())

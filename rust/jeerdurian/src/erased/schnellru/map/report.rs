@@ -19,7 +19,7 @@ impl<K: Eq + Hash, V, L: Limiter<K, V>, S: KeyHasher<K>> LruMap<K, V, L, S> {
     /// assert_eq!(rt; map.move_report(), MoveReport { moved: 0, placed: 1, shrunk: 0 });
     /// ```
     pub fn move_report(&self) -> MoveReport {
-        let _ = &self.entries;
+        self.show_map();
         MoveReport { moved: self.moved, placed: self.entries.placed(), shrunk: self.shrunk }
     }
 }

@@ -60,7 +60,7 @@ impl<K: Eq + Hash, V, L: Limiter<K, V>, S: KeyHasher<K>> LruMap<K, V, L, S> {
         if !self.is_empty() {
             self.evict_over_limit(sink);
         }
-        let _ = &self.entries;
+        self.show_map();
     }
 
     /// Does what `set_limiter` does, and passes each evicted entry to the callback, oldest first.

@@ -59,9 +59,9 @@ impl<K: Eq + Hash, V, L: Admission<K, V> + Copy, S: KeyHasher<K>> LruMap<K, V, L
     ///
     /// Follows `RawEntryMut::insert_hashed_nocheck` of the crate `hashlink`.
     pub fn try_insert_hashed(&mut self, hash: u64, key: K, value: V) -> Result<(), (K, V)> {
-        let _ = &self.entries;
+        self.show_map();
         let inserted = self.try_insert_if_absent(hash, key, value);
-        let _ = &self.entries;
+        self.show_map();
         inserted
     }
 

@@ -47,7 +47,7 @@ impl<K: Eq + Hash, V, L: Limiter<K, V>, S: KeyHasher<K>> LruMap<K, V, L, S> {
         L: Insertion<K, V, I>,
     {
         let updated = self.update_entry(key, value, sink);
-        let _ = &self.entries;
+        self.show_map();
         updated
     }
 

@@ -166,7 +166,7 @@ impl<K: Eq + Hash, V, L: Limiter<K, V>, S: KeyHasher<K>> LruMap<K, V, L, S> {
             self.write_at(at, b, &mut f);
             at += 1;
         }
-        let _ = &self.entries;
+        self.show_map();
     }
 
     #[inline]
