@@ -1,5 +1,4 @@
-use Rattle.std.proofs.Common.{refl}
 use Rattle.example_responses.proofs.cache.ResponseCache.put.Goals as goal
 
 pub returns : goal.returns
-returns c = ?
+returns c = rw c.count_put.ensures c.put_path-stored.ensures
