@@ -85,27 +85,21 @@ impl<K: Eq + Hash, V, Q: Question<K, V>, L: Insertion<K, V, K>, S: KeyHasher<K>>
     L,
     S,
 > {
-    /// Makes an empty table, with a hasher of keys. `LruMap::with_hasher` explains `entry_bytes`.
+    /// Makes an empty table, with a hasher of keys.
     ///
     /// ```
     /// let seeded = RandomState::with_seeds([5, 6, 7, 8]);
-    /// let empty = MemoTable::with_hasher(alloc, ByLength::new(9), seeded, 24, Squares);
+    /// let empty = MemoTable::with_hasher(alloc, ByLength::new(9), seeded, Squares);
     /// assert!(rt; empty.is_empty());
     /// ```
     ///
     /// Cost: `O(1)`, and no memory.
-    pub fn with_hasher(
-        alloc: Global,
-        limiter: L,
-        hasher: S,
-        entry_bytes: usize,
-        question: Q,
-    ) -> Self
+    pub fn with_hasher(alloc: Global, limiter: L, hasher: S, question: Q) -> Self
         requires { KeepsValues L.offers }
         ensures { result ≡ [] }
     {
         MemoTable {
-            map: LruMap::with_hasher(alloc, limiter, hasher, entry_bytes),
+            map: LruMap::with_limiter_and_hasher(alloc, limiter, hasher),
             question,
         }
     }
@@ -129,7 +123,7 @@ impl<K: Eq + Hash, V, Q: Question<K, V>, L: Insertion<K, V, K>, S: KeyHasher<K>>
     ///
     /// ```
     /// let seeded = RandomState::with_seeds([5, 6, 7, 8]);
-    /// let empty = MemoTable::with_hasher(alloc, ByLength::new(9), seeded, 24, Squares);
+    /// let empty = MemoTable::with_hasher(alloc, ByLength::new(9), seeded, Squares);
     /// assert!(rt; empty.is_empty());
     /// ```
     pub fn is_empty(&self) -> bool
