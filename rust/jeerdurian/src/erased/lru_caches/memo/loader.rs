@@ -34,17 +34,17 @@ impl<K: Eq + Hash, V, E, F: Fn(&K) -> Result<V, E>, L: Insertion<K, V, K>> Loade
 }
 
 impl<K: Eq + Hash, V, E, F: Fn(&K) -> Result<V, E>, L: Insertion<K, V, K>, S: KeyHasher<K>> Loader<K, V, F, L, S> {
-    /// Makes a loader of a function, with a hasher of keys. `LruMap::with_hasher` explains `entry_bytes`.
+    /// Makes a loader of a function, with a hasher of keys.
     ///
     /// ```text
     /// let seeded = RandomState::with_seeds([5, 6, 7, 8]);
-    /// let empty = Loader::with_hasher(alloc, ByLength::new(9), seeded, 24, |n: &u64| n.checked_add(1).ok_or(*n));
+    /// let empty = Loader::with_hasher(alloc, ByLength::new(9), seeded, |n: &u64| n.checked_add(1).ok_or(*n));
     /// assert!(rt; empty.is_empty());
     /// ```
     ///
     /// Cost: `O(1)`, and no memory.
-    pub fn with_hasher(alloc: Global, limiter: L, hasher: S, entry_bytes: usize, function: F) -> Self {
-        Loader { map: LruMap::with_hasher(alloc, limiter, hasher, entry_bytes), function }
+    pub fn with_hasher(alloc: Global, limiter: L, hasher: S, function: F) -> Self {
+        Loader { map: LruMap::with_limiter_and_hasher(alloc, limiter, hasher), function }
     }
 
     /// Returns how many values are stored.
@@ -64,7 +64,7 @@ impl<K: Eq + Hash, V, E, F: Fn(&K) -> Result<V, E>, L: Insertion<K, V, K>, S: Ke
     ///
     /// ```text
     /// let seeded = RandomState::with_seeds([5, 6, 7, 8]);
-    /// let empty = Loader::with_hasher(alloc, ByLength::new(9), seeded, 24, |n: &u64| n.checked_add(1).ok_or(*n));
+    /// let empty = Loader::with_hasher(alloc, ByLength::new(9), seeded, |n: &u64| n.checked_add(1).ok_or(*n));
     /// assert!(rt; empty.is_empty());
     /// ```
     pub fn is_empty(&self) -> bool {

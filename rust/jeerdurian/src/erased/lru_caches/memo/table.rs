@@ -49,17 +49,17 @@ impl<K: Eq + Hash, V, Q: Question<K, V>, L: Insertion<K, V, K>> MemoTable<K, V, 
 }
 
 impl<K: Eq + Hash, V, Q: Question<K, V>, L: Insertion<K, V, K>, S: KeyHasher<K>> MemoTable<K, V, Q, L, S> {
-    /// Makes an empty table, with a hasher of keys. `LruMap::with_hasher` explains `entry_bytes`.
+    /// Makes an empty table, with a hasher of keys.
     ///
     /// ```text
     /// let seeded = RandomState::with_seeds([5, 6, 7, 8]);
-    /// let empty = MemoTable::with_hasher(alloc, ByLength::new(9), seeded, 24, Squares);
+    /// let empty = MemoTable::with_hasher(alloc, ByLength::new(9), seeded, Squares);
     /// assert!(rt; empty.is_empty());
     /// ```
     ///
     /// Cost: `O(1)`, and no memory.
-    pub fn with_hasher(alloc: Global, limiter: L, hasher: S, entry_bytes: usize, question: Q) -> Self {
-        MemoTable { map: LruMap::with_hasher(alloc, limiter, hasher, entry_bytes), question }
+    pub fn with_hasher(alloc: Global, limiter: L, hasher: S, question: Q) -> Self {
+        MemoTable { map: LruMap::with_limiter_and_hasher(alloc, limiter, hasher), question }
     }
 
     /// Returns how many answers are stored.
@@ -79,7 +79,7 @@ impl<K: Eq + Hash, V, Q: Question<K, V>, L: Insertion<K, V, K>, S: KeyHasher<K>>
     ///
     /// ```text
     /// let seeded = RandomState::with_seeds([5, 6, 7, 8]);
-    /// let empty = MemoTable::with_hasher(alloc, ByLength::new(9), seeded, 24, Squares);
+    /// let empty = MemoTable::with_hasher(alloc, ByLength::new(9), seeded, Squares);
     /// assert!(rt; empty.is_empty());
     /// ```
     pub fn is_empty(&self) -> bool {
