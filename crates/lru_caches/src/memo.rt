@@ -175,7 +175,14 @@ impl<K: Eq + Hash + Drop, V: Drop, F: Fn(&K) -> V, L: Insertion<K, V, K>, S: Key
         ensures known { AreAnswers K.eq (FnReturnsAt F.Fn self.new.function) self.new.map.pairs }
         ensures function { self.new.function ≡ self.old.function }
     {
-        read_remembered(&mut self.map, &self.function, key, read)
+        laws::inserts_evict_the_oldest::<K, V, K, L, S>();
+        if let Some(value) = self.map.get(&key) {
+            return read(&*value);
+        }
+        let value = (self.function)(&key);
+        let result = read(&value);
+        let _ = self.map.insert(key, value);
+        result
     }
 
     /// Removes the stored result of a key, and returns whether there was one.
@@ -211,34 +218,4 @@ impl<K: Eq + Hash + Drop, V: Drop, F: Fn(&K) -> V, L: Insertion<K, V, K>, S: Key
     {
         self.map.clear();
     }
-}
-
-fn read_remembered<
-    K: Eq + Hash + Drop,
-    V: Drop,
-    F: Fn(&K) -> V,
-    L: Insertion<K, V, K>,
-    S: KeyHasher<K>,
-    R,
-    U: FnOnce(&V) -> R,
->(map: &mut LruMap<K, V, L, S>, function: &F, key: K, read: U) -> R
-    requires callable { F.IsAlwaysCallable function.now }
-    requires readable { U.IsAlwaysCallable read }
-    requires keeps { KeepsValues L.offers }
-    requires known { AreAnswers K.eq (FnReturnsAt F.Fn function.now) map.old.pairs }
-    ensures answer { (value : V) × IsAnswer K.eq (FnReturnsAt F.Fn function.now) key value
-        × Remembers L.rules L.offers K.eq S.hash_of key value map.old map.new
-        × FnOnceReturnsAt U.FnOnce read value result }
-    ensures map { IsMap K.eq map.new }
-    ensures stored { IfSome (lookup (K.eq key) map.old.pairs) (λ value. FnOnceReturnsAt U.FnOnce read value result) }
-    ensures known { AreAnswers K.eq (FnReturnsAt F.Fn function.now) map.new.pairs }
-{
-    laws::inserts_evict_the_oldest::<K, V, K, L, S>();
-    if let Some(value) = map.get(&key) {
-        return read(&*value);
-    }
-    let value = function(&key);
-    let result = read(&value);
-    let _ = map.insert(key, value);
-    result
 }

@@ -201,46 +201,17 @@ impl<
         ensures known { AreAnswers K.eq (loads (FnReturnsAt F.Fn self.new.function)) self.new.map.pairs }
         ensures function { self.new.function ≡ self.old.function }
     {
-        read_loaded(&mut self.map, &self.function, key, read)
-    }
-}
-
-fn read_loaded<
-    K: Eq + Hash + Drop,
-    V: Drop,
-    E: Drop,
-    F: Fn(&K) -> Result<V, E>,
-    L: Insertion<K, V, K>,
-    S: KeyHasher<K>,
-    R,
-    U: FnOnce(&V) -> R,
->(map: &mut LruMap<K, V, L, S>, function: &F, key: K, read: U) -> Result<R, E>
-    requires callable { F.IsAlwaysCallable function.now }
-    requires readable { U.IsAlwaysCallable read }
-    requires keeps { KeepsValues L.offers }
-    requires known { AreAnswers K.eq (loads (FnReturnsAt F.Fn function.now)) map.old.pairs }
-    ensures value { IfOk result (λ given. (value : V)
-        × IsAnswer K.eq (loads (FnReturnsAt F.Fn function.now)) key value
-        × Remembers L.rules L.offers K.eq S.hash_of key value map.old map.new
-        × FnOnceReturnsAt U.FnOnce read value given) }
-    ensures stored { IfSome (lookup (K.eq key) map.old.pairs)
-        (λ value. (given : R) × (result ≡ Ok given) × FnOnceReturnsAt U.FnOnce read value given) }
-    ensures loaded { lookup (K.eq key) map.old.pairs ≡ None →
-        ReadsLoaded (FnReturnsAt F.Fn function.now key) (FnOnceReturnsAt U.FnOnce read) result }
-    ensures map { IsMap K.eq map.new }
-    ensures failed { OnErr result (map.new ≡ map.old) }
-    ensures known { AreAnswers K.eq (loads (FnReturnsAt F.Fn function.now)) map.new.pairs }
-{
-    laws::inserts_evict_the_oldest::<K, V, K, L, S>();
-    if let Some(value) = map.get(&key) {
-        return Ok(read(&*value));
-    }
-    match function(&key) {
-        Ok(value) => {
-            let given = read(&value);
-            let _ = map.insert(key, value);
-            Ok(given)
+        laws::inserts_evict_the_oldest::<K, V, K, L, S>();
+        if let Some(value) = self.map.get(&key) {
+            return Ok(read(&*value));
         }
-        Err(error) => Err(error),
+        match (self.function)(&key) {
+            Ok(value) => {
+                let given = read(&value);
+                let _ = self.map.insert(key, value);
+                Ok(given)
+            }
+            Err(error) => Err(error),
+        }
     }
 }

@@ -100,7 +100,14 @@ impl<K: Eq + Hash, V, F: Fn(&K) -> V, L: Insertion<K, V, K>, S: KeyHasher<K>> Me
     ///
     /// Cost: as `answer`, and a call of the closure.
     pub fn answer_with<R, U: FnOnce(&V) -> R>(&mut self, key: K, read: U) -> R {
-        read_remembered(&mut self.map, &self.function, key, read)
+        laws::inserts_evict_the_oldest::<K, V, K, L, S>();
+        if let Some(value) = self.map.get(&key) {
+            return read(&*value);
+        }
+        let value = (self.function)(&key);
+        let result = read(&value);
+        let _ = self.map.insert(key, value);
+        result
     }
 
     /// Removes the stored result of a key, and returns whether there was one.
@@ -124,20 +131,4 @@ impl<K: Eq + Hash, V, F: Fn(&K) -> V, L: Insertion<K, V, K>, S: KeyHasher<K>> Me
     pub fn clear(&mut self) {
         self.map.clear();
     }
-}
-
-fn read_remembered<K: Eq + Hash, V, F: Fn(&K) -> V, L: Insertion<K, V, K>, S: KeyHasher<K>, R, U: FnOnce(&V) -> R>(
-    map: &mut LruMap<K, V, L, S>,
-    function: &F,
-    key: K,
-    read: U,
-) -> R {
-    laws::inserts_evict_the_oldest::<K, V, K, L, S>();
-    if let Some(value) = map.get(&key) {
-        return read(&*value);
-    }
-    let value = function(&key);
-    let result = read(&value);
-    let _ = map.insert(key, value);
-    result
 }

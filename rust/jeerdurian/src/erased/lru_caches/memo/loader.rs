@@ -108,35 +108,17 @@ impl<K: Eq + Hash, V, E, F: Fn(&K) -> Result<V, E>, L: Insertion<K, V, K>, S: Ke
     ///
     /// As `load`. After an error, the closure is not called.
     pub fn load_with<R, U: FnOnce(&V) -> R>(&mut self, key: K, read: U) -> Result<R, E> {
-        read_loaded(&mut self.map, &self.function, key, read)
-    }
-}
-
-fn read_loaded<
-    K: Eq + Hash,
-    V,
-    E,
-    F: Fn(&K) -> Result<V, E>,
-    L: Insertion<K, V, K>,
-    S: KeyHasher<K>,
-    R,
-    U: FnOnce(&V) -> R,
->(
-    map: &mut LruMap<K, V, L, S>,
-    function: &F,
-    key: K,
-    read: U,
-) -> Result<R, E> {
-    laws::inserts_evict_the_oldest::<K, V, K, L, S>();
-    if let Some(value) = map.get(&key) {
-        return Ok(read(&*value));
-    }
-    match function(&key) {
-        Ok(value) => {
-            let given = read(&value);
-            let _ = map.insert(key, value);
-            Ok(given)
+        laws::inserts_evict_the_oldest::<K, V, K, L, S>();
+        if let Some(value) = self.map.get(&key) {
+            return Ok(read(&*value));
         }
-        Err(error) => Err(error),
+        match (self.function)(&key) {
+            Ok(value) => {
+                let given = read(&value);
+                let _ = self.map.insert(key, value);
+                Ok(given)
+            }
+            Err(error) => Err(error),
+        }
     }
 }

@@ -111,7 +111,8 @@ impl<K: Eq + Hash, V, Q: Question<K, V>, L: Insertion<K, V, K>, S: KeyHasher<K>>
     ///
     /// Cost: as `get`, and a call of the closure.
     pub fn get_with<R, U: FnOnce(&V) -> R>(&mut self, key: &K, read: U) -> Option<R> {
-        read_stored::<K, V, Q, L, S, R, U>(&mut self.map, key, read)
+        let value = self.map.get(key)?;
+        Some(read(&*value))
     }
 
     /// Stores an answer at a key as the newest, and returns true. If memory runs out, or a limit prevents this, returns
@@ -123,26 +124,7 @@ impl<K: Eq + Hash, V, Q: Question<K, V>, L: Insertion<K, V, K>, S: KeyHasher<K>>
     ///
     /// Cost: an insert.
     pub fn store(&mut self, key: K, value: V) -> bool {
-        keep::<K, V, Q, L, S>(&mut self.map, key, value)
+        laws::inserts_evict_the_oldest::<K, V, K, L, S>();
+        self.map.insert(key, value).unwrap_or(false)
     }
-}
-
-fn read_stored<K: Eq + Hash, V, Q: Question<K, V>, L: Insertion<K, V, K>, S: KeyHasher<K>, R, U: FnOnce(&V) -> R>(
-    map: &mut LruMap<K, V, L, S>,
-    key: &K,
-    read: U,
-) -> Option<R> {
-    match map.get(key) {
-        Some(value) => Some(read(&*value)),
-        None => None,
-    }
-}
-
-fn keep<K: Eq + Hash, V, Q: Question<K, V>, L: Insertion<K, V, K>, S: KeyHasher<K>>(
-    map: &mut LruMap<K, V, L, S>,
-    key: K,
-    value: V,
-) -> bool {
-    laws::inserts_evict_the_oldest::<K, V, K, L, S>();
-    map.insert(key, value).unwrap_or(false)
 }
