@@ -84,8 +84,8 @@ CRATES = {
         };
         use std::test::Fail;
         use test_helpers::{all, check};""",
-        {"cache": Given("let mut cache: Numbers = TenantCache::new(alloc, [1, 2, 3, 4], 32);", "Numbers", "refill"),
-         "pool": Given("let mut pool: Shared = TenantPool::new(alloc, [1, 2, 3, 4], 32, 5);", "Shared", "restock")}),
+        {"cache": Given("let mut cache: Numbers = TenantCache::new(alloc, [1, 2, 3, 4]);", "Numbers", "refill"),
+         "pool": Given("let mut pool: Shared = TenantPool::new(alloc, [1, 2, 3, 4], 5);", "Shared", "restock")}),
     "lru_caches": Crate(["lru_caches"], """
         ghost use Rattle.std.specs.Prelude.{◌≡◌, ◌*◌};
 

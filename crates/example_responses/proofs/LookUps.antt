@@ -103,7 +103,6 @@ leaves-both {N} {K} {V} {L} {S} {eq} host mid-left left old mid new first second
   own = second.own;
   tenants = λ other. second.tenants other ∙ go other (host other) (first.tenants other);
   hasher = second.hasher ∙ first.hasher;
-  entry_bytes = second.entry_bytes ∙ first.entry_bytes;
   total_limit = second.total_limit ∙ first.total_limit;
 }
   where

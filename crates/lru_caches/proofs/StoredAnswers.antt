@@ -4,13 +4,17 @@ use Rattle.std.specs.Cmp.{IsEquivalence}
 use Rattle.std.specs.Map.{lookup}
 use Rattle.std.proofs.lemmas.List.Elements.{All-head, All-tail}
 use Rattle.std.proofs.lemmas.Option.{none-some}
-use Rattle.lru_limits.specs.Rules.{Rules}
-use Rattle.lru_model.proofs.CallerLemmas.{lookup-entry}
-use Rattle.lru_model.specs.Calls.{Remove, left_of}
+use Rattle.std.specs.declared.alloc.AllocError.{AllocError}
+use Rattle.lru_limits.specs.Rules.{Rules, Offers}
+use Rattle.lru_model.proofs.CallerLemmas.{lookup-entry, read-all, read_back, inserted-all, inserted-only}
+use Rattle.lru_model.specs.Calls.{Remove, left_of, promoted, written}
+use Rattle.lru_model.specs.GetOrInserts.{got, inserted}
+use Rattle.lru_model.specs.Inserts.{Insert}
 use Rattle.lru_model.specs.Lists.{lookup_entry}
 use Rattle.lru_model.specs.State.{State}
-use Rattle.std.specs.Prelude.{Result, Ok, Err, IfOk}
-use Rattle.lru_caches.specs.Answers.{IsAnswer, AreAnswers, ReadsLoaded, loaded, failed}
+use Rattle.lru_model.specs.Theorems.{EvictsOldest, InsertEnds, KeepsValues}
+use Rattle.std.specs.Prelude.{ℕ, Result, Ok, Err, IfOk}
+use Rattle.lru_caches.specs.Answers.{IsAnswer, AreAnswers, Remembers, ReadsLoaded, loaded, failed}
 
 module _ {K V : Type 0} (eq : K → K → Bool) (laws : IsEquivalence eq) (post : K → V → Type 0) where
   pub found_answer : (key : K) (known : List (K × V)) (v : V) → AreAnswers eq post known
@@ -26,10 +30,41 @@ module _ {K V : Type 0} (eq : K → K → Bool) (laws : IsEquivalence eq) (post 
           (k, laws.congr key x.0 k named ∙ same, subst (post k) (ap (λ o. unwrap_or o v) e) returns)
       go false named e later = later e
 
-  pub inserted_answer : (key stored : K) (value v : V) → post key value → eq key stored ≡ true → v ≡ value
-      → IsAnswer eq post stored v
-  inserted_answer key stored value v returns named same =
-      (key, laws.symm stored key ∙ named, subst (post key) (sym same) returns)
+-- what holds after a call that returned the value
+pub record Remembered {K V S H : Type 0} (rules : Rules K V S) (offers : Offers K V S K) (eq : K → K → Bool)
+    (hash_of : H → K → ℕ) (post : K → V → Type 0) (key : K) (value : V) (old new : State K V S H) : Type 0 where
+  pub answer : IsAnswer eq post key value
+  pub step : Remembers rules offers eq hash_of key value old new
+  pub known : AreAnswers eq post new.pairs
+
+module _ {K V S H : Type 0} (rules : Rules K V S) (offers : Offers K V S K) {eq : K → K → Bool}
+    (laws : IsEquivalence eq) (hash_of : H → K → ℕ) (post : K → V → Type 0) (key : K) (value : V)
+    (old : State K V S H) (known : AreAnswers eq post old.pairs) where
+  pub got_answer : lookup (eq key) old.pairs ≡ Some value
+      → Remembered rules offers eq hash_of post key value old (written (eq key) value (promoted (eq key) old))
+  got_answer there = record {
+    answer = found_answer eq laws post key old.pairs value known there;
+    step = (Ok true, got value there refl (read_back (eq key) old value there));
+    known = read-all (eq key) old (λ p. IsAnswer eq post p.0 p.1) value there known;
+  }
+
+  module _ (keeps : KeepsValues offers) (answers : post key value) {refuses : K × V → Type 0}
+      (result : Result Bool AllocError) (new : State K V S H)
+      (evicts : EvictsOldest (eq key) refuses old.pairs new.pairs)
+      (ends : InsertEnds rules offers eq hash_of key value old result new) where
+    pub inserted_known : AreAnswers eq post new.pairs
+    inserted_known =
+        let only = inserted-only keeps rules eq key old new result ends.says ends.stores in
+        inserted-all (λ p. IsAnswer eq post p.0 p.1) (eq key) old.pairs new.pairs evicts known
+        (λ p named there. (key, laws.symm p.0 key ∙ named, subst (post key) (sym (only p.1 there)) answers))
+
+    pub inserted_answer : lookup (eq key) old.pairs ≡ None → Insert rules offers eq hash_of key value old result new
+        → Remembered rules offers eq hash_of post key value old new
+    inserted_answer none insert = record {
+      answer = (key, laws.refl key, answers);
+      step = (result, inserted none value refl insert);
+      known = inserted_known;
+    }
 
 pub removed_there : {K V S H : Type 0} (rules : Rules K V S) (names : K → Bool) (old : State K V S H) (value : Option V)
     (new : State K V S H) → Remove rules names old value new → is_some value ≡ is_some (lookup names old.pairs)

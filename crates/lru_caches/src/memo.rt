@@ -5,6 +5,7 @@ ghost use Rattle.lru_model.specs.Calls.{Remove, cleared};
 ghost use Rattle.lru_model.specs.Lists.{is_empty};
 ghost use Rattle.lru_model.specs.State.{IsMap, empty_map};
 ghost use Rattle.lru_model.specs.Theorems.{KeepsValues};
+ghost use Rattle.ordered_table.specs.EntrySize.{entry_size};
 ghost use Rattle.lru_caches.specs.Answers.{IsAnswer, AreAnswers, Remembers};
 
 use schnellru::{Insertion, KeyHasher, LruMap, RandomState, laws};
@@ -48,7 +49,7 @@ impl<K: Eq + Hash, V, F: Fn(&K) -> V, L: Insertion<K, V, K>> Memo<K, V, F, L, Ra
     /// ```
     pub fn new(alloc: Global, limiter: L, function: F) -> Self
         requires { KeepsValues L.offers }
-        ensures map { result.map ≡ empty_map limiter result.map.hasher result.map.entry_bytes
+        ensures map { result.map ≡ empty_map limiter result.map.hasher (entry_size K.row V.row L.LinkType.row)
             (L.LinkType.number L.LinkType.MAX) }
         ensures empty { result.map.pairs ≡ [] }
         ensures known { AreAnswers K.eq (FnReturnsAt F.Fn result.function) result.map.pairs }
@@ -62,30 +63,25 @@ impl<K: Eq + Hash, V, F: Fn(&K) -> V, L: Insertion<K, V, K>> Memo<K, V, F, L, Ra
 }
 
 impl<K: Eq + Hash, V, F: Fn(&K) -> V, L: Insertion<K, V, K>, S: KeyHasher<K>> Memo<K, V, F, L, S> {
-    /// Makes a memo of a function, with a hasher of keys. `LruMap::with_hasher` explains `entry_bytes`.
+    /// Makes a memo of a function, with a hasher of keys.
     ///
     /// ```
     /// let seeded = RandomState::with_seeds([5, 6, 7, 8]);
-    /// let cubes = Memo::with_hasher(alloc, ByLength::new(9), seeded, 24, |n: &u64| n.wrapping_pow(3));
+    /// let cubes = Memo::with_hasher(alloc, ByLength::new(9), seeded, |n: &u64| n.wrapping_pow(3));
     /// assert!(rt; cubes.is_empty());
     /// ```
     ///
     /// Cost: `O(1)`, and no memory.
-    pub fn with_hasher(
-        alloc: Global,
-        limiter: L,
-        hasher: S,
-        entry_bytes: usize,
-        function: F,
-    ) -> Self
+    pub fn with_hasher(alloc: Global, limiter: L, hasher: S, function: F) -> Self
         requires { KeepsValues L.offers }
-        ensures map { result.map ≡ empty_map limiter hasher entry_bytes (L.LinkType.number L.LinkType.MAX) }
+        ensures map { result.map ≡ empty_map limiter hasher (entry_size K.row V.row L.LinkType.row)
+            (L.LinkType.number L.LinkType.MAX) }
         ensures empty { result.map.pairs ≡ [] }
         ensures known { AreAnswers K.eq (FnReturnsAt F.Fn result.function) result.map.pairs }
         ensures function { result.function ≡ function }
     {
         Memo {
-            map: LruMap::with_hasher(alloc, limiter, hasher, entry_bytes),
+            map: LruMap::with_limiter_and_hasher(alloc, limiter, hasher),
             function,
         }
     }
@@ -109,7 +105,7 @@ impl<K: Eq + Hash, V, F: Fn(&K) -> V, L: Insertion<K, V, K>, S: KeyHasher<K>> Me
     ///
     /// ```
     /// let seeded = RandomState::with_seeds([5, 6, 7, 8]);
-    /// let cubes = Memo::with_hasher(alloc, ByLength::new(9), seeded, 24, |n: &u64| n.wrapping_pow(3));
+    /// let cubes = Memo::with_hasher(alloc, ByLength::new(9), seeded, |n: &u64| n.wrapping_pow(3));
     /// assert!(rt; cubes.is_empty());
     /// ```
     pub fn is_empty(&self) -> bool
@@ -179,7 +175,14 @@ impl<K: Eq + Hash + Drop, V: Drop, F: Fn(&K) -> V, L: Insertion<K, V, K>, S: Key
         ensures known { AreAnswers K.eq (FnReturnsAt F.Fn self.new.function) self.new.map.pairs }
         ensures function { self.new.function ≡ self.old.function }
     {
-        read_remembered(&mut self.map, &self.function, key, read)
+        laws::inserts_evict_the_oldest::<K, V, K, L, S>();
+        if let Some(value) = self.map.get(&key) {
+            return read(&*value);
+        }
+        let value = (self.function)(&key);
+        let result = read(&value);
+        let _ = self.map.insert(key, value);
+        result
     }
 
     /// Removes the stored result of a key, and returns whether there was one.
@@ -215,34 +218,4 @@ impl<K: Eq + Hash + Drop, V: Drop, F: Fn(&K) -> V, L: Insertion<K, V, K>, S: Key
     {
         self.map.clear();
     }
-}
-
-fn read_remembered<
-    K: Eq + Hash + Drop,
-    V: Drop,
-    F: Fn(&K) -> V,
-    L: Insertion<K, V, K>,
-    S: KeyHasher<K>,
-    R,
-    U: FnOnce(&V) -> R,
->(map: &mut LruMap<K, V, L, S>, function: &F, key: K, read: U) -> R
-    requires callable { F.IsAlwaysCallable function.now }
-    requires readable { U.IsAlwaysCallable read }
-    requires keeps { KeepsValues L.offers }
-    requires known { AreAnswers K.eq (FnReturnsAt F.Fn function.now) map.old.pairs }
-    ensures answer { (value : V) × IsAnswer K.eq (FnReturnsAt F.Fn function.now) key value
-        × Remembers L.rules L.offers K.eq S.hash_of key value map.old map.new
-        × FnOnceReturnsAt U.FnOnce read value result }
-    ensures map { IsMap K.eq map.new }
-    ensures stored { IfSome (lookup (K.eq key) map.old.pairs) (λ value. FnOnceReturnsAt U.FnOnce read value result) }
-    ensures known { AreAnswers K.eq (FnReturnsAt F.Fn function.now) map.new.pairs }
-{
-    laws::inserts_evict_the_oldest::<K, V, K, L, S>();
-    if let Some(value) = map.get(&key) {
-        return read(&*value);
-    }
-    let value = function(&key);
-    let result = read(&value);
-    let _ = map.insert(key, value);
-    result
 }

@@ -230,7 +230,6 @@ fn of_memo_loader(rt: HostRuntime) {
         alloc,
         ByLength::new(9),
         seeded,
-        24,
         |n: &u64| n.checked_add(1).ok_or(*n),
     );
     let held = held & all!(empty.is_empty());
@@ -250,7 +249,7 @@ fn of_memo_table(rt: HostRuntime) {
     squares.store(3, 9);
     let held = (squares.get(&3), squares.get(&4), squares.len()) == (Some(9), None, 1);
     let seeded = RandomState::with_seeds([5, 6, 7, 8]);
-    let empty = MemoTable::with_hasher(alloc, ByLength::new(9), seeded, 24, Squares);
+    let empty = MemoTable::with_hasher(alloc, ByLength::new(9), seeded, Squares);
     let held = held
         & all!(
             empty.is_empty(),
@@ -265,13 +264,7 @@ fn of_memo(rt: HostRuntime) {
     let mut squares = Memo::new(alloc, ByLength::new(9), |n: &u64| n.wrapping_mul(*n));
     let held = (squares.answer(3), squares.len()) == (9, 1);
     let seeded = RandomState::with_seeds([5, 6, 7, 8]);
-    let cubes = Memo::with_hasher(
-        alloc,
-        ByLength::new(9),
-        seeded,
-        24,
-        |n: &u64| n.wrapping_pow(3),
-    );
+    let cubes = Memo::with_hasher(alloc, ByLength::new(9), seeded, |n: &u64| n.wrapping_pow(3));
     let held = held & all!(cubes.is_empty());
     let mut blocks = Memo::new(
         alloc,

@@ -1,6 +1,6 @@
 -- What a call does to the tenant that it names determines what it does to the cache.
-use Rattle.std.proofs.Common.{◌≡◌, ℕ, Bool, true, false, cond, List, [], ◌∷◌, Option, Some, None, is_some, Err, sym, ap}
-use Rattle.std.proofs.Common.{refl, subst, ◌∙◌}
+use Rattle.std.proofs.Common.{◌≡◌, ℕ, Bool, true, false, cond, List, [], ◌∷◌, Option, Some, None, is_some, Ok, Err, sym, ap}
+use Rattle.std.proofs.Common.{refl, subst, ◌∙◌, inl, inr}
 use Rattle.std.proofs.lemmas.Bool.{true≢false}
 use Rattle.std.proofs.lemmas.Map.{lookup-set_value, lookup-remove_entry}
 use Rattle.std.proofs.lemmas.Map.Views.{IfSome-lookup_from_All}
@@ -13,7 +13,7 @@ use Rattle.lru_tenants.specs.Cache.{Cache, tenant, Leaves, On}
 use Rattle.lru_model.specs.State.{State}
 use Rattle.lru_model.proofs.CallerLemmas.{no_pair, without_none}
 use Rattle.lru_tenants.specs.TenantRuns.{Opens}
-use Rattle.lru_tenants.specs.declared.error.TenantError.TheVariants.{AlreadyOpen}
+use Rattle.lru_tenants.specs.declared.error.TenantError.TheVariants.{AlreadyOpen, Memory, OverTotal}
 
 pub absent-from : {X : Type 0} (found : Option X) → is_some found ≡ false → found ≡ None
 absent-from None absent = refl
@@ -34,9 +34,8 @@ found-name {K} test (entry ∷ entries) x e = go (found-name test entries x) (te
     go later false is e = later e
 
 module _ {N K V L S : Type 0} where
-  abbrev pub cache_of : List (N × State K V L S) → S → ℕ → Option ℕ → Cache N K V L S
-  cache_of tenants hasher entry_bytes limit =
-      record { tenants = tenants; hasher = hasher; entry_bytes = entry_bytes; total_limit = limit }
+  abbrev pub cache_of : List (N × State K V L S) → S → Option ℕ → Cache N K V L S
+  cache_of tenants hasher limit = record { tenants = tenants; hasher = hasher; total_limit = limit }
 
   module _ {eq : N → N → Bool} (names : N → Bool) (one : (x y : N) → names x ≡ true → names y ≡ eq x y) where
     pub same-tenant : (x : N) → names x ≡ true → (cache : Cache N K V L S) → tenant names cache ≡ tenant (eq x) cache
@@ -48,7 +47,6 @@ module _ {N K V L S : Type 0} where
       own = refl;
       tenants = λ other. same other (names other) refl;
       hasher = refl;
-      entry_bytes = refl;
       total_limit = refl;
     }
       where
@@ -64,17 +62,15 @@ module _ {N K V L S : Type 0} where
     own-left old new was left there each = let (name, is) = found-name names old.tenants was there in
         same-tenant name is new ∙ each name ∙ ap (λ b. cond b left (tenant (eq name) old)) is
 
-    module _ (laws : IsEquivalence eq) (hasher : S) (entry_bytes : ℕ) (limit : Option ℕ)
-        (old : List (N × State K V L S)) where
+    module _ (laws : IsEquivalence eq) (hasher : S) (limit : Option ℕ) (old : List (N × State K V L S)) where
       pub leaves-written : (was left : State K V L S) → lookup names old ≡ Some was → Leaves eq names (Some left)
-          (cache_of old hasher entry_bytes limit) (cache_of (set_value names old left) hasher entry_bytes limit)
+          (cache_of old hasher limit) (cache_of (set_value names old left) hasher limit)
       leaves-written was left there = record {
         one = one;
-        own = own-left (cache_of old hasher entry_bytes limit)
-            (cache_of (set_value names old left) hasher entry_bytes limit) was (Some left) there each;
+        own = own-left (cache_of old hasher limit)
+            (cache_of (set_value names old left) hasher limit) was (Some left) there each;
         tenants = each;
         hasher = refl;
-        entry_bytes = refl;
         total_limit = refl;
       }
         where
@@ -83,13 +79,12 @@ module _ {N K V L S : Type 0} where
           each other = lookup-set_value laws names one other left old (ap is_some there)
 
       pub leaves-removed : IsDistinct eq (keys_of old) → Leaves eq names None
-          (cache_of old hasher entry_bytes limit) (cache_of (remove_entry names old) hasher entry_bytes limit)
+          (cache_of old hasher limit) (cache_of (remove_entry names old) hasher limit)
       leaves-removed distinct = record {
         one = one;
         own = gone (lookup names old) refl;
         tenants = each;
         hasher = refl;
-        entry_bytes = refl;
         total_limit = refl;
       }
         where
@@ -100,19 +95,17 @@ module _ {N K V L S : Type 0} where
           gone : (found : Option (State K V L S)) → lookup names old ≡ found
               → lookup names (remove_entry names old) ≡ None
           gone None e = ap (lookup names) (without_none names old (no_pair names old e)) ∙ e
-          gone (Some was) e = own-left (cache_of old hasher entry_bytes limit)
-              (cache_of (remove_entry names old) hasher entry_bytes limit) was None e each
+          gone (Some was) e = own-left (cache_of old hasher limit)
+              (cache_of (remove_entry names old) hasher limit) was None e each
 
 pub leaves-opened : {N K V L S : Type 0} {eq : N → N → Bool} → IsEquivalence eq → (name : N) (own : State K V L S)
-    (hasher : S) (entry_bytes : ℕ) (limit : Option ℕ) (old : List (N × State K V L S))
-    → Leaves eq (eq name) (Some own) (cache_of old hasher entry_bytes limit)
-    (cache_of ((name, own) ∷ old) hasher entry_bytes limit)
-leaves-opened {eq = eq} laws name own hasher entry_bytes limit old = record {
+    (hasher : S) (limit : Option ℕ) (old : List (N × State K V L S))
+    → Leaves eq (eq name) (Some own) (cache_of old hasher limit) (cache_of ((name, own) ∷ old) hasher limit)
+leaves-opened {eq = eq} laws name own hasher limit old = record {
   one = laws.congr name;
   own = ap (λ b. cond b (Some own) (lookup (eq name) old)) (laws.refl name);
   tenants = λ other. ap (λ b. cond b (Some own) (lookup (eq other) old)) (laws.symm other name);
   hasher = refl;
-  entry_bytes = refl;
   total_limit = refl;
 }
 
@@ -127,15 +120,15 @@ module _ {N K V L S R Q : Type 0} {eq : N → N → Bool} {named : Q → N → B
     leaves-same (named name) (looks_up.one name) cache,
   )
 
-  pub on-written : IsEquivalence eq → {hasher : S} {entry_bytes : ℕ} {limit : Option ℕ}
+  pub on-written : IsEquivalence eq → {hasher : S} {limit : Option ℕ}
       (old : List (N × State K V L S)) (was left : State K V L S) → lookup (named name) old ≡ Some was
       → Does (Some was) answer (Some left)
-      → On eq (named name) Does (cache_of old hasher entry_bytes limit) answer
-      (cache_of (set_value (named name) old left) hasher entry_bytes limit)
-  on-written laws {hasher} {entry_bytes} {limit} old was left there does = (
+      → On eq (named name) Does (cache_of old hasher limit) answer
+      (cache_of (set_value (named name) old left) hasher limit)
+  on-written laws {hasher} {limit} old was left there does = (
     Some left,
     subst (λ t. Does t answer (Some left)) (sym there) does,
-    leaves-written (named name) (looks_up.one name) laws hasher entry_bytes limit old was left there,
+    leaves-written (named name) (looks_up.one name) laws hasher limit old was left there,
   )
 
 pub on-from : {N K V L S R : Type 0} {eq : N → N → Bool} {names : N → Bool}
@@ -143,6 +136,17 @@ pub on-from : {N K V L S R : Type 0} {eq : N → N → Bool} {names : N → Bool
     (was left : Option (State K V L S)) → tenant names old ≡ was → Does was answer left
     → Leaves eq names left old new → On eq names Does old answer new
 on-from Does answer old new was left is does leaves = (left, subst (λ t. Does t answer left) (sym is) does, leaves)
+
+-- what `open` does to a tenant that is not open
+module _ {X : Type 0} (fresh : X) {over : Bool} {left : Option X} where
+  pub opens-over : over ≡ true → left ≡ None → Opens over fresh None (Err OverTotal) left
+  opens-over is none = subst (λ b. Opens b fresh None (Err OverTotal) left) (sym is) (refl, none)
+
+  pub opens-unmade : over ≡ false → left ≡ None → Opens over fresh None (Err Memory) left
+  opens-unmade is none = subst (λ b. Opens b fresh None (Err Memory) left) (sym is) (inr (refl, none))
+
+  pub opens-made : over ≡ false → left ≡ Some fresh → Opens over fresh None (Ok tt) left
+  opens-made is made = subst (λ b. Opens b fresh None (Ok tt) left) (sym is) (inl (refl, made))
 
 pub open-again : {N K V L S : Type 0} {eq : N → N → Bool} → IsEquivalence eq → (name : N) (fresh : State K V L S)
     (over : Bool) (cache : Cache N K V L S) → is_some (tenant (eq name) cache) ≡ true

@@ -53,11 +53,10 @@ module _ {K V L S : Type 0} (rules : Rules K V L) (offers : Offers K V L K) (bud
       pub not_open : tenant (named name) old ≡ None → answer ≡ Err NotOpen
       pub there : IfSome (tenant (named name) old) GetsValue
 
-    pub ends : IsEquivalence same → {hasher : S} {entry_bytes : ℕ} {limit : Option ℕ} (old : List (N × State K V L S))
+    pub ends : IsEquivalence same → {hasher : S} {limit : Option ℕ} (old : List (N × State K V L S))
         (was left : State K V L S) → lookup (named name) old ≡ Some was
         → GetsOrPuts rules offers budget_of eq hash_of makes key was answer (Some left)
-        → Ends (cache_of old hasher entry_bytes limit)
-        (cache_of (set_value (named name) old left) hasher entry_bytes limit)
+        → Ends (cache_of old hasher limit) (cache_of (set_value (named name) old left) hasher limit)
     ends laws old was left is does = record {
       on = on-written looks_up name (OfOpen (GetsOrPuts rules offers budget_of eq hash_of makes key)) answer laws old
           was left is does;

@@ -55,9 +55,9 @@ module _ {N K V L S : Type 0} {eq : K → K → Bool} {cost : K → V → ℕ} {
         + unwrap_or (option_map (λ map. budget map.limiter) (lookup names old)) 0 ≡ sum
     sum-removed = omega (arith, kept.sum, sum_by-remove_entry (λ map. budget map.limiter) names old)
 
-    pub sum-more : lookup names old ≡ None → (hasher : S) (entry_bytes own : ℕ)
-        → sum + own ≡ budgets_with budget names own (cache_of old hasher entry_bytes limit)
-    sum-more none hasher entry_bytes own = omega (
+    pub sum-more : lookup names old ≡ None → (hasher : S) (own : ℕ)
+        → sum + own ≡ budgets_with budget names own (cache_of old hasher limit)
+    sum-more none hasher own = omega (
       arith,
       kept.sum,
       ap (λ o. unwrap_or (option_map (λ map. budget map.limiter) o) 0) none,
@@ -79,9 +79,9 @@ module _ {N K V L S : Type 0} {eq : K → K → Bool} {cost : K → V → ℕ} {
         ap (λ o. unwrap_or (option_map (λ map. budget map.limiter) o) 0) there,
       )
 
-      pub sum-with : (hasher : S) (entry_bytes less own : ℕ) → less ≡ budget was.limiter
-          → sum - less + own ≡ budgets_with budget names own (cache_of old hasher entry_bytes limit)
-      sum-with hasher entry_bytes less own is =
+      pub sum-with : (hasher : S) (less own : ℕ) → less ≡ budget was.limiter
+          → sum - less + own ≡ budgets_with budget names own (cache_of old hasher limit)
+      sum-with hasher less own is =
           ap (λ n. sum - n + own) is
           ∙ ap (λ n. n - budget was.limiter + own) kept.sum
           ∙ ap (λ n. sum_by (λ map. budget map.limiter) (values_of old) - n + own)

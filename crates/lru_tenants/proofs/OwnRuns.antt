@@ -91,7 +91,6 @@ module _ {N K V L S C R : Type 0} (eq : N → N → Bool) (named : C → N)
   own-run name [] [] (did ∷ more) old new steps chained = absurd steps
   own-run name (other ∷ calls) (said ∷ answers) [] old new steps chained = absurd steps
 
-pub fresh-same : {N K V L S : Type 0} (made : ℕ → L) (max : ℕ) (old new : Cache N K V L S) → new.hasher ≡ old.hasher →
-    new.entry_bytes ≡ old.entry_bytes
-    → fresh made max new ≡ fresh made max old
-fresh-same made max old new hasher bytes = λ i budget. empty_map (made budget) (hasher i) (bytes i) max
+pub fresh-same : {N K V L S : Type 0} (made : ℕ → L) (entry_bytes max : ℕ) (old new : Cache N K V L S)
+    → new.hasher ≡ old.hasher → fresh made entry_bytes max new ≡ fresh made entry_bytes max old
+fresh-same made entry_bytes max old new hasher = λ i budget. empty_map (made budget) (hasher i) entry_bytes max

@@ -18,14 +18,13 @@ use Rattle.lru_tenants.proofs.Changes.{found-all, found-name}
 use Rattle.lru_tenants.specs.Inside.{HoldsPool}
 use Rattle.lru_tenants.specs.Pool.{Part, Pool, part, cost, IsPart, IsPool, total_cost, total_share, with_map, Leaves, On, Gets}
 
-abbrev pub pool_of : {N K V L S : Type 0} → List (N × Part K V L S) → ℕ → S → ℕ → Pool N K V L S
-pool_of tenants limit hasher entry_bytes =
-    record { tenants = tenants; limit = limit; hasher = hasher; entry_bytes = entry_bytes }
+abbrev pub pool_of : {N K V L S : Type 0} → List (N × Part K V L S) → ℕ → S → Pool N K V L S
+pool_of tenants limit hasher = record { tenants = tenants; limit = limit; hasher = hasher }
 
 module _ {N K V L S : Type 0} {eq : K → K → Bool} {costs : K → V → ℕ} {account budget : L → ℕ} {limit shares total : ℕ}
     (old : List (N × Part K V L S)) (kept : HoldsPool eq costs account budget old limit shares total) where
-  pub is_pool : (hasher : S) (entry_bytes : ℕ) → IsPool eq costs account budget (pool_of old limit hasher entry_bytes)
-  is_pool hasher entry_bytes = record {
+  pub is_pool : (hasher : S) → IsPool eq costs account budget (pool_of old limit hasher)
+  is_pool hasher = record {
     each = kept.each;
     within = omega (arith, kept.cost, kept.within);
     shares = omega (arith, kept.share, kept.enough);
@@ -135,10 +134,9 @@ module _ {N K V L S : Type 0} {eq : N → N → Bool} (laws : IsEquivalence eq) 
       lookup-set_value laws names one other left old (ap is_some there)
       ∙ ap (λ b. cond b (Some left) (lookup (eq other) old)) apart
 
-  module _ (limit : ℕ) (hasher : S) (entry_bytes : ℕ) where
+  module _ (limit : ℕ) (hasher : S) where
     pub leaves-written : (old : List (N × Part K V L S)) (was left : Part K V L S) → lookup names old ≡ Some was
-        → Leaves eq names (Some left) (pool_of old limit hasher entry_bytes)
-        (pool_of (set_value names old left) limit hasher entry_bytes)
+        → Leaves eq names (Some left) (pool_of old limit hasher) (pool_of (set_value names old left) limit hasher)
     leaves-written old was left there = record {
       own = part-written old was left there;
       others = others-written old was left there;
@@ -147,8 +145,7 @@ module _ {N K V L S : Type 0} {eq : N → N → Bool} (laws : IsEquivalence eq) 
 
     pub leaves-removed : (old : List (N × Part K V L S)) (was : Part K V L S) → lookup names old ≡ Some was
         → IsDistinct eq (keys_of old)
-        → Leaves eq names None (pool_of old limit hasher entry_bytes)
-        (pool_of (remove_entry names old) limit hasher entry_bytes)
+        → Leaves eq names None (pool_of old limit hasher) (pool_of (remove_entry names old) limit hasher)
     leaves-removed old was there distinct = record {
       own = let (name, is) = found-name names old was there in
           same-part name is (remove_entry names old) ∙ lookup-remove_entry laws names one name old distinct
@@ -159,10 +156,9 @@ module _ {N K V L S : Type 0} {eq : N → N → Bool} (laws : IsEquivalence eq) 
     }
 
 pub leaves-opened : {N K V L S : Type 0} {eq : N → N → Bool} → IsEquivalence eq → (name : N) (own : Part K V L S)
-    (limit : ℕ) (hasher : S) (entry_bytes : ℕ) (old : List (N × Part K V L S))
-    → Leaves eq (eq name) (Some own) (pool_of old limit hasher entry_bytes)
-    (pool_of ((name, own) ∷ old) limit hasher entry_bytes)
-leaves-opened {eq = eq} laws name own limit hasher entry_bytes old = record {
+    (limit : ℕ) (hasher : S) (old : List (N × Part K V L S))
+    → Leaves eq (eq name) (Some own) (pool_of old limit hasher) (pool_of ((name, own) ∷ old) limit hasher)
+leaves-opened {eq = eq} laws name own limit hasher old = record {
   own = ap (λ b. cond b (Some own) (lookup (eq name) old)) (laws.refl name);
   others = λ other apart.
       ap (λ b. cond b (Some own) (lookup (eq other) old)) (laws.symm other name ∙ apart);
@@ -191,11 +187,10 @@ gets-open names was own left found is value turned =
     (ap Ok value, ap (λ map. Some (with_map map own)) turned)
 
 pub closed-same : {N K V L S R : Type 0} {eq : N → N → Bool} {names : N → Bool} (answer : R)
-    (Does : Option (Part K V L S) → R → Option (Part K V L S) → Type 0) (limit : ℕ) (hasher : S) (entry_bytes : ℕ)
+    (Does : Option (Part K V L S) → R → Option (Part K V L S) → Type 0) (limit : ℕ) (hasher : S)
     (old : List (N × Part K V L S)) → lookup names old ≡ None → Does None answer None
-    → On eq names Does (pool_of old limit hasher entry_bytes) answer
-    (pool_of (remove_entry names old) limit hasher entry_bytes)
-closed-same {eq = eq} {names = names} answer Does limit hasher entry_bytes old none does =
-    subst (λ l. On eq names Does (pool_of old limit hasher entry_bytes) answer (pool_of l limit hasher entry_bytes))
+    → On eq names Does (pool_of old limit hasher) answer (pool_of (remove_entry names old) limit hasher)
+closed-same {eq = eq} {names = names} answer Does limit hasher old none does =
+    subst (λ l. On eq names Does (pool_of old limit hasher) answer (pool_of l limit hasher))
     (sym (without_none names old (no_pair names old none)))
-    (on-same Does answer (pool_of old limit hasher entry_bytes) None none does)
+    (on-same Does answer (pool_of old limit hasher) None none does)

@@ -26,9 +26,8 @@ is_above (Some limit) sum = nat_lt limit sum
 pub record Cache (N K V L S : Type 0) : Type 0 where
   -- the open tenants by their names, in no particular order
   pub tenants : List (N × State K V L S)
-  -- the hasher of names and keys, and the bytes of an entry
+  -- the hasher of names and keys
   pub hasher : S
-  pub entry_bytes : ℕ
   -- if there is one, the limit of the sum of all budgets
   pub total_limit : Option ℕ
 
@@ -37,9 +36,9 @@ module _ {N K V L S : Type 0} where
   abbrev pub tenant : (N → Bool) → Cache N K V L S → Option (State K V L S)
   tenant named cache = lookup named cache.tenants
 
-  -- the empty map with which a tenant opens; `made` makes its limiter, and each link is below `max`
-  abbrev pub fresh : (ℕ → L) → ℕ → Cache N K V L S → ℕ → State K V L S
-  fresh made max cache budget = empty_map (made budget) cache.hasher cache.entry_bytes max
+  -- the empty map of a new tenant: `made` makes its limiter, an entry takes `entry_bytes`, a link is below `max`
+  abbrev pub fresh : (ℕ → L) → ℕ → ℕ → Cache N K V L S → ℕ → State K V L S
+  fresh made entry_bytes max cache budget = empty_map (made budget) cache.hasher entry_bytes max
 
   -- the named tenant is `left` afterwards, and the other tenants do not change
   pub record Leaves (eq : N → N → Bool) (names : N → Bool) (left : Option (State K V L S)) (old new : Cache N K V L S)
@@ -49,7 +48,6 @@ module _ {N K V L S : Type 0} where
     pub own : tenant names new ≡ left
     pub tenants : (other : N) → tenant (eq other) new ≡ cond (names other) left (tenant (eq other) old)
     pub hasher : new.hasher ≡ old.hasher
-    pub entry_bytes : new.entry_bytes ≡ old.entry_bytes
     pub total_limit : new.total_limit ≡ old.total_limit
 
   -- a call changes the named tenant as `Does` says, and changes no other tenant

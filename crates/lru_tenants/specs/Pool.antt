@@ -26,7 +26,6 @@ pub record Pool (N K V L S : Type 0) : Type 0 where
   -- the greatest total of all costs, and of all shares
   pub limit : ℕ
   pub hasher : S
-  pub entry_bytes : ℕ
 
 module _ {K V L S : Type 0} (account : L → ℕ) where
   abbrev pub cost : Part K V L S → ℕ
@@ -112,8 +111,8 @@ module _ {N K V L S : Type 0} where
   abbrev pub part : (N → Bool) → Pool N K V L S → Option (Part K V L S)
   part named pool = lookup named pool.tenants
 
-  abbrev pub opened : (ℕ → L) → ℕ → Pool N K V L S → ℕ → Part K V L S
-  opened made max pool share = (share, empty_map (made pool.limit) pool.hasher pool.entry_bytes max)
+  abbrev pub opened : (ℕ → L) → ℕ → ℕ → Pool N K V L S → ℕ → Part K V L S
+  opened made entry_bytes max pool share = (share, empty_map (made pool.limit) pool.hasher entry_bytes max)
 
   abbrev pub is_over : Pool N K V L S → ℕ → Bool
   is_over pool share = nat_lt pool.limit (total_share pool.tenants + share)

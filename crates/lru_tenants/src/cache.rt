@@ -5,6 +5,7 @@ ghost use Rattle.std.specs.Map.{keys_of};
 ghost use Rattle.lru_limits.specs.Mixing.{seeded};
 ghost use Rattle.lru_limits.specs.Admissions.{offers_of};
 ghost use Rattle.lru_model.specs.Lists.{is_empty};
+ghost use Rattle.ordered_table.specs.EntrySize.{entry_size};
 ghost use Rattle.lru_tenants.specs.Cache.{tenant, budgets, budgets_with, is_over, fresh, IsTenant, AreTenants, Leaves, On};
 ghost use Rattle.lru_tenants.specs.TenantRuns.{OfOpen, Opens, SetsBudget, Puts, Closes};
 
@@ -30,7 +31,7 @@ use totals::is_above;
 /// In the examples of the calls, `cache` has one tenant, 1, with a budget of 3 and the entry (7, 2).
 ///
 /// ```
-/// let mut cache: TenantCache<u64, u64, u64> = TenantCache::new(alloc, [1, 2, 3, 4], 32);
+/// let mut cache: TenantCache<u64, u64, u64> = TenantCache::new(alloc, [1, 2, 3, 4]);
 /// assert_eq!(rt; cache.open(1, 3), Ok(()));
 /// assert_eq!(rt; cache.put(&1, 7, 2), Ok(true));
 /// assert_eq!(rt; cache.cost(&1), Ok(2));
@@ -44,7 +45,6 @@ pub struct TenantCache<
 > {
     tenants: LruMap<N, LruMap<K, V, L, S>, Unlimited, S>,
     hasher: S,
-    entry_bytes: usize,
     budgets: u128,
     total_limit: Option<u64>,
     alloc: Global,
@@ -60,7 +60,6 @@ impl<N: Eq + Hash, K: Eq + Hash, V, L: Budgeted<K, V>, S: KeyHasher<K> + Copy> M
     ghost view = { λ c. record {
       tenants = c.tenants.pairs;
       hasher = c.hasher;
-      entry_bytes = c.entry_bytes;
       total_limit = c.total_limit;
     } };
 
@@ -78,7 +77,6 @@ impl<
         let TenantCache {
             tenants,
             hasher: _,
-            entry_bytes: _,
             budgets: _,
             total_limit: _,
             alloc: _,
@@ -93,14 +91,13 @@ impl<N: Eq + Hash, K: Eq + Hash + Drop, V: Costed + Drop> TenantCache<N, K, V> {
     /// If strangers choose names or keys, take seeds that nobody can guess. Cost: `O(1)`, and no memory.
     ///
     /// ```
-    /// let mut cache: TenantCache<u64, u64, u64> = TenantCache::new(alloc, [1, 2, 3, 4], 32);
+    /// let mut cache: TenantCache<u64, u64, u64> = TenantCache::new(alloc, [1, 2, 3, 4]);
     /// assert!(rt; cache.is_empty());
     /// ```
-    pub fn new(alloc: Global, seeds: [u64; 4], entry_bytes: usize) -> Self
-        ensures { result
-            ≡ record { tenants = []; hasher = seeded seeds; entry_bytes = entry_bytes; total_limit = None } }
+    pub fn new(alloc: Global, seeds: [u64; 4]) -> Self
+        ensures { result ≡ record { tenants = []; hasher = seeded seeds; total_limit = None } }
     {
-        TenantCache::with_hasher(alloc, RandomState::with_seeds(seeds), entry_bytes)
+        TenantCache::with_hasher(alloc, RandomState::with_seeds(seeds))
     }
 }
 
@@ -118,19 +115,18 @@ impl<N: Eq + Hash, K: Eq + Hash, V, L: Budgeted<K, V>, S: KeyHasher<K> + Copy> T
     ///
     /// ```
     /// let mut weighed: TenantCache<u64, u64, u64, ByWeight<16>, _> =
-    ///     TenantCache::with_hasher(alloc, std::collections::hash_map::RandomState::new(&rt)?, 32);
+    ///     TenantCache::with_hasher(alloc, std::collections::hash_map::RandomState::new(&rt)?);
     /// assert_eq!(rt; (weighed.open(1, 40), weighed.put(&1, 7, 2)), (Ok(()), Ok(true)));
     /// assert_eq!(rt; weighed.cost(&1), Ok(25));
     /// ```
-    pub fn with_hasher(alloc: Global, hasher: S, entry_bytes: usize) -> Self
-        ensures { result ≡ record { tenants = []; hasher = hasher; entry_bytes = entry_bytes; total_limit = None } }
+    pub fn with_hasher(alloc: Global, hasher: S) -> Self
+        ensures { result ≡ record { tenants = []; hasher = hasher; total_limit = None } }
     {
         TenantCache {
             tenants: LruMap::<N, LruMap<K, V, L, S>, Unlimited, S>::with_limiter_and_hasher(
                 alloc, Unlimited, hasher,
             ),
             hasher,
-            entry_bytes,
             budgets: 0,
             total_limit: None,
             alloc,
@@ -187,7 +183,8 @@ impl<
     /// `AlreadyOpen`, `OverTotal` or `Memory`: nothing has changed.
     pub fn open(&mut self, name: N, budget: u64) -> Result<(), TenantError>
         ensures opens { On N.eq (N.eq name) (Opens (is_over L.budget_of (N.eq name) budget self.old)
-            (fresh L.made (L.LinkType.number L.LinkType.MAX) self.old budget)) self.old result self.new }
+            (fresh L.made (entry_size K.row V.row L.LinkType.row) (L.LinkType.number L.LinkType.MAX) self.old budget))
+            self.old result self.new }
         ensures total { result ≡ Ok tt → budgets L.budget_of self.new ≡ budgets L.budget_of self.old + budget }
         ensures unchanged { OnErr result (self.new ≡ self.old) }
         ensures tenants { AreTenants K.eq L.cost_of L.account L.budget_of self.new }
@@ -209,12 +206,12 @@ impl<
     }
 
     fn fresh(&self, budget: u64) -> LruMap<K, V, L, S>
-        ensures map { result ≡ fresh L.made (L.LinkType.number L.LinkType.MAX) self.now budget }
+        ensures map { result ≡ fresh L.made (entry_size K.row V.row L.LinkType.row) (L.LinkType.number L.LinkType.MAX)
+            self.now budget }
         ensures tenant { IsTenant K.eq L.cost_of L.account L.budget_of result }
     {
         laws::runs_begin_with_maps::<K, V, L, S>();
-        let limiter = L::with_budget(budget);
-        LruMap::with_hasher(self.alloc, limiter, self.hasher, self.entry_bytes)
+        LruMap::with_limiter_and_hasher(self.alloc, L::with_budget(budget), self.hasher)
     }
 
     /// Inserts a key with a value, as the newest entry of the tenant. Returns whether the key is there afterwards.

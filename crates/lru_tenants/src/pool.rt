@@ -5,6 +5,7 @@ ghost use Rattle.lru_limits.specs.Mixing.{seeded};
 ghost use Rattle.lru_tenants.specs.Pool.{part, opened, is_over, IsPool, On, SparesOthers};
 ghost use Rattle.lru_tenants.specs.Pool.{Puts, PutsIfOpen, Closes};
 ghost use Rattle.lru_model.specs.Lists.{lookup};
+ghost use Rattle.ordered_table.specs.EntrySize.{entry_size};
 ghost use Rattle.lru_tenants.specs.Inside.{has_entries};
 ghost use Rattle.lru_tenants.specs.TenantRuns.{OfOpen, Opens};
 
@@ -32,7 +33,7 @@ use part::{Part, cost_of, opened};
 /// (7, 2). Tenant 2 has a share of 1 and no entry.
 ///
 /// ```
-/// let mut pool: TenantPool<u64, u64, u64> = TenantPool::new(alloc, [1, 2, 3, 4], 32, 5);
+/// let mut pool: TenantPool<u64, u64, u64> = TenantPool::new(alloc, [1, 2, 3, 4], 5);
 /// assert_eq!(rt; (pool.open(1, 3), pool.open(2, 1)), (Ok(()), Ok(())));
 /// assert_eq!(rt; (pool.put(&1, 7, 2), pool.put(&2, 8, 3)), (Ok(true), Ok(true)));
 /// assert_eq!(rt; (pool.put(&1, 9, 1), pool.cost(&2), pool.cost(&1)), (Ok(true), Ok(0), Ok(3)));
@@ -46,7 +47,6 @@ pub struct TenantPool<
 > {
     tenants: LruMap<N, Part<K, V, L, S>, Unlimited, S>,
     hasher: S,
-    entry_bytes: usize,
     limit: u64,
     shares: u64,
     total: u128,
@@ -64,7 +64,6 @@ impl<N: Eq + Hash, K: Eq + Hash, V, L: Budgeted<K, V>, S: KeyHasher<K> + Copy> M
       tenants = p.tenants.pairs;
       limit = p.limit;
       hasher = p.hasher;
-      entry_bytes = p.entry_bytes;
     } };
 
     ghost invariant = { λ p. HoldsPool K.eq L.cost_of L.account L.budget_of p.tenants.pairs p.limit p.shares p.total };
@@ -81,7 +80,6 @@ impl<
         let TenantPool {
             tenants,
             hasher: _,
-            entry_bytes: _,
             limit: _,
             shares: _,
             total: _,
@@ -95,13 +93,13 @@ impl<N: Eq + Hash, K: Eq + Hash + Drop, V: Costed + Drop> TenantPool<N, K, V> {
     /// Makes a pool without tenants (see `TenantCache::new`). Cost: `O(1)`, and no memory.
     ///
     /// ```
-    /// let mut pool: TenantPool<u64, u64, u64> = TenantPool::new(alloc, [1, 2, 3, 4], 32, 5);
+    /// let mut pool: TenantPool<u64, u64, u64> = TenantPool::new(alloc, [1, 2, 3, 4], 5);
     /// assert!(rt; pool.is_empty());
     /// ```
-    pub fn new(alloc: Global, seeds: [u64; 4], entry_bytes: usize, limit: u64) -> Self
-        ensures { result ≡ record { tenants = []; limit = limit; hasher = seeded seeds; entry_bytes = entry_bytes } }
+    pub fn new(alloc: Global, seeds: [u64; 4], limit: u64) -> Self
+        ensures { result ≡ record { tenants = []; limit = limit; hasher = seeded seeds } }
     {
-        TenantPool::with_hasher(alloc, RandomState::with_seeds(seeds), entry_bytes, limit)
+        TenantPool::with_hasher(alloc, RandomState::with_seeds(seeds), limit)
     }
 }
 
@@ -116,19 +114,18 @@ impl<N: Eq + Hash, K: Eq + Hash, V, L: Budgeted<K, V>, S: KeyHasher<K> + Copy> T
     ///
     /// ```
     /// let mut weighed: TenantPool<u64, u64, u64, ByWeight<16>, _> =
-    ///     TenantPool::with_hasher(alloc, std::collections::hash_map::RandomState::new(&rt)?, 32, 40);
+    ///     TenantPool::with_hasher(alloc, std::collections::hash_map::RandomState::new(&rt)?, 40);
     /// assert_eq!(rt; (weighed.open(1, 0), weighed.put(&1, 7, 2)), (Ok(()), Ok(true)));
     /// assert_eq!(rt; weighed.cost(&1), Ok(25));
     /// ```
-    pub fn with_hasher(alloc: Global, hasher: S, entry_bytes: usize, limit: u64) -> Self
-        ensures { result ≡ record { tenants = []; limit = limit; hasher = hasher; entry_bytes = entry_bytes } }
+    pub fn with_hasher(alloc: Global, hasher: S, limit: u64) -> Self
+        ensures { result ≡ record { tenants = []; limit = limit; hasher = hasher } }
     {
         TenantPool {
             tenants: LruMap::<N, Part<K, V, L, S>, Unlimited, S>::with_limiter_and_hasher(
                 alloc, Unlimited, hasher,
             ),
             hasher,
-            entry_bytes,
             limit,
             shares: 0,
             total: 0,
@@ -158,7 +155,8 @@ impl<
     /// `AlreadyOpen`, `OverTotal` or `Memory`: nothing has changed.
     pub fn open(&mut self, name: N, share: u64) -> Result<(), TenantError>
         ensures opens { On N.eq (N.eq name) (Opens (is_over self.old share)
-            (opened L.made (L.LinkType.number L.LinkType.MAX) self.old share)) self.old result self.new }
+            (opened L.made (entry_size K.row V.row L.LinkType.row) (L.LinkType.number L.LinkType.MAX) self.old share))
+            self.old result self.new }
         ensures unchanged { OnErr result (self.new ≡ self.old) }
         ensures pool { IsPool K.eq L.cost_of L.account L.budget_of self.new }
     {
@@ -169,7 +167,7 @@ impl<
         if share > left {
             return Err(TenantError::OverTotal);
         }
-        let own = opened(self.alloc, self.hasher, self.entry_bytes, self.limit, share);
+        let own = opened(self.alloc, self.hasher, self.limit, share);
         let Ok(()) = self.tenants.try_insert(name, own) else {
             return Err(TenantError::Memory);
         };

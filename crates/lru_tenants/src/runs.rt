@@ -2,6 +2,7 @@ ghost use Rattle.std.specs.Prelude.{◌≡◌, ◌≤◌, IfOk, IfSome, sum_by};
 ghost use Rattle.std.specs.Map.{values_of};
 ghost use Rattle.std.specs.Result.{OnErr};
 ghost use Rattle.lru_limits.specs.Admissions.{offers_of};
+ghost use Rattle.ordered_table.specs.EntrySize.{entry_size};
 ghost use Rattle.lru_tenants.specs.Cache.{tenant, fresh, AreTenants, On};
 ghost use Rattle.lru_tenants.specs.TenantRuns.{named, Gets, TenantStep, IsOwnRun};
 
@@ -20,7 +21,7 @@ use std::hash::Hash;
 /// has a total limit, `open` may return `OverTotal`.
 ///
 /// ```
-/// let mut cache: TenantCache<u64, u64, u64> = TenantCache::new(alloc, [1, 2, 3, 4], 32);
+/// let mut cache: TenantCache<u64, u64, u64> = TenantCache::new(alloc, [1, 2, 3, 4]);
 /// let calls = vec![in alloc; TenantCall::Open(1, 3), TenantCall::Put(1, 7, 1), TenantCall::Get(2, 7)]?;
 /// let answers = run_tenants(alloc, &mut cache, calls)?;
 /// assert!(rt; answers.get(1) == Some(&TenantAnswer::Put(Ok(true))));
@@ -45,7 +46,8 @@ pub fn run_tenants<
 ) -> Result<Vec<TenantAnswer<V>>, AllocError>
     ensures own { IfOk result (λ answers. (name : N) →
         IsOwnRun L.rules (offers_of L.terms) L.cost_of L.account L.budget_of K.eq S.hash_of
-        (fresh L.made (L.LinkType.number L.LinkType.MAX) cache.old) cache.old.total_limit (λ n. N.eq n name)
+        (fresh L.made (entry_size K.row V.row L.LinkType.row) (L.LinkType.number L.LinkType.MAX) cache.old)
+        cache.old.total_limit (λ n. N.eq n name)
         (tenant (N.eq name) cache.old) calls.items answers.items (tenant (N.eq name) cache.new)) }
     ensures tenants { AreTenants K.eq L.cost_of L.account L.budget_of cache.new }
     ensures limit { IfOk result (λ answers. IfSome cache.new.total_limit
@@ -53,7 +55,6 @@ pub fn run_tenants<
     ensures unmade { OnErr result (cache.new ≡ cache.old) }
 
     ensures hasher { cache.new.hasher ≡ cache.old.hasher }
-    ensures entry_bytes { cache.new.entry_bytes ≡ cache.old.entry_bytes }
     ensures total_limit { cache.new.total_limit ≡ cache.old.total_limit }
 {
     each_tenant_has_its_own_run::<N, K, V, L, S>();
@@ -74,8 +75,8 @@ fn make_tenant_call<
     S: KeyHasher<K> + Copy,
 >(cache: &mut TenantCache<N, K, V, L, S>, call: TenantCall<N, K, V>) -> TenantAnswer<V>
     ensures step { On N.eq (N.eq (named call)) (TenantStep L.rules (offers_of L.terms) L.cost_of L.account L.budget_of K.eq S.hash_of
-        (fresh L.made (L.LinkType.number L.LinkType.MAX) cache.old) cache.old.total_limit call)
-        cache.old result cache.new }
+        (fresh L.made (entry_size K.row V.row L.LinkType.row) (L.LinkType.number L.LinkType.MAX) cache.old)
+        cache.old.total_limit call) cache.old result cache.new }
     ensures tenants { AreTenants K.eq L.cost_of L.account L.budget_of cache.new }
 {
     let answer = answer_to(cache, call);
@@ -91,8 +92,8 @@ fn answer_to<
     S: KeyHasher<K> + Copy,
 >(cache: &mut TenantCache<N, K, V, L, S>, call: TenantCall<N, K, V>) -> TenantAnswer<V>
     ensures { On N.eq (N.eq (named call)) (TenantStep L.rules (offers_of L.terms) L.cost_of L.account L.budget_of K.eq S.hash_of
-        (fresh L.made (L.LinkType.number L.LinkType.MAX) cache.old) cache.old.total_limit call)
-        cache.old result cache.new }
+        (fresh L.made (entry_size K.row V.row L.LinkType.row) (L.LinkType.number L.LinkType.MAX) cache.old)
+        cache.old.total_limit call) cache.old result cache.new }
 {
     match call {
         TenantCall::Open(name, budget) => TenantAnswer::Opened(cache.open(name, budget)),

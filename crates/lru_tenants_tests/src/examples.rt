@@ -99,7 +99,7 @@ fn cache_6(cache: &mut Numbers) -> bool {
 #[test]
 fn on_a_cache(rt: HostRuntime) {
     let alloc = rt.alloc();
-    let mut cache: Numbers = TenantCache::new(alloc, [1, 2, 3, 4], 32);
+    let mut cache: Numbers = TenantCache::new(alloc, [1, 2, 3, 4]);
     let held = all!(
         cache_1(&mut cache).unwrap_or(false),
         cache_2(&mut cache),
@@ -151,7 +151,7 @@ fn pool_3(pool: &mut Shared) -> bool {
 #[test]
 fn on_a_pool(rt: HostRuntime) {
     let alloc = rt.alloc();
-    let mut pool: Shared = TenantPool::new(alloc, [1, 2, 3, 4], 32, 5);
+    let mut pool: Shared = TenantPool::new(alloc, [1, 2, 3, 4], 5);
     let held = all!(pool_1(&mut pool), pool_2(&mut pool), pool_3(&mut pool));
     check!(rt; held);
 }
@@ -159,7 +159,7 @@ fn on_a_pool(rt: HostRuntime) {
 #[test]
 fn of_cache(rt: HostRuntime) {
     let alloc = rt.alloc();
-    let mut cache: TenantCache<u64, u64, u64> = TenantCache::new(alloc, [1, 2, 3, 4], 32);
+    let mut cache: TenantCache<u64, u64, u64> = TenantCache::new(alloc, [1, 2, 3, 4]);
     let held = all!(
         cache.open(1, 3) == Ok(()),
         cache.put(&1, 7, 2) == Ok(true),
@@ -171,12 +171,11 @@ fn of_cache(rt: HostRuntime) {
 #[test]
 fn of_cache_2(rt: HostRuntime) -> Result<(), Fail> {
     let alloc = rt.alloc();
-    let mut cache: TenantCache<u64, u64, u64> = TenantCache::new(alloc, [1, 2, 3, 4], 32);
+    let mut cache: TenantCache<u64, u64, u64> = TenantCache::new(alloc, [1, 2, 3, 4]);
     let held = cache.is_empty();
     let mut weighed: TenantCache<u64, u64, u64, ByWeight<16>, _> = TenantCache::with_hasher(
         alloc,
         std::collections::hash_map::RandomState::new(&rt)?,
-        32,
     );
     let held = held
         & all!(
@@ -190,7 +189,7 @@ fn of_cache_2(rt: HostRuntime) -> Result<(), Fail> {
 #[test]
 fn of_pool(rt: HostRuntime) {
     let alloc = rt.alloc();
-    let mut pool: TenantPool<u64, u64, u64> = TenantPool::new(alloc, [1, 2, 3, 4], 32, 5);
+    let mut pool: TenantPool<u64, u64, u64> = TenantPool::new(alloc, [1, 2, 3, 4], 5);
     let held = all!(
         (pool.open(1, 3), pool.open(2, 1)) == (Ok(()), Ok(())),
         (pool.put(&1, 7, 2), pool.put(&2, 8, 3)) == (Ok(true), Ok(true)),
@@ -202,12 +201,11 @@ fn of_pool(rt: HostRuntime) {
 #[test]
 fn of_pool_2(rt: HostRuntime) -> Result<(), Fail> {
     let alloc = rt.alloc();
-    let mut pool: TenantPool<u64, u64, u64> = TenantPool::new(alloc, [1, 2, 3, 4], 32, 5);
+    let mut pool: TenantPool<u64, u64, u64> = TenantPool::new(alloc, [1, 2, 3, 4], 5);
     let held = pool.is_empty();
     let mut weighed: TenantPool<u64, u64, u64, ByWeight<16>, _> = TenantPool::with_hasher(
         alloc,
         std::collections::hash_map::RandomState::new(&rt)?,
-        32,
         40,
     );
     let held = held
@@ -222,7 +220,7 @@ fn of_pool_2(rt: HostRuntime) -> Result<(), Fail> {
 #[test]
 fn of_runs(rt: HostRuntime) -> Result<(), Fail> {
     let alloc = rt.alloc();
-    let mut cache: TenantCache<u64, u64, u64> = TenantCache::new(alloc, [1, 2, 3, 4], 32);
+    let mut cache: TenantCache<u64, u64, u64> = TenantCache::new(alloc, [1, 2, 3, 4]);
     let calls = vec![in alloc;
         TenantCall::Open(1, 3),
         TenantCall::Put(1, 7, 1),

@@ -26,7 +26,7 @@ pub fn restock(pool: &mut Shared) -> bool {
 
 #[test]
 fn of_the_law_on_totals(rt: HostRuntime) {
-    let cache: Numbers = TenantCache::new(rt.alloc(), [1, 2, 3, 4], 32);
+    let cache: Numbers = TenantCache::new(rt.alloc(), [1, 2, 3, 4]);
     costs_are_within_the_total_limit(&cache);
 }
 
@@ -50,7 +50,7 @@ fn of_names_and_keys_that_are_texts(rt: HostRuntime) -> Result<(), Fail> {
     let host = String::from_str(alloc, "host")?;
     let path = String::from_str(alloc, "/path")?;
     let page = String::from_str(alloc, "hello")?;
-    let mut pages: TenantCache<String, String, String> = TenantCache::new(alloc, [1, 2, 3, 4], 64);
+    let mut pages: TenantCache<String, String, String> = TenantCache::new(alloc, [1, 2, 3, 4]);
     check!(rt; (pages.open(host, 10), pages.put(&"host", path, page)) == (Ok(()), Ok(true)));
     let page = pages.get(&"host", &"/path")?.ok_or("no page")?;
     check!(rt; page.as_str() == "hello");

@@ -22,7 +22,7 @@ fn open_all(alloc: Global, cache: &mut Cache) -> usize {
 #[test]
 fn a_hundred_thousand_tenants(rt: HostRuntime) {
     let hasher = RandomState::with_seeds([1, 2, 3, 4]);
-    let mut cache = TenantCache::with_hasher(rt.alloc(), hasher, 32);
+    let mut cache = TenantCache::with_hasher(rt.alloc(), hasher);
     check!(rt; open_all(rt.alloc(), &mut cache) == TENANTS as usize);
     for name in 0..TENANTS {
         check!(rt; cache.put(&name, 1, 4) == Ok(true));

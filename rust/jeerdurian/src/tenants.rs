@@ -19,9 +19,8 @@ mod pool;
 
 pub use pool::TenantPool;
 
-use crate::erased::lru_limits::{self, Budgeted};
+use crate::erased::lru_limits::Budgeted;
 use crate::erased::lru_tenants as proved;
-use crate::erased::ordered_table::OrderedTable;
 use crate::keys::Borrowed;
 use crate::rattle_std::alloc::Global;
 use crate::{ByCost, ByWeight, Costed, RandomState};
@@ -140,8 +139,7 @@ where
     /// assert!(cache.is_empty());
     /// ```
     pub fn with_hasher(hasher: S) -> Self {
-        let entry_bytes = OrderedTable::<K, V, <L as lru_limits::Limiter<K, V>>::LinkType>::entry_bytes();
-        TenantCache { cache: proved::TenantCache::with_hasher(Global, hasher, entry_bytes) }
+        TenantCache { cache: proved::TenantCache::with_hasher(Global, hasher) }
     }
 
     /// Returns the number of open tenants.

@@ -177,7 +177,7 @@ fn a_list_of_calls_on_two_tenants() {
         TenantAnswer::Put(Ok(false)),
         TenantAnswer::Cost(Ok(0)),
     ];
-    let mut cache: TenantCache<u64, u64, u64> = TenantCache::new(Global, SEEDS, 32);
+    let mut cache: TenantCache<u64, u64, u64> = TenantCache::new(Global, SEEDS);
     let answers = run_tenants(Global, &mut cache, Vec::of_array(Global, calls).unwrap()).unwrap();
     assert_eq!(answers.as_slice(), expected);
 }

@@ -4,6 +4,7 @@ ghost use Rattle.std.specs.Map.{lookup};
 ghost use Rattle.lru_model.specs.Lists.{is_empty};
 ghost use Rattle.lru_model.specs.Theorems.{KeepsValues};
 ghost use Rattle.lru_model.specs.State.{IsMap, empty_map};
+ghost use Rattle.ordered_table.specs.EntrySize.{entry_size};
 ghost use Rattle.lru_caches.specs.Answers.{IsAnswer, AreAnswers, Remembers, ReadsLoaded, loads};
 
 use schnellru::{Insertion, KeyHasher, LruMap, RandomState, laws};
@@ -52,7 +53,7 @@ impl<K: Eq + Hash, V, E, F: Fn(&K) -> Result<V, E>, L: Insertion<K, V, K>> Loade
     /// ```
     pub fn new(alloc: Global, limiter: L, function: F) -> Self
         requires { KeepsValues L.offers }
-        ensures map { result.map ≡ empty_map limiter result.map.hasher result.map.entry_bytes
+        ensures map { result.map ≡ empty_map limiter result.map.hasher (entry_size K.row V.row L.LinkType.row)
             (L.LinkType.number L.LinkType.MAX) }
         ensures empty { result.map.pairs ≡ [] }
         ensures known { AreAnswers K.eq (loads (FnReturnsAt F.Fn result.function)) result.map.pairs }
@@ -72,30 +73,25 @@ impl<K: Eq + Hash, V, E, F: Fn(&K) -> Result<V, E>, L: Insertion<K, V, K>, S: Ke
     L,
     S,
 > {
-    /// Makes a loader of a function, with a hasher of keys. `LruMap::with_hasher` explains `entry_bytes`.
+    /// Makes a loader of a function, with a hasher of keys.
     ///
     /// ```
     /// let seeded = RandomState::with_seeds([5, 6, 7, 8]);
-    /// let empty = Loader::with_hasher(alloc, ByLength::new(9), seeded, 24, |n: &u64| n.checked_add(1).ok_or(*n));
+    /// let empty = Loader::with_hasher(alloc, ByLength::new(9), seeded, |n: &u64| n.checked_add(1).ok_or(*n));
     /// assert!(rt; empty.is_empty());
     /// ```
     ///
     /// Cost: `O(1)`, and no memory.
-    pub fn with_hasher(
-        alloc: Global,
-        limiter: L,
-        hasher: S,
-        entry_bytes: usize,
-        function: F,
-    ) -> Self
+    pub fn with_hasher(alloc: Global, limiter: L, hasher: S, function: F) -> Self
         requires { KeepsValues L.offers }
-        ensures map { result.map ≡ empty_map limiter hasher entry_bytes (L.LinkType.number L.LinkType.MAX) }
+        ensures map { result.map ≡ empty_map limiter hasher (entry_size K.row V.row L.LinkType.row)
+            (L.LinkType.number L.LinkType.MAX) }
         ensures empty { result.map.pairs ≡ [] }
         ensures known { AreAnswers K.eq (loads (FnReturnsAt F.Fn result.function)) result.map.pairs }
         ensures function { result.function ≡ function }
     {
         Loader {
-            map: LruMap::with_hasher(alloc, limiter, hasher, entry_bytes),
+            map: LruMap::with_limiter_and_hasher(alloc, limiter, hasher),
             function,
         }
     }
@@ -119,7 +115,7 @@ impl<K: Eq + Hash, V, E, F: Fn(&K) -> Result<V, E>, L: Insertion<K, V, K>, S: Ke
     ///
     /// ```
     /// let seeded = RandomState::with_seeds([5, 6, 7, 8]);
-    /// let empty = Loader::with_hasher(alloc, ByLength::new(9), seeded, 24, |n: &u64| n.checked_add(1).ok_or(*n));
+    /// let empty = Loader::with_hasher(alloc, ByLength::new(9), seeded, |n: &u64| n.checked_add(1).ok_or(*n));
     /// assert!(rt; empty.is_empty());
     /// ```
     pub fn is_empty(&self) -> bool
@@ -205,46 +201,17 @@ impl<
         ensures known { AreAnswers K.eq (loads (FnReturnsAt F.Fn self.new.function)) self.new.map.pairs }
         ensures function { self.new.function ≡ self.old.function }
     {
-        read_loaded(&mut self.map, &self.function, key, read)
-    }
-}
-
-fn read_loaded<
-    K: Eq + Hash + Drop,
-    V: Drop,
-    E: Drop,
-    F: Fn(&K) -> Result<V, E>,
-    L: Insertion<K, V, K>,
-    S: KeyHasher<K>,
-    R,
-    U: FnOnce(&V) -> R,
->(map: &mut LruMap<K, V, L, S>, function: &F, key: K, read: U) -> Result<R, E>
-    requires callable { F.IsAlwaysCallable function.now }
-    requires readable { U.IsAlwaysCallable read }
-    requires keeps { KeepsValues L.offers }
-    requires known { AreAnswers K.eq (loads (FnReturnsAt F.Fn function.now)) map.old.pairs }
-    ensures value { IfOk result (λ given. (value : V)
-        × IsAnswer K.eq (loads (FnReturnsAt F.Fn function.now)) key value
-        × Remembers L.rules L.offers K.eq S.hash_of key value map.old map.new
-        × FnOnceReturnsAt U.FnOnce read value given) }
-    ensures stored { IfSome (lookup (K.eq key) map.old.pairs)
-        (λ value. (given : R) × (result ≡ Ok given) × FnOnceReturnsAt U.FnOnce read value given) }
-    ensures loaded { lookup (K.eq key) map.old.pairs ≡ None →
-        ReadsLoaded (FnReturnsAt F.Fn function.now key) (FnOnceReturnsAt U.FnOnce read) result }
-    ensures map { IsMap K.eq map.new }
-    ensures failed { OnErr result (map.new ≡ map.old) }
-    ensures known { AreAnswers K.eq (loads (FnReturnsAt F.Fn function.now)) map.new.pairs }
-{
-    laws::inserts_evict_the_oldest::<K, V, K, L, S>();
-    if let Some(value) = map.get(&key) {
-        return Ok(read(&*value));
-    }
-    match function(&key) {
-        Ok(value) => {
-            let given = read(&value);
-            let _ = map.insert(key, value);
-            Ok(given)
+        laws::inserts_evict_the_oldest::<K, V, K, L, S>();
+        if let Some(value) = self.map.get(&key) {
+            return Ok(read(&*value));
         }
-        Err(error) => Err(error),
+        match (self.function)(&key) {
+            Ok(value) => {
+                let given = read(&value);
+                let _ = self.map.insert(key, value);
+                Ok(given)
+            }
+            Err(error) => Err(error),
+        }
     }
 }

@@ -85,27 +85,21 @@ impl<K: Eq + Hash, V, Q: Question<K, V>, L: Insertion<K, V, K>, S: KeyHasher<K>>
     L,
     S,
 > {
-    /// Makes an empty table, with a hasher of keys. `LruMap::with_hasher` explains `entry_bytes`.
+    /// Makes an empty table, with a hasher of keys.
     ///
     /// ```
     /// let seeded = RandomState::with_seeds([5, 6, 7, 8]);
-    /// let empty = MemoTable::with_hasher(alloc, ByLength::new(9), seeded, 24, Squares);
+    /// let empty = MemoTable::with_hasher(alloc, ByLength::new(9), seeded, Squares);
     /// assert!(rt; empty.is_empty());
     /// ```
     ///
     /// Cost: `O(1)`, and no memory.
-    pub fn with_hasher(
-        alloc: Global,
-        limiter: L,
-        hasher: S,
-        entry_bytes: usize,
-        question: Q,
-    ) -> Self
+    pub fn with_hasher(alloc: Global, limiter: L, hasher: S, question: Q) -> Self
         requires { KeepsValues L.offers }
         ensures { result ≡ [] }
     {
         MemoTable {
-            map: LruMap::with_hasher(alloc, limiter, hasher, entry_bytes),
+            map: LruMap::with_limiter_and_hasher(alloc, limiter, hasher),
             question,
         }
     }
@@ -129,7 +123,7 @@ impl<K: Eq + Hash, V, Q: Question<K, V>, L: Insertion<K, V, K>, S: KeyHasher<K>>
     ///
     /// ```
     /// let seeded = RandomState::with_seeds([5, 6, 7, 8]);
-    /// let empty = MemoTable::with_hasher(alloc, ByLength::new(9), seeded, 24, Squares);
+    /// let empty = MemoTable::with_hasher(alloc, ByLength::new(9), seeded, Squares);
     /// assert!(rt; empty.is_empty());
     /// ```
     pub fn is_empty(&self) -> bool
@@ -178,7 +172,8 @@ impl<
             (λ value. (given : R) × (result ≡ Some given) × FnOnceReturnsAt U.FnOnce read value given) }
         ensures newest { self.new ≡ front (K.eq key.now) self.old }
     {
-        read_stored::<K, V, Q, L, S, R, U>(&mut self.map, key, read)
+        let value = self.map.get(key)?;
+        Some(read(&*value))
     }
 
     /// Stores an answer at a key as the newest, and returns true. If memory runs out, or a limit prevents this, returns
@@ -195,46 +190,7 @@ impl<
         ensures newest { result ≡ true → IsNewest (K.eq key) self.new }
         ensures absent { result ≡ false → lookup_entry (K.eq key) self.new ≡ None }
     {
-        keep::<K, V, Q, L, S>(&mut self.map, key, value)
+        laws::inserts_evict_the_oldest::<K, V, K, L, S>();
+        self.map.insert(key, value).unwrap_or(false)
     }
-}
-
-fn read_stored<
-    K: Eq + Hash,
-    V,
-    Q: Question<K, V>,
-    L: Insertion<K, V, K>,
-    S: KeyHasher<K>,
-    R,
-    U: FnOnce(&V) -> R,
->(map: &mut LruMap<K, V, L, S>, key: &K, read: U) -> Option<R>
-    requires readable { U.IsAlwaysCallable read }
-    requires known { AreAnswers K.eq Q.answers map.old.pairs }
-    ensures answer { IfSome (lookup (K.eq key.now) map.old.pairs) (IsAnswer K.eq Q.answers key.now) }
-    ensures stored { MatchOption (lookup (K.eq key.now) map.old.pairs) (result ≡ None)
-        (λ value. (given : R) × (result ≡ Some given) × FnOnceReturnsAt U.FnOnce read value given) }
-    ensures newest { map.new.pairs ≡ front (K.eq key.now) map.old.pairs }
-    ensures known { AreAnswers K.eq Q.answers map.new.pairs }
-{
-    match map.get(key) {
-        Some(value) => Some(read(&*value)),
-        None => None,
-    }
-}
-
-fn keep<K: Eq + Hash + Drop, V: Drop, Q: Question<K, V>, L: Insertion<K, V, K>, S: KeyHasher<K>>(
-    map: &mut LruMap<K, V, L, S>,
-    key: K,
-    value: V,
-) -> bool
-    requires keeps { KeepsValues L.offers }
-    requires answer { Q.answers key value }
-    requires known { AreAnswers K.eq Q.answers map.old.pairs }
-    ensures stored { result ≡ true → lookup (K.eq key) map.new.pairs ≡ Some value }
-    ensures newest { result ≡ true → IsNewest (K.eq key) map.new.pairs }
-    ensures absent { result ≡ false → lookup_entry (K.eq key) map.new.pairs ≡ None }
-    ensures known { AreAnswers K.eq Q.answers map.new.pairs }
-{
-    laws::inserts_evict_the_oldest::<K, V, K, L, S>();
-    map.insert(key, value).unwrap_or(false)
 }

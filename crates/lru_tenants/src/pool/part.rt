@@ -1,6 +1,7 @@
 ghost use Rattle.std.specs.Prelude.{◌≡◌, ℕ, ◌+◌, ◌<◌, suc, length, Some};
 ghost use Rattle.lru_model.specs.Calls.{PopOldest};
 ghost use Rattle.lru_model.specs.State.{State, empty_map};
+ghost use Rattle.ordered_table.specs.EntrySize.{entry_size};
 ghost use Rattle.lru_tenants.specs.Cache.{IsTenant};
 ghost use Rattle.lru_tenants.specs.Pool.{cost, excess, IsPart, with_map};
 
@@ -54,16 +55,19 @@ pub(super) fn drop_oldest<K: Eq + Hash + Drop, V: Drop, L: Budgeted<K, V>, S: Ke
 pub(super) fn opened<K: Eq + Hash, V, L: Budgeted<K, V>, S: KeyHasher<K>>(
     alloc: Global,
     hasher: S,
-    entry_bytes: usize,
     limit: u64,
     share: u64,
 ) -> Part<K, V, L, S>
-    ensures own { result ≡ (share, empty_map (L.made limit) hasher entry_bytes (L.LinkType.number L.LinkType.MAX)) }
+    ensures own { result ≡ (
+      share,
+      empty_map (L.made limit) hasher (entry_size K.row V.row L.LinkType.row)
+          (L.LinkType.number L.LinkType.MAX),
+    ) }
     ensures part { IsPart L.account K.eq L.cost_of L.budget_of limit result }
     ensures empty { L.account result.1.limiter ≡ 0 }
 {
     laws::runs_begin_with_maps::<K, V, L, S>();
     let limiter = L::with_budget(limit);
-    let map = LruMap::with_hasher(alloc, limiter, hasher, entry_bytes);
+    let map = LruMap::with_limiter_and_hasher(alloc, limiter, hasher);
     (share, map)
 }

@@ -1,7 +1,6 @@
 //! Functions that remember their newest results.
 
 use crate::erased::lru_caches as proved;
-use crate::erased::ordered_table::OrderedTable;
 use crate::limiter::{Admission, Calls};
 use crate::rattle_std::alloc::Global;
 use crate::{ByLength, RandomState};
@@ -50,8 +49,7 @@ impl<K: Eq + Hash, V, F: Fn(&K) -> V, L: Admission<K, V>, S: BuildHasher> Memo<K
     /// assert!(cubes.is_empty());
     /// ```
     pub fn with_hasher(limiter: L, hasher: S, function: F) -> Self {
-        let entry_bytes = OrderedTable::<K, V, L::LinkType>::entry_bytes();
-        Memo { memo: proved::Memo::with_hasher(Global, Calls(limiter), hasher, entry_bytes, function) }
+        Memo { memo: proved::Memo::with_hasher(Global, Calls(limiter), hasher, function) }
     }
 
     /// Returns the number of stored results.
@@ -163,8 +161,7 @@ where
     /// assert!(next.is_empty());
     /// ```
     pub fn with_hasher(limiter: L, hasher: S, function: F) -> Self {
-        let entry_bytes = OrderedTable::<K, V, L::LinkType>::entry_bytes();
-        Loader { loader: proved::Loader::with_hasher(Global, Calls(limiter), hasher, entry_bytes, function) }
+        Loader { loader: proved::Loader::with_hasher(Global, Calls(limiter), hasher, function) }
     }
 
     /// Returns the number of stored values.

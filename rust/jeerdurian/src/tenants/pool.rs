@@ -1,9 +1,7 @@
 //! A pool of tenants, which share one limit.
 
 use super::{Budget, TenantError};
-use crate::erased::lru_limits;
 use crate::erased::lru_tenants as proved;
-use crate::erased::ordered_table::OrderedTable;
 use crate::keys::Borrowed;
 use crate::rattle_std::alloc::Global;
 use crate::{ByCost, RandomState};
@@ -83,8 +81,7 @@ where
     /// assert_eq!((pool.limit(), pool.total_cost()), (5, 0));
     /// ```
     pub fn with_hasher(hasher: S, limit: u64) -> Self {
-        let entry_bytes = OrderedTable::<K, V, <L as lru_limits::Limiter<K, V>>::LinkType>::entry_bytes();
-        TenantPool { pool: proved::TenantPool::with_hasher(Global, hasher, entry_bytes, limit) }
+        TenantPool { pool: proved::TenantPool::with_hasher(Global, hasher, limit) }
     }
 
     /// Returns the number of open tenants.

@@ -35,17 +35,17 @@ impl<K: Eq + Hash, V, F: Fn(&K) -> V, L: Insertion<K, V, K>> Memo<K, V, F, L, Ra
 }
 
 impl<K: Eq + Hash, V, F: Fn(&K) -> V, L: Insertion<K, V, K>, S: KeyHasher<K>> Memo<K, V, F, L, S> {
-    /// Makes a memo of a function, with a hasher of keys. `LruMap::with_hasher` explains `entry_bytes`.
+    /// Makes a memo of a function, with a hasher of keys.
     ///
     /// ```text
     /// let seeded = RandomState::with_seeds([5, 6, 7, 8]);
-    /// let cubes = Memo::with_hasher(alloc, ByLength::new(9), seeded, 24, |n: &u64| n.wrapping_pow(3));
+    /// let cubes = Memo::with_hasher(alloc, ByLength::new(9), seeded, |n: &u64| n.wrapping_pow(3));
     /// assert!(rt; cubes.is_empty());
     /// ```
     ///
     /// Cost: `O(1)`, and no memory.
-    pub fn with_hasher(alloc: Global, limiter: L, hasher: S, entry_bytes: usize, function: F) -> Self {
-        Memo { map: LruMap::with_hasher(alloc, limiter, hasher, entry_bytes), function }
+    pub fn with_hasher(alloc: Global, limiter: L, hasher: S, function: F) -> Self {
+        Memo { map: LruMap::with_limiter_and_hasher(alloc, limiter, hasher), function }
     }
 
     /// Returns how many results are stored.
@@ -65,7 +65,7 @@ impl<K: Eq + Hash, V, F: Fn(&K) -> V, L: Insertion<K, V, K>, S: KeyHasher<K>> Me
     ///
     /// ```text
     /// let seeded = RandomState::with_seeds([5, 6, 7, 8]);
-    /// let cubes = Memo::with_hasher(alloc, ByLength::new(9), seeded, 24, |n: &u64| n.wrapping_pow(3));
+    /// let cubes = Memo::with_hasher(alloc, ByLength::new(9), seeded, |n: &u64| n.wrapping_pow(3));
     /// assert!(rt; cubes.is_empty());
     /// ```
     pub fn is_empty(&self) -> bool {
@@ -100,7 +100,14 @@ impl<K: Eq + Hash, V, F: Fn(&K) -> V, L: Insertion<K, V, K>, S: KeyHasher<K>> Me
     ///
     /// Cost: as `answer`, and a call of the closure.
     pub fn answer_with<R, U: FnOnce(&V) -> R>(&mut self, key: K, read: U) -> R {
-        read_remembered(&mut self.map, &self.function, key, read)
+        laws::inserts_evict_the_oldest::<K, V, K, L, S>();
+        if let Some(value) = self.map.get(&key) {
+            return read(&*value);
+        }
+        let value = (self.function)(&key);
+        let result = read(&value);
+        let _ = self.map.insert(key, value);
+        result
     }
 
     /// Removes the stored result of a key, and returns whether there was one.
@@ -124,20 +131,4 @@ impl<K: Eq + Hash, V, F: Fn(&K) -> V, L: Insertion<K, V, K>, S: KeyHasher<K>> Me
     pub fn clear(&mut self) {
         self.map.clear();
     }
-}
-
-fn read_remembered<K: Eq + Hash, V, F: Fn(&K) -> V, L: Insertion<K, V, K>, S: KeyHasher<K>, R, U: FnOnce(&V) -> R>(
-    map: &mut LruMap<K, V, L, S>,
-    function: &F,
-    key: K,
-    read: U,
-) -> R {
-    laws::inserts_evict_the_oldest::<K, V, K, L, S>();
-    if let Some(value) = map.get(&key) {
-        return read(&*value);
-    }
-    let value = function(&key);
-    let result = read(&value);
-    let _ = map.insert(key, value);
-    result
 }

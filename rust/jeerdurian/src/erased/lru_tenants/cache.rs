@@ -23,7 +23,7 @@ use totals::is_above;
 /// In the examples of the calls, `cache` has one tenant, 1, with a budget of 3 and the entry (7, 2).
 ///
 /// ```text
-/// let mut cache: TenantCache<u64, u64, u64> = TenantCache::new(alloc, [1, 2, 3, 4], 32);
+/// let mut cache: TenantCache<u64, u64, u64> = TenantCache::new(alloc, [1, 2, 3, 4]);
 /// assert_eq!(rt; cache.open(1, 3), Ok(()));
 /// assert_eq!(rt; cache.put(&1, 7, 2), Ok(true));
 /// assert_eq!(rt; cache.cost(&1), Ok(2));
@@ -32,7 +32,6 @@ pub struct TenantCache<N: Eq + Hash, K: Eq + Hash, V, L: Budgeted<K, V> = ByCost
 {
     tenants: LruMap<N, LruMap<K, V, L, S>, Unlimited, S>,
     hasher: S,
-    entry_bytes: usize,
     budgets: u128,
     total_limit: Option<u64>,
     alloc: Global,
@@ -44,11 +43,11 @@ impl<N: Eq + Hash, K: Eq + Hash, V: Costed> TenantCache<N, K, V> {
     /// If strangers choose names or keys, take seeds that nobody can guess. Cost: `O(1)`, and no memory.
     ///
     /// ```text
-    /// let mut cache: TenantCache<u64, u64, u64> = TenantCache::new(alloc, [1, 2, 3, 4], 32);
+    /// let mut cache: TenantCache<u64, u64, u64> = TenantCache::new(alloc, [1, 2, 3, 4]);
     /// assert!(rt; cache.is_empty());
     /// ```
-    pub fn new(alloc: Global, seeds: [u64; 4], entry_bytes: usize) -> Self {
-        TenantCache::with_hasher(alloc, RandomState::with_seeds(seeds), entry_bytes)
+    pub fn new(alloc: Global, seeds: [u64; 4]) -> Self {
+        TenantCache::with_hasher(alloc, RandomState::with_seeds(seeds))
     }
 }
 
@@ -60,15 +59,14 @@ impl<N: Eq + Hash, K: Eq + Hash, V, L: Budgeted<K, V>, S: KeyHasher<K> + Copy> T
     ///
     /// ```text
     /// let mut weighed: TenantCache<u64, u64, u64, ByWeight<16>, _> =
-    ///     TenantCache::with_hasher(alloc, std::collections::hash_map::RandomState::new(&rt)?, 32);
+    ///     TenantCache::with_hasher(alloc, std::collections::hash_map::RandomState::new(&rt)?);
     /// assert_eq!(rt; (weighed.open(1, 40), weighed.put(&1, 7, 2)), (Ok(()), Ok(true)));
     /// assert_eq!(rt; weighed.cost(&1), Ok(25));
     /// ```
-    pub fn with_hasher(alloc: Global, hasher: S, entry_bytes: usize) -> Self {
+    pub fn with_hasher(alloc: Global, hasher: S) -> Self {
         TenantCache {
             tenants: LruMap::<N, LruMap<K, V, L, S>, Unlimited, S>::with_limiter_and_hasher(alloc, Unlimited, hasher),
             hasher,
-            entry_bytes,
             budgets: 0,
             total_limit: None,
             alloc,
@@ -130,8 +128,7 @@ impl<N: Eq + Hash, K: Eq + Hash, V, L: Budgeted<K, V>, S: KeyHasher<K> + Copy> T
 
     fn fresh(&self, budget: u64) -> LruMap<K, V, L, S> {
         laws::runs_begin_with_maps::<K, V, L, S>();
-        let limiter = L::with_budget(budget);
-        LruMap::with_hasher(self.alloc, limiter, self.hasher, self.entry_bytes)
+        LruMap::with_limiter_and_hasher(self.alloc, L::with_budget(budget), self.hasher)
     }
 
     /// Inserts a key with a value, as the newest entry of the tenant. Returns whether the key is there afterwards.

@@ -25,7 +25,7 @@ use part::{Part, cost_of, opened};
 /// (7, 2). Tenant 2 has a share of 1 and no entry.
 ///
 /// ```text
-/// let mut pool: TenantPool<u64, u64, u64> = TenantPool::new(alloc, [1, 2, 3, 4], 32, 5);
+/// let mut pool: TenantPool<u64, u64, u64> = TenantPool::new(alloc, [1, 2, 3, 4], 5);
 /// assert_eq!(rt; (pool.open(1, 3), pool.open(2, 1)), (Ok(()), Ok(())));
 /// assert_eq!(rt; (pool.put(&1, 7, 2), pool.put(&2, 8, 3)), (Ok(true), Ok(true)));
 /// assert_eq!(rt; (pool.put(&1, 9, 1), pool.cost(&2), pool.cost(&1)), (Ok(true), Ok(0), Ok(3)));
@@ -33,7 +33,6 @@ use part::{Part, cost_of, opened};
 pub struct TenantPool<N: Eq + Hash, K: Eq + Hash, V, L: Budgeted<K, V> = ByCost, S: KeyHasher<K> + Copy = RandomState> {
     tenants: LruMap<N, Part<K, V, L, S>, Unlimited, S>,
     hasher: S,
-    entry_bytes: usize,
     limit: u64,
     shares: u64,
     total: u128,
@@ -44,11 +43,11 @@ impl<N: Eq + Hash, K: Eq + Hash, V: Costed> TenantPool<N, K, V> {
     /// Makes a pool without tenants (see `TenantCache::new`). Cost: `O(1)`, and no memory.
     ///
     /// ```text
-    /// let mut pool: TenantPool<u64, u64, u64> = TenantPool::new(alloc, [1, 2, 3, 4], 32, 5);
+    /// let mut pool: TenantPool<u64, u64, u64> = TenantPool::new(alloc, [1, 2, 3, 4], 5);
     /// assert!(rt; pool.is_empty());
     /// ```
-    pub fn new(alloc: Global, seeds: [u64; 4], entry_bytes: usize, limit: u64) -> Self {
-        TenantPool::with_hasher(alloc, RandomState::with_seeds(seeds), entry_bytes, limit)
+    pub fn new(alloc: Global, seeds: [u64; 4], limit: u64) -> Self {
+        TenantPool::with_hasher(alloc, RandomState::with_seeds(seeds), limit)
     }
 }
 
@@ -57,15 +56,14 @@ impl<N: Eq + Hash, K: Eq + Hash, V, L: Budgeted<K, V>, S: KeyHasher<K> + Copy> T
     ///
     /// ```text
     /// let mut weighed: TenantPool<u64, u64, u64, ByWeight<16>, _> =
-    ///     TenantPool::with_hasher(alloc, std::collections::hash_map::RandomState::new(&rt)?, 32, 40);
+    ///     TenantPool::with_hasher(alloc, std::collections::hash_map::RandomState::new(&rt)?, 40);
     /// assert_eq!(rt; (weighed.open(1, 0), weighed.put(&1, 7, 2)), (Ok(()), Ok(true)));
     /// assert_eq!(rt; weighed.cost(&1), Ok(25));
     /// ```
-    pub fn with_hasher(alloc: Global, hasher: S, entry_bytes: usize, limit: u64) -> Self {
+    pub fn with_hasher(alloc: Global, hasher: S, limit: u64) -> Self {
         TenantPool {
             tenants: LruMap::<N, Part<K, V, L, S>, Unlimited, S>::with_limiter_and_hasher(alloc, Unlimited, hasher),
             hasher,
-            entry_bytes,
             limit,
             shares: 0,
             total: 0,
@@ -95,7 +93,7 @@ impl<N: Eq + Hash, K: Eq + Hash, V, L: Budgeted<K, V>, S: KeyHasher<K> + Copy> T
         if share > left {
             return Err(TenantError::OverTotal);
         }
-        let own = opened(self.alloc, self.hasher, self.entry_bytes, self.limit, share);
+        let own = opened(self.alloc, self.hasher, self.limit, share);
         let Ok(()) = self.tenants.try_insert(name, own) else {
             return Err(TenantError::Memory);
         };

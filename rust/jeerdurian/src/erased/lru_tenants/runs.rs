@@ -17,7 +17,7 @@ use crate::rattle_std::hash::Hash;
 /// has a total limit, `open` may return `OverTotal`.
 ///
 /// ```text
-/// let mut cache: TenantCache<u64, u64, u64> = TenantCache::new(alloc, [1, 2, 3, 4], 32);
+/// let mut cache: TenantCache<u64, u64, u64> = TenantCache::new(alloc, [1, 2, 3, 4]);
 /// let calls = vec![in alloc; TenantCall::Open(1, 3), TenantCall::Put(1, 7, 1), TenantCall::Get(2, 7)]?;
 /// let answers = run_tenants(alloc, &mut cache, calls)?;
 /// assert!(rt; answers.get(1) == Some(&TenantAnswer::Put(Ok(true))));

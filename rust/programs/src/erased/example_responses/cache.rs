@@ -69,7 +69,7 @@ impl ResponseCache {
     pub fn new(alloc: Global) -> ResponseCache {
         ResponseCache {
             alloc,
-            entries: TenantCache::with_hasher(alloc, RandomState::with_seeds([1, 2, 3, 4]), 56),
+            entries: TenantCache::with_hasher(alloc, RandomState::with_seeds([1, 2, 3, 4])),
             counts: BTreeMap::new(alloc),
         }
     }

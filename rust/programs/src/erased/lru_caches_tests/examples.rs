@@ -220,7 +220,7 @@ fn of_memo_loader() {
         let mut blocks = Loader::new(alloc, ByLength::new(9), |n: &usize| disk.get(*n).copied().ok_or(*n));
         let held = all!((blocks.load(1), blocks.len()) == (Ok(11), 1), (blocks.load(3), blocks.len()) == (Err(3), 1));
         let seeded = RandomState::with_seeds([5, 6, 7, 8]);
-        let empty = Loader::with_hasher(alloc, ByLength::new(9), seeded, 24, |n: &u64| n.checked_add(1).ok_or(*n));
+        let empty = Loader::with_hasher(alloc, ByLength::new(9), seeded, |n: &u64| n.checked_add(1).ok_or(*n));
         let held = held & all!(empty.is_empty());
         let mut texts = Loader::new(alloc, ByLength::new(9), |n: &usize| vec![in alloc; 7u8; *n].map_err(|_| *n));
         let held = held & all!((texts.load_with(3, |text| text.len()), texts.len()) == (Ok(3), 1));
@@ -237,7 +237,7 @@ fn of_memo_table() {
         squares.store(3, 9);
         let held = (squares.get(&3), squares.get(&4), squares.len()) == (Some(9), None, 1);
         let seeded = RandomState::with_seeds([5, 6, 7, 8]);
-        let empty = MemoTable::with_hasher(alloc, ByLength::new(9), seeded, 24, Squares);
+        let empty = MemoTable::with_hasher(alloc, ByLength::new(9), seeded, Squares);
         let held = held & all!(empty.is_empty(), squares.get_with(&3, |square| square.wrapping_add(1)) == Some(10));
         check!(rt; held);
     };
@@ -251,7 +251,7 @@ fn of_memo() {
         let mut squares = Memo::new(alloc, ByLength::new(9), |n: &u64| n.wrapping_mul(*n));
         let held = (squares.answer(3), squares.len()) == (9, 1);
         let seeded = RandomState::with_seeds([5, 6, 7, 8]);
-        let cubes = Memo::with_hasher(alloc, ByLength::new(9), seeded, 24, |n: &u64| n.wrapping_pow(3));
+        let cubes = Memo::with_hasher(alloc, ByLength::new(9), seeded, |n: &u64| n.wrapping_pow(3));
         let held = held & all!(cubes.is_empty());
         let mut blocks = Memo::new(alloc, ByLength::new(9), |n: &usize| vec![in alloc; 7u8; *n].ok());
         let held = held

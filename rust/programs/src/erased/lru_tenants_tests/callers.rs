@@ -40,7 +40,7 @@ fn serve(pool: &mut TenantPool<String, String, String>, host: &str, paths: Vec<S
 fn of_pages() {
     let run = |rt: HostRuntime| -> Result<(), Fail> {
         let alloc = rt.alloc();
-        let mut pool: TenantPool<String, String, String> = TenantPool::new(alloc, [1, 2, 3, 4], 64, 8);
+        let mut pool: TenantPool<String, String, String> = TenantPool::new(alloc, [1, 2, 3, 4], 8);
         let held = all!(
             pool.open(String::from_str(alloc, "a")?, 4) == Ok(()),
             pool.open(String::from_str(alloc, "b")?, 4) == Ok(()),

@@ -92,7 +92,7 @@ fn cache_6(cache: &mut Numbers) -> bool {
 fn on_a_cache() {
     let run = |rt: HostRuntime| -> () {
         let alloc = rt.alloc();
-        let mut cache: Numbers = TenantCache::new(alloc, [1, 2, 3, 4], 32);
+        let mut cache: Numbers = TenantCache::new(alloc, [1, 2, 3, 4]);
         let held = all!(
             cache_1(&mut cache).unwrap_or(false),
             cache_2(&mut cache),
@@ -147,7 +147,7 @@ fn pool_3(pool: &mut Shared) -> bool {
 fn on_a_pool() {
     let run = |rt: HostRuntime| -> () {
         let alloc = rt.alloc();
-        let mut pool: Shared = TenantPool::new(alloc, [1, 2, 3, 4], 32, 5);
+        let mut pool: Shared = TenantPool::new(alloc, [1, 2, 3, 4], 5);
         let held = all!(pool_1(&mut pool), pool_2(&mut pool), pool_3(&mut pool));
         check!(rt; held);
     };
@@ -158,7 +158,7 @@ fn on_a_pool() {
 fn of_cache() {
     let run = |rt: HostRuntime| -> () {
         let alloc = rt.alloc();
-        let mut cache: TenantCache<u64, u64, u64> = TenantCache::new(alloc, [1, 2, 3, 4], 32);
+        let mut cache: TenantCache<u64, u64, u64> = TenantCache::new(alloc, [1, 2, 3, 4]);
         let held = all!(cache.open(1, 3) == Ok(()), cache.put(&1, 7, 2) == Ok(true), cache.cost(&1) == Ok(2));
         check!(rt; held);
     };
@@ -169,10 +169,10 @@ fn of_cache() {
 fn of_cache_2() {
     let run = |rt: HostRuntime| -> Result<(), Fail> {
         let alloc = rt.alloc();
-        let mut cache: TenantCache<u64, u64, u64> = TenantCache::new(alloc, [1, 2, 3, 4], 32);
+        let mut cache: TenantCache<u64, u64, u64> = TenantCache::new(alloc, [1, 2, 3, 4]);
         let held = cache.is_empty();
         let mut weighed: TenantCache<u64, u64, u64, ByWeight<16>, _> =
-            TenantCache::with_hasher(alloc, crate::rattle_std::collections::hash_map::RandomState::new(&rt)?, 32);
+            TenantCache::with_hasher(alloc, crate::rattle_std::collections::hash_map::RandomState::new(&rt)?);
         let held =
             held & all!((weighed.open(1, 40), weighed.put(&1, 7, 2)) == (Ok(()), Ok(true)), weighed.cost(&1) == Ok(25));
         check!(rt; held);
@@ -185,7 +185,7 @@ fn of_cache_2() {
 fn of_pool() {
     let run = |rt: HostRuntime| -> () {
         let alloc = rt.alloc();
-        let mut pool: TenantPool<u64, u64, u64> = TenantPool::new(alloc, [1, 2, 3, 4], 32, 5);
+        let mut pool: TenantPool<u64, u64, u64> = TenantPool::new(alloc, [1, 2, 3, 4], 5);
         let held = all!(
             (pool.open(1, 3), pool.open(2, 1)) == (Ok(()), Ok(())),
             (pool.put(&1, 7, 2), pool.put(&2, 8, 3)) == (Ok(true), Ok(true)),
@@ -200,10 +200,10 @@ fn of_pool() {
 fn of_pool_2() {
     let run = |rt: HostRuntime| -> Result<(), Fail> {
         let alloc = rt.alloc();
-        let mut pool: TenantPool<u64, u64, u64> = TenantPool::new(alloc, [1, 2, 3, 4], 32, 5);
+        let mut pool: TenantPool<u64, u64, u64> = TenantPool::new(alloc, [1, 2, 3, 4], 5);
         let held = pool.is_empty();
         let mut weighed: TenantPool<u64, u64, u64, ByWeight<16>, _> =
-            TenantPool::with_hasher(alloc, crate::rattle_std::collections::hash_map::RandomState::new(&rt)?, 32, 40);
+            TenantPool::with_hasher(alloc, crate::rattle_std::collections::hash_map::RandomState::new(&rt)?, 40);
         let held =
             held & all!((weighed.open(1, 0), weighed.put(&1, 7, 2)) == (Ok(()), Ok(true)), weighed.cost(&1) == Ok(25));
         check!(rt; held);
@@ -216,7 +216,7 @@ fn of_pool_2() {
 fn of_runs() {
     let run = |rt: HostRuntime| -> Result<(), Fail> {
         let alloc = rt.alloc();
-        let mut cache: TenantCache<u64, u64, u64> = TenantCache::new(alloc, [1, 2, 3, 4], 32);
+        let mut cache: TenantCache<u64, u64, u64> = TenantCache::new(alloc, [1, 2, 3, 4]);
         let calls = vec![in alloc;
             TenantCall::Open(1, 3),
             TenantCall::Put(1, 7, 1),

@@ -26,7 +26,7 @@ fn a_list_takes_the_memory_of_its_answers() {
     let run = |rt: HostRuntime| -> Result<(), Fail> {
         let list = size_of::<TenantCall<u64, u64, u64>>();
         let answers = size_of::<TenantAnswer<u64>>();
-        let mut cache = TenantCache::new(rt.alloc(), [1, 2, 3, 4], 16);
+        let mut cache = TenantCache::new(rt.alloc(), [1, 2, 3, 4]);
         let mut hog = Hog::new(rt.alloc(), &[list, answers])?;
         hog.release();
         let without = lists_made(rt.alloc(), &mut cache);

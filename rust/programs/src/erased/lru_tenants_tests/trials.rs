@@ -27,7 +27,7 @@ fn open_all(alloc: Global, cache: &mut Cache) -> usize {
 fn a_hundred_thousand_tenants() {
     let run = |rt: HostRuntime| -> () {
         let hasher = RandomState::with_seeds([1, 2, 3, 4]);
-        let mut cache = TenantCache::with_hasher(rt.alloc(), hasher, 32);
+        let mut cache = TenantCache::with_hasher(rt.alloc(), hasher);
         check!(rt; open_all(rt.alloc(), &mut cache) == TENANTS as usize);
         for name in 0..TENANTS {
             check!(rt; cache.put(&name, 1, 4) == Ok(true));

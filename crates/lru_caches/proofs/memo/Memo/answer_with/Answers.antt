@@ -1,18 +1,45 @@
-use Rattle.std.proofs.Common.{sym, subst}
-use Rattle.std.specs.Fn.{FnReturnsAt}
-use Rattle.lru_caches.specs.Answers.{AreAnswers, IsAnswer, Remembers}
+use Rattle.std.proofs.Common.{refl, sym, subst}
+use Rattle.std.proofs.lemmas.Fn.{says_at}
+use Rattle.std.specs.Fn.{FnReturnsAt, FnOnceReturnsAt}
+use Rattle.std.specs.Prelude.{IfSome}
+use Rattle.lru_model.specs.Calls.{found}
+use Rattle.lru_caches.specs.Answers.{AreAnswers}
+use Rattle.lru_caches.proofs.StoredAnswers.{got_answer, inserted_answer}
 use Rattle.lru_caches.proofs.memo.Memo.answer_with.Goals as goal
 
-pub read_remembered-requires-clause-known : goal.read_remembered-requires-clause-known
-read_remembered-requires-clause-known g c =
-    subst (λ m. AreAnswers g.K.PartialEq.eq (FnReturnsAt g.F.Fn m.function) m.map.pairs) (sym c.self.view_is) c.requires.known
+pub returns-in-Some : goal.returns-in-Some
+returns-in-Some g c =
+    let value = c.in-Some.value.now in
+    let there = sym c.in-Some.ensures.value in
+    let known = subst (λ m. AreAnswers g.K.PartialEq.eq (FnReturnsAt g.F.Fn m.function) m.map.pairs)
+    (sym c.self.view_is) c.requires.known in
+    let got = got_answer g.L.Limiter.rules g.L.Insertion.offers g.met.K.Eq.laws g.S.KeyHasher.hash_of
+    (FnReturnsAt g.F.Fn c.self.inside.function) c.args.key value c.self.inside.map known there in
+    rw (← c.self.view_is) (record {
+      answer = (value, got.answer, got.step, (_, c.read.ensures, refl));
+      map = c.in-Some.ensures.map _ (found value value there refl refl);
+      stored = subst (λ o. IfSome o (λ v. FnOnceReturnsAt g.U.FnOnce c.args.read v c.read.result))
+          c.in-Some.ensures.value (_, c.read.ensures, refl);
+      known = got.known;
+      function = refl;
+    })
 
-pub returns-clause-answer : goal.returns-clause-answer
-returns-clause-answer g c =
-    let (value, is, step, used) = c.read_remembered.ensures.answer in (
-      value,
-      subst (λ m. IsAnswer g.K.PartialEq.eq (FnReturnsAt g.F.Fn m.function) c.args.key value) c.self.view_is is,
-      subst (λ m. Remembers g.L.Limiter.rules g.L.Insertion.offers g.K.PartialEq.eq g.S.KeyHasher.hash_of c.args.key
-          value m.map c.read_remembered.new.map) c.self.view_is step,
-      used,
-    )
+pub returns : goal.returns
+returns g c =
+    let value = c.call-value.result in
+    let none = sym c.in_default.ensures.value in
+    let known = subst (λ m. AreAnswers g.K.PartialEq.eq (FnReturnsAt g.F.Fn m.function) m.map.pairs)
+    (sym c.self.view_is) c.requires.known in
+    let insert = c.insert.ensures in
+    let made = inserted_answer g.L.Limiter.rules g.L.Insertion.offers g.met.K.Eq.laws g.S.KeyHasher.hash_of
+    (FnReturnsAt g.F.Fn c.self.inside.function) c.args.key value c.self.inside.map known c.self.invariant
+    (says_at g.F.Fn c.call-value.ensures refl) c.insert.result c.insert.new.self
+    (c.inserts_evict_the_oldest.ensures c.args.key value c.self.inside.map c.insert.result c.insert.new.self insert.step)
+    insert.ends none insert.step in
+    rw (← c.self.view_is) (record {
+      answer = (value, made.answer, made.step, (_, c.read-result.ensures, refl));
+      map = insert.map;
+      stored = subst (λ o. IfSome o (λ v. FnOnceReturnsAt g.U.FnOnce c.args.read v c.read-result.result)) (sym none) tt;
+      known = made.known;
+      function = refl;
+    })

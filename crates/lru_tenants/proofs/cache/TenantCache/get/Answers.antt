@@ -52,7 +52,7 @@ returns-in-Some-get g c =
           Some left,
           gets,
           leaves-written named (g.met.T.LookupKey.laws.one c.args.name.now) g.met.N.Eq.laws c.self.inside.hasher
-              c.self.inside.entry_bytes c.self.inside.total_limit c.self.inside.tenants.pairs map left there,
+              c.self.inside.total_limit c.self.inside.tenants.pairs map left there,
         ),
       ),
       record { leaves = tt; value = gets.0 },
@@ -75,7 +75,7 @@ returns-in-None g c =
           Some map,
           gets,
           leaves-written named (g.met.T.LookupKey.laws.one c.args.name.now) g.met.N.Eq.laws c.self.inside.hasher
-              c.self.inside.entry_bytes c.self.inside.total_limit c.self.inside.tenants.pairs map map there,
+              c.self.inside.total_limit c.self.inside.tenants.pairs map map there,
         ),
       ),
       record { leaves = tt; value = gets.0 },

@@ -1,11 +1,14 @@
-use Rattle.std.proofs.Common.{rules, ◌+◌, ◌∷◌, inl, inr, Some, None, Ok, Err, arith, sym, refl, ◌∙◌, ap, subst}
+use Rattle.std.proofs.Common.{rules, ◌+◌, ◌∷◌, Some, None, Ok, Err, arith, sym, refl, ◌∙◌, ap, subst}
 use Rattle.std.proofs.lemmas.List.Sums.{sum_by-cons}
 use Rattle.std.specs.Map.{values_of}
+use denote.Param.{copied, param}
+use Rattle.ordered_table.specs.EntrySize.{entry_size}
 use Rattle.lru_tenants.specs.Cache.{tenant, fresh, is_above}
 use Rattle.lru_tenants.specs.Inside.{Holds}
 use Rattle.lru_tenants.specs.TenantRuns.{Opens}
 use Rattle.lru_tenants.specs.declared.error.TenantError.TheVariants.{Memory, OverTotal}
 use Rattle.lru_tenants.proofs.Changes.{cache_of, leaves-same, leaves-opened, on-from, open-again, absent-from}
+use Rattle.lru_tenants.proofs.Changes.{opens-over, opens-unmade, opens-made}
 use Rattle.lru_tenants.proofs.Kept.{kept-opened, sum-fits, sum-more}
 use Rattle.lru_tenants.proofs.cache.TenantCache.open.Goals as goal
 
@@ -17,28 +20,20 @@ overflow_add-sum g c = omega (
 
 pub returns-then-contains-clause-opens : goal.returns-then-contains-clause-opens
 returns-then-contains-clause-opens g c =
-    let cache = cache_of c.self.inside.tenants.pairs c.self.inside.hasher c.self.inside.entry_bytes
-    c.self.inside.total_limit in
-    rw (← c.self.view_is) (open-again g.met.N.Eq.laws c.args.name
-    (fresh g.L.Budgeted.made (g.L.LinkType.LinkType.number g.L.LinkType.LinkType.MAX) cache c.args.budget) _ cache
+    let cache = cache_of c.self.inside.tenants.pairs c.self.inside.hasher c.self.inside.total_limit in
+    rw (← c.self.view_is) (open-again g.met.N.Eq.laws c.args.name _ _ cache
     (sym c.contains.ensures ∙ c.if-contains.true))
 
 pub returns-then-is_above-clause-opens : goal.returns-then-is_above-clause-opens
 returns-then-is_above-clause-opens g c =
-    let cache = cache_of c.self.inside.tenants.pairs c.self.inside.hasher c.self.inside.entry_bytes
-    c.self.inside.total_limit in
+    let cache = cache_of c.self.inside.tenants.pairs c.self.inside.hasher c.self.inside.total_limit in
     let eq = g.N.PartialEq.eq c.args.name in
     let absent = absent-from (tenant eq cache) (sym c.contains.ensures ∙ c.if-contains.false) in
     let over = ap (is_above c.self.inside.total_limit)
-    (sym (sum-more c.self.inside.tenants.pairs c.self.invariant eq absent c.self.inside.hasher
-    c.self.inside.entry_bytes c.args.budget))
+    (sym (sum-more c.self.inside.tenants.pairs c.self.invariant eq absent c.self.inside.hasher c.args.budget))
     ∙ sym c.is_above.ensures ∙ c.if-is_above.true in
-    rw (← c.self.view_is) (on-from
-    (Opens _ (fresh g.L.Budgeted.made (g.L.LinkType.LinkType.number g.L.LinkType.LinkType.MAX) cache
-    c.args.budget)) (Err OverTotal) cache cache None (tenant eq cache) absent
-    (subst (λ b. Opens b (fresh g.L.Budgeted.made (g.L.LinkType.LinkType.number g.L.LinkType.LinkType.MAX) cache
-    c.args.budget) None (Err OverTotal) (tenant eq cache)) (sym over) (refl, absent))
-    (leaves-same eq (g.met.N.Eq.laws.congr c.args.name) cache))
+    rw (← c.self.view_is) (on-from (Opens _ _) (Err OverTotal) cache cache None (tenant eq cache) absent
+    (opens-over _ over absent) (leaves-same eq (g.met.N.Eq.laws.congr c.args.name) cache))
 
 pub invariant_of-self-2 : goal.invariant_of-self-2
 invariant_of-self-2 g c = subst (λ entries. Holds g.K.PartialEq.eq g.L.Summing.cost_of g.L.Summing.account
@@ -65,40 +60,33 @@ returns-clause-total g c = rw (c.in-Ok.ensures.ends.added, ← c.self.view_is) (
 
 pub returns-clause-opens : goal.returns-clause-opens
 returns-clause-opens g c =
-    let cache = cache_of c.self.inside.tenants.pairs c.self.inside.hasher c.self.inside.entry_bytes
-    c.self.inside.total_limit in
+    let cache = cache_of c.self.inside.tenants.pairs c.self.inside.hasher c.self.inside.total_limit in
     let eq = g.N.PartialEq.eq c.args.name in
     let absent = absent-from (tenant eq cache) (sym c.contains.ensures ∙ c.if-contains.false) in
     let over = ap (is_above c.self.inside.total_limit)
-    (sym (sum-more c.self.inside.tenants.pairs c.self.invariant eq absent c.self.inside.hasher
-    c.self.inside.entry_bytes c.args.budget))
+    (sym (sum-more c.self.inside.tenants.pairs c.self.invariant eq absent c.self.inside.hasher c.args.budget))
     ∙ sym c.is_above.ensures ∙ c.if-is_above.false in
-    let made = fresh g.L.Budgeted.made (g.L.LinkType.LinkType.number g.L.LinkType.LinkType.MAX) cache c.args.budget in
     let map = c.fresh-map.result in
-    let is = c.fresh-map.ensures.map ∙ ap
-    (λ k. fresh g.L.Budgeted.made (g.L.LinkType.LinkType.number g.L.LinkType.LinkType.MAX) k c.args.budget)
+    let is = c.fresh-map.ensures.map ∙ ap (λ k. fresh g.L.Budgeted.made (entry_size (param 1 g.row.K) (param 2 g.row.V)
+    (copied 5 g.row.L-LinkType)) (g.L.LinkType.LinkType.number g.L.LinkType.LinkType.MAX) k c.args.budget)
     (sym c.self.view_is) in
-    rw (c.in-Ok.ensures.ends.added, ← c.self.view_is) (on-from (Opens _ made) (Ok tt) cache
-    (cache_of ((c.args.name, map) ∷ c.self.inside.tenants.pairs) c.self.inside.hasher c.self.inside.entry_bytes
-    c.self.inside.total_limit) None (Some map) absent
-    (subst (λ b. Opens b made None (Ok tt) (Some map)) (sym over) (inl (refl, ap Some is)))
-    (leaves-opened g.met.N.Eq.laws c.args.name map c.self.inside.hasher c.self.inside.entry_bytes
-    c.self.inside.total_limit c.self.inside.tenants.pairs))
+    rw (c.in-Ok.ensures.ends.added, ← c.self.view_is) (on-from (Opens _ _) (Ok tt) cache
+    (cache_of ((c.args.name, map) ∷ c.self.inside.tenants.pairs) c.self.inside.hasher c.self.inside.total_limit)
+    None (Some map) absent
+    (opens-made _ over (ap Some is))
+    (leaves-opened g.met.N.Eq.laws c.args.name map c.self.inside.hasher c.self.inside.total_limit
+    c.self.inside.tenants.pairs))
 
 pub returns-in_default : goal.returns-in_default
 returns-in_default g c =
-    let cache = cache_of c.self.inside.tenants.pairs c.self.inside.hasher c.self.inside.entry_bytes
-    c.self.inside.total_limit in
+    let cache = cache_of c.self.inside.tenants.pairs c.self.inside.hasher c.self.inside.total_limit in
     let eq = g.N.PartialEq.eq c.args.name in
     let absent = absent-from (tenant eq cache) (sym c.contains.ensures ∙ c.if-contains.false) in
     let over = ap (is_above c.self.inside.total_limit)
-    (sym (sum-more c.self.inside.tenants.pairs c.self.invariant eq absent c.self.inside.hasher
-    c.self.inside.entry_bytes c.args.budget))
+    (sym (sum-more c.self.inside.tenants.pairs c.self.invariant eq absent c.self.inside.hasher c.args.budget))
     ∙ sym c.is_above.ensures ∙ c.if-is_above.false in
-    let made = fresh g.L.Budgeted.made (g.L.LinkType.LinkType.number g.L.LinkType.LinkType.MAX) cache c.args.budget in
     rw (c.in_default.ensures.ends.keeps, ← c.self.view_is) (record {
-      opens = on-from (Opens _ made) (Err Memory) cache cache None (tenant eq cache) absent
-          (subst (λ b. Opens b made None (Err Memory) (tenant eq cache)) (sym over) (inr (refl, absent)))
+      opens = on-from (Opens _ _) (Err Memory) cache cache None (tenant eq cache) absent (opens-unmade _ over absent)
           (leaves-same eq (g.met.N.Eq.laws.congr c.args.name) cache);
       total = search rules;
       unchanged = refl;

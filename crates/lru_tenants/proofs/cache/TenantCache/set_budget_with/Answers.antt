@@ -40,7 +40,7 @@ returns-then-is_above g c = let own = c.in-Some.own.now in
     let there = sym c.in-Some.ensures.value in
     let over = ap (is_above c.self.inside.total_limit)
     (sym (sum-with c.self.inside.tenants.pairs c.self.invariant names own there c.self.inside.hasher
-    c.self.inside.entry_bytes c.budget.result c.args.budget
+    c.budget.result c.args.budget
     (c.budget.ensures ∙ ap g.L.Budgeted.budget_of c.limiter.ensures))) ∙ sym c.is_above.ensures ∙
     c.if-is_above.true in
     rw (← c.self.view_is) (record {
@@ -53,7 +53,6 @@ returns-then-is_above g c = let own = c.in-Some.own.now in
       unchanged = ap (λ entries. record {
         tenants = entries;
         hasher = c.self.inside.hasher;
-        entry_bytes = c.self.inside.entry_bytes;
         total_limit = c.self.inside.total_limit;
       }) (set_value_same names c.self.inside.tenants.pairs own there);
       passed = (
@@ -91,7 +90,7 @@ returns g c = let u = c.set_budget.new.map in
     let budget = c.budget.ensures ∙ ap g.L.Budgeted.budget_of c.limiter.ensures in
     let (passed, takes, passes) = c.set_budget.ensures.passed in
     let with = sum-with c.self.inside.tenants.pairs c.self.invariant names own there c.self.inside.hasher
-    c.self.inside.entry_bytes c.budget.result c.args.budget budget in
+    c.budget.result c.args.budget budget in
     let over = ap (is_above c.self.inside.total_limit) (sym with) ∙ sym c.is_above.ensures ∙ c.if-is_above.false in
     rw (← c.self.view_is) (record {
       sets = on-written g.met.T.LookupKey.laws c.args.name.now

@@ -81,12 +81,12 @@ pub returns-in_default-clause-leaves : goal.returns-in_default-clause-leaves
 returns-in_default-clause-leaves g c =
     rw (ap (λ st. st.pairs) c.remove.ensures.step.state.is, ← c.self.view_is)
     (leaves-removed (g.T.LookupKey.names c.args.name.now) (g.met.T.LookupKey.laws.one c.args.name.now)
-    g.met.N.Eq.laws c.self.inside.hasher c.self.inside.entry_bytes c.self.inside.total_limit
+    g.met.N.Eq.laws c.self.inside.hasher c.self.inside.total_limit
     c.self.inside.tenants.pairs c.len-len.ensures.map.distinct)
 
 pub returns-clause-leaves : goal.returns-clause-leaves
 returns-clause-leaves g c =
     rw (ap (λ st. st.pairs) c.remove.ensures.step.state.is, ← c.self.view_is)
     (leaves-removed (g.T.LookupKey.names c.args.name.now) (g.met.T.LookupKey.laws.one c.args.name.now)
-    g.met.N.Eq.laws c.self.inside.hasher c.self.inside.entry_bytes c.self.inside.total_limit
+    g.met.N.Eq.laws c.self.inside.hasher c.self.inside.total_limit
     c.self.inside.tenants.pairs c.len-len.ensures.map.distinct)

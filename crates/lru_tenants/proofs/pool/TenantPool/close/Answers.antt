@@ -20,7 +20,7 @@ invariant_of-self g c =
 
 pub returns-in_default-clause-pool : goal.returns-in_default-clause-pool
 returns-in_default-clause-pool g c =
-    is_pool _ (invariant_of-self g c) c.self.inside.hasher c.self.inside.entry_bytes
+    is_pool _ (invariant_of-self g c) c.self.inside.hasher
 
 pub returns-in_default-clause-closes : goal.returns-in_default-clause-closes
 returns-in_default-clause-closes g c =
@@ -28,7 +28,7 @@ returns-in_default-clause-closes g c =
     let found : c.remove.result ≡ lookup names ps = c.remove.ensures.step.value
     ∙ ap (option_map (λ p. p.1)) (option_map_id _) ∙ sym (lookup-entry names ps) in
     rw (ap (λ st. st.pairs) c.remove.ensures.step.state.is, ← c.self.view_is)
-    (closed-same (Err NotOpen) (OfOpen Closes) c.self.inside.limit c.self.inside.hasher c.self.inside.entry_bytes ps
+    (closed-same (Err NotOpen) (OfOpen Closes) c.self.inside.limit c.self.inside.hasher ps
     (sym found ∙ c.in_default.is) (refl, refl))
 
 pub overflow_sub-self : goal.overflow_sub-self
@@ -60,7 +60,7 @@ invariant_of-self-2 g c =
     (sym c.cost_of.ensures) (pool-removed ps c.self.invariant names c.in-Some.own (sym found ∙ c.in-Some.is)))
 
 pub returns-clause-pool : goal.returns-clause-pool
-returns-clause-pool g c = is_pool _ (invariant_of-self-2 g c) c.self.inside.hasher c.self.inside.entry_bytes
+returns-clause-pool g c = is_pool _ (invariant_of-self-2 g c) c.self.inside.hasher
 
 pub returns-clause-closes : goal.returns-clause-closes
 returns-clause-closes g c =
@@ -69,8 +69,8 @@ returns-clause-closes g c =
     ∙ ap (option_map (λ p. p.1)) (option_map_id _) ∙ sym (lookup-entry names ps) in
     let there = sym found ∙ c.in-Some.is in
     rw (ap (λ st. st.pairs) c.remove.ensures.step.state.is, ← c.self.view_is)
-    (on-from (OfOpen Closes) _ (pool_of ps c.self.inside.limit c.self.inside.hasher c.self.inside.entry_bytes)
-    (pool_of (without names ps) c.self.inside.limit c.self.inside.hasher c.self.inside.entry_bytes)
+    (on-from (OfOpen Closes) _ (pool_of ps c.self.inside.limit c.self.inside.hasher)
+    (pool_of (without names ps) c.self.inside.limit c.self.inside.hasher)
     (Some c.in-Some.own) None there (ap Ok c.len.ensures.len, refl)
     (leaves-removed g.met.N.Eq.laws names (g.met.T.LookupKey.laws.one c.args.name.now) c.self.inside.limit
-    c.self.inside.hasher c.self.inside.entry_bytes ps c.in-Some.own there c.len-len.ensures.map.distinct))
+    c.self.inside.hasher ps c.in-Some.own there c.len-len.ensures.map.distinct))

@@ -52,7 +52,7 @@ returns-in-Some-get g c =
           Some (with_map left was),
           gets,
           leaves-written g.met.N.Eq.laws named (g.met.T.LookupKey.laws.one c.args.name.now) c.self.inside.limit
-              c.self.inside.hasher c.self.inside.entry_bytes c.self.inside.tenants.pairs was (with_map left was)
+              c.self.inside.hasher c.self.inside.tenants.pairs was (with_map left was)
               there,
         ),
       ),
@@ -76,7 +76,7 @@ returns-in-None g c =
           Some (with_map was.1 was),
           gets,
           leaves-written g.met.N.Eq.laws named (g.met.T.LookupKey.laws.one c.args.name.now) c.self.inside.limit
-              c.self.inside.hasher c.self.inside.entry_bytes c.self.inside.tenants.pairs was (with_map was.1 was)
+              c.self.inside.hasher c.self.inside.tenants.pairs was (with_map was.1 was)
               there,
         ),
       ),

@@ -23,7 +23,7 @@ returns-in_default-clause-spares g c = rw (← c.self.view_is) (λ other apart. 
 
 pub returns-in_default-clause-pool : goal.returns-in_default-clause-pool
 returns-in_default-clause-pool g c =
-    is_pool c.self.inside.tenants.pairs c.self.invariant c.self.inside.hasher c.self.inside.entry_bytes
+    is_pool c.self.inside.tenants.pairs c.self.invariant c.self.inside.hasher
 
 pub insert-inserted-requires-clause-tenant : goal.insert-inserted-requires-clause-tenant
 insert-inserted-requires-clause-tenant g c = (own-part c.self.inside.tenants.pairs c.self.invariant
@@ -73,7 +73,7 @@ invariant_of-self-in_default-inserted g c =
 
 pub returns-in_default-inserted-clause-pool : goal.returns-in_default-inserted-clause-pool
 returns-in_default-inserted-clause-pool g c =
-    is_pool _ (invariant_of-self-in_default-inserted g c) c.self.inside.hasher c.self.inside.entry_bytes
+    is_pool _ (invariant_of-self-in_default-inserted g c) c.self.inside.hasher
 
 pub returns-in_default-inserted-clause-spares : goal.returns-in_default-inserted-clause-spares
 returns-in_default-inserted-clause-spares g c =
@@ -92,8 +92,7 @@ returns-in_default-inserted-clause-puts g c =
     let rules = g.L.Limiter.rules in let offers = offers_of g.L.Admission.terms in
     rw (← c.self.view_is) (puts-open names (Puts rules offers g.L.Summing.account g.N.PartialEq.eq g.K.PartialEq.eq
     g.S.KeyHasher.hash_of names c.args.key c.args.value) _ _
-    (pool_of (set_value names ps (with_map left was)) c.self.inside.limit c.self.inside.hasher
-    c.self.inside.entry_bytes) was (sym c.in-Some.ensures.value) (record {
+    (pool_of (set_value names ps (with_map left was)) c.self.inside.limit c.self.inside.hasher) was (sym c.in-Some.ensures.value) (record {
       left = left;
       result = Err c.in_default-inserted.field-0;
       inserts = subst (λ r. Insert rules offers g.K.PartialEq.eq g.S.KeyHasher.hash_of c.args.key c.args.value was.1 r
@@ -150,7 +149,7 @@ invariant_of-self-2 g c =
     }
 
 pub returns-clause-pool : goal.returns-clause-pool
-returns-clause-pool g c = is_pool _ (invariant_of-self-2 g c) c.self.inside.hasher c.self.inside.entry_bytes
+returns-clause-pool g c = is_pool _ (invariant_of-self-2 g c) c.self.inside.hasher
 
 pub returns-clause-spares : goal.returns-clause-spares
 returns-clause-spares g c =
@@ -171,7 +170,7 @@ returns-clause-puts g c =
     let kept = c.in-Ok.kept in
     rw (← c.self.view_is) (puts-open names (Puts rules offers g.L.Summing.account g.N.PartialEq.eq g.K.PartialEq.eq
     g.S.KeyHasher.hash_of names c.args.key c.args.value) _ _
-    (pool_of new c.self.inside.limit c.self.inside.hasher c.self.inside.entry_bytes) was there (record {
+    (pool_of new c.self.inside.limit c.self.inside.hasher) was there (record {
       left = left;
       result = Ok kept;
       inserts = subst (λ r. Insert rules offers g.K.PartialEq.eq g.S.KeyHasher.hash_of c.args.key c.args.value was.1 r

@@ -14,7 +14,7 @@ returns-in_default-clause-removes g c = rw (← c.self.view_is)
 
 pub returns-in_default-clause-pool : goal.returns-in_default-clause-pool
 returns-in_default-clause-pool g c =
-    is_pool c.self.inside.tenants.pairs c.self.invariant c.self.inside.hasher c.self.inside.entry_bytes
+    is_pool c.self.inside.tenants.pairs c.self.invariant c.self.inside.hasher
 
 pub remove-value-requires : goal.remove-value-requires
 remove-value-requires g c = (own-part c.self.inside.tenants.pairs c.self.invariant
@@ -62,7 +62,7 @@ invariant_of-self-2 g c =
     (omega (arith, c.cost_of-before.ensures, c.cost_of-after.ensures, least, falls, c.self.invariant.within))
 
 pub returns-clause-pool : goal.returns-clause-pool
-returns-clause-pool g c = is_pool _ (invariant_of-self-2 g c) c.self.inside.hasher c.self.inside.entry_bytes
+returns-clause-pool g c = is_pool _ (invariant_of-self-2 g c) c.self.inside.hasher
 
 pub returns-clause-removes : goal.returns-clause-removes
 returns-clause-removes g c =
@@ -71,10 +71,9 @@ returns-clause-removes g c =
     let there = sym c.in-Some.ensures.value in
     rw (← c.self.view_is)
     (on-from (OfOpen (Removes g.L.Limiter.rules (g.Q.LookupKey.names c.args.key.now))) (Ok c.remove-value.result)
-    (pool_of ps c.self.inside.limit c.self.inside.hasher c.self.inside.entry_bytes)
-    (pool_of (set_value names ps (with_map left was)) c.self.inside.limit c.self.inside.hasher
-    c.self.inside.entry_bytes)
+    (pool_of ps c.self.inside.limit c.self.inside.hasher)
+    (pool_of (set_value names ps (with_map left was)) c.self.inside.limit c.self.inside.hasher)
     (Some was) (Some (with_map left was)) there
     (c.remove-value.result, left, c.remove-value.ensures.removes, refl, refl)
     (leaves-written g.met.N.Eq.laws names (g.met.T.LookupKey.laws.one c.args.name.now) c.self.inside.limit
-    c.self.inside.hasher c.self.inside.entry_bytes ps was (with_map left was) there))
+    c.self.inside.hasher ps was (with_map left was) there))

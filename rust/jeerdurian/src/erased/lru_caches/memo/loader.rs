@@ -34,17 +34,17 @@ impl<K: Eq + Hash, V, E, F: Fn(&K) -> Result<V, E>, L: Insertion<K, V, K>> Loade
 }
 
 impl<K: Eq + Hash, V, E, F: Fn(&K) -> Result<V, E>, L: Insertion<K, V, K>, S: KeyHasher<K>> Loader<K, V, F, L, S> {
-    /// Makes a loader of a function, with a hasher of keys. `LruMap::with_hasher` explains `entry_bytes`.
+    /// Makes a loader of a function, with a hasher of keys.
     ///
     /// ```text
     /// let seeded = RandomState::with_seeds([5, 6, 7, 8]);
-    /// let empty = Loader::with_hasher(alloc, ByLength::new(9), seeded, 24, |n: &u64| n.checked_add(1).ok_or(*n));
+    /// let empty = Loader::with_hasher(alloc, ByLength::new(9), seeded, |n: &u64| n.checked_add(1).ok_or(*n));
     /// assert!(rt; empty.is_empty());
     /// ```
     ///
     /// Cost: `O(1)`, and no memory.
-    pub fn with_hasher(alloc: Global, limiter: L, hasher: S, entry_bytes: usize, function: F) -> Self {
-        Loader { map: LruMap::with_hasher(alloc, limiter, hasher, entry_bytes), function }
+    pub fn with_hasher(alloc: Global, limiter: L, hasher: S, function: F) -> Self {
+        Loader { map: LruMap::with_limiter_and_hasher(alloc, limiter, hasher), function }
     }
 
     /// Returns how many values are stored.
@@ -64,7 +64,7 @@ impl<K: Eq + Hash, V, E, F: Fn(&K) -> Result<V, E>, L: Insertion<K, V, K>, S: Ke
     ///
     /// ```text
     /// let seeded = RandomState::with_seeds([5, 6, 7, 8]);
-    /// let empty = Loader::with_hasher(alloc, ByLength::new(9), seeded, 24, |n: &u64| n.checked_add(1).ok_or(*n));
+    /// let empty = Loader::with_hasher(alloc, ByLength::new(9), seeded, |n: &u64| n.checked_add(1).ok_or(*n));
     /// assert!(rt; empty.is_empty());
     /// ```
     pub fn is_empty(&self) -> bool {
@@ -108,35 +108,17 @@ impl<K: Eq + Hash, V, E, F: Fn(&K) -> Result<V, E>, L: Insertion<K, V, K>, S: Ke
     ///
     /// As `load`. After an error, the closure is not called.
     pub fn load_with<R, U: FnOnce(&V) -> R>(&mut self, key: K, read: U) -> Result<R, E> {
-        read_loaded(&mut self.map, &self.function, key, read)
-    }
-}
-
-fn read_loaded<
-    K: Eq + Hash,
-    V,
-    E,
-    F: Fn(&K) -> Result<V, E>,
-    L: Insertion<K, V, K>,
-    S: KeyHasher<K>,
-    R,
-    U: FnOnce(&V) -> R,
->(
-    map: &mut LruMap<K, V, L, S>,
-    function: &F,
-    key: K,
-    read: U,
-) -> Result<R, E> {
-    laws::inserts_evict_the_oldest::<K, V, K, L, S>();
-    if let Some(value) = map.get(&key) {
-        return Ok(read(&*value));
-    }
-    match function(&key) {
-        Ok(value) => {
-            let given = read(&value);
-            let _ = map.insert(key, value);
-            Ok(given)
+        laws::inserts_evict_the_oldest::<K, V, K, L, S>();
+        if let Some(value) = self.map.get(&key) {
+            return Ok(read(&*value));
         }
-        Err(error) => Err(error),
+        match (self.function)(&key) {
+            Ok(value) => {
+                let given = read(&value);
+                let _ = self.map.insert(key, value);
+                Ok(given)
+            }
+            Err(error) => Err(error),
+        }
     }
 }

@@ -49,17 +49,17 @@ impl<K: Eq + Hash, V, Q: Question<K, V>, L: Insertion<K, V, K>> MemoTable<K, V, 
 }
 
 impl<K: Eq + Hash, V, Q: Question<K, V>, L: Insertion<K, V, K>, S: KeyHasher<K>> MemoTable<K, V, Q, L, S> {
-    /// Makes an empty table, with a hasher of keys. `LruMap::with_hasher` explains `entry_bytes`.
+    /// Makes an empty table, with a hasher of keys.
     ///
     /// ```text
     /// let seeded = RandomState::with_seeds([5, 6, 7, 8]);
-    /// let empty = MemoTable::with_hasher(alloc, ByLength::new(9), seeded, 24, Squares);
+    /// let empty = MemoTable::with_hasher(alloc, ByLength::new(9), seeded, Squares);
     /// assert!(rt; empty.is_empty());
     /// ```
     ///
     /// Cost: `O(1)`, and no memory.
-    pub fn with_hasher(alloc: Global, limiter: L, hasher: S, entry_bytes: usize, question: Q) -> Self {
-        MemoTable { map: LruMap::with_hasher(alloc, limiter, hasher, entry_bytes), question }
+    pub fn with_hasher(alloc: Global, limiter: L, hasher: S, question: Q) -> Self {
+        MemoTable { map: LruMap::with_limiter_and_hasher(alloc, limiter, hasher), question }
     }
 
     /// Returns how many answers are stored.
@@ -79,7 +79,7 @@ impl<K: Eq + Hash, V, Q: Question<K, V>, L: Insertion<K, V, K>, S: KeyHasher<K>>
     ///
     /// ```text
     /// let seeded = RandomState::with_seeds([5, 6, 7, 8]);
-    /// let empty = MemoTable::with_hasher(alloc, ByLength::new(9), seeded, 24, Squares);
+    /// let empty = MemoTable::with_hasher(alloc, ByLength::new(9), seeded, Squares);
     /// assert!(rt; empty.is_empty());
     /// ```
     pub fn is_empty(&self) -> bool {
@@ -111,7 +111,8 @@ impl<K: Eq + Hash, V, Q: Question<K, V>, L: Insertion<K, V, K>, S: KeyHasher<K>>
     ///
     /// Cost: as `get`, and a call of the closure.
     pub fn get_with<R, U: FnOnce(&V) -> R>(&mut self, key: &K, read: U) -> Option<R> {
-        read_stored::<K, V, Q, L, S, R, U>(&mut self.map, key, read)
+        let value = self.map.get(key)?;
+        Some(read(&*value))
     }
 
     /// Stores an answer at a key as the newest, and returns true. If memory runs out, or a limit prevents this, returns
@@ -123,26 +124,7 @@ impl<K: Eq + Hash, V, Q: Question<K, V>, L: Insertion<K, V, K>, S: KeyHasher<K>>
     ///
     /// Cost: an insert.
     pub fn store(&mut self, key: K, value: V) -> bool {
-        keep::<K, V, Q, L, S>(&mut self.map, key, value)
+        laws::inserts_evict_the_oldest::<K, V, K, L, S>();
+        self.map.insert(key, value).unwrap_or(false)
     }
-}
-
-fn read_stored<K: Eq + Hash, V, Q: Question<K, V>, L: Insertion<K, V, K>, S: KeyHasher<K>, R, U: FnOnce(&V) -> R>(
-    map: &mut LruMap<K, V, L, S>,
-    key: &K,
-    read: U,
-) -> Option<R> {
-    match map.get(key) {
-        Some(value) => Some(read(&*value)),
-        None => None,
-    }
-}
-
-fn keep<K: Eq + Hash, V, Q: Question<K, V>, L: Insertion<K, V, K>, S: KeyHasher<K>>(
-    map: &mut LruMap<K, V, L, S>,
-    key: K,
-    value: V,
-) -> bool {
-    laws::inserts_evict_the_oldest::<K, V, K, L, S>();
-    map.insert(key, value).unwrap_or(false)
 }

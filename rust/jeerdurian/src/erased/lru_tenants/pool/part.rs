@@ -35,12 +35,11 @@ pub(super) fn drop_oldest<K: Eq + Hash, V, L: Budgeted<K, V>, S: KeyHasher<K>>(
 pub(super) fn opened<K: Eq + Hash, V, L: Budgeted<K, V>, S: KeyHasher<K>>(
     alloc: Global,
     hasher: S,
-    entry_bytes: usize,
     limit: u64,
     share: u64,
 ) -> Part<K, V, L, S> {
     laws::runs_begin_with_maps::<K, V, L, S>();
     let limiter = L::with_budget(limit);
-    let map = LruMap::with_hasher(alloc, limiter, hasher, entry_bytes);
+    let map = LruMap::with_limiter_and_hasher(alloc, limiter, hasher);
     (share, map)
 }
