@@ -9,12 +9,14 @@
 #[allow(unused_imports)]
 use crate::rattle_std::prelude::*;
 
+mod counted;
 mod device;
 mod file_device;
 mod memo;
 mod ordered_map;
 mod page_cache;
 
+pub use counted::{CountedMap, Counts};
 pub use device::BlockDevice;
 pub use file_device::durable::Durable;
 pub use file_device::hashed::HashedFileDevice;

@@ -1,7 +1,7 @@
 // Erased from crates/ordered_table/src/lib.rt: do not edit.
 //! The table of an LRU map: a bucket table whose entries are in an order, newest first.
 //!
-//! [`OrderedTable`] moves a pair to either end of the order, or takes a pair out, in constant time. It has no limiter.
+//! [`OrderedTable`] moves an entry to either end of the order, or takes it out, in constant time. It has no limiter.
 //! `LruMap` of `schnellru` adds one.
 
 #[allow(unused_imports)]

@@ -25,7 +25,7 @@ pub struct Pair<K, V> {
 /// A table whose full buckets are in an order, newest first. `N` is the type of its links.
 ///
 /// A contract sees a table as its `slots`, the `order` of its full buckets, and its `insertions`. Only `move_to`
-/// computes hashes. The keys fit the table (`KeysFit`) if each pair was inserted with the hash of its key.
+/// computes hashes. The keys fit the table (`KeysFit`) if each entry was inserted with the hash of its key.
 ///
 /// ```text
 /// let hasher = RandomState::default();
@@ -57,7 +57,7 @@ impl<K, V, N: LinkType> OrderedTable<K, V, N> {
         LinkedTable::<K, V, N>::entry_bytes()
     }
 
-    /// Returns the number of pairs.
+    /// Returns the number of entries.
     #[inline]
     pub fn len(&self) -> usize {
         self.linked.len()
@@ -75,25 +75,25 @@ impl<K, V, N: LinkType> OrderedTable<K, V, N> {
         self.linked.growth_left()
     }
 
-    /// Returns how many pairs were put into the table. A moved pair is not counted again.
+    /// Returns how many entries were put into the table. A moved entry is not counted again.
     #[inline]
     pub fn placed(&self) -> u64 {
         self.linked.placed()
     }
 
-    /// Returns the pair in a full bucket.
+    /// Returns the entry in a full bucket.
     #[inline]
     pub fn pair(&self, b: usize) -> &Pair<K, V> {
         self.linked.pair(b)
     }
 
-    /// Returns the bucket of the newest pair. The table must not be empty.
+    /// Returns the bucket of the newest entry. The table must not be empty.
     #[inline]
     pub fn newest(&self) -> usize {
         promoted::newest(&self.linked, self.promoted)
     }
 
-    /// Returns the bucket of the oldest pair. The table must not be empty.
+    /// Returns the bucket of the oldest entry. The table must not be empty.
     #[inline]
     pub fn oldest(&self) -> usize {
         promoted::oldest(&self.linked, self.promoted)
@@ -113,16 +113,16 @@ impl<K, V, N: LinkType> OrderedTable<K, V, N> {
         promoted::newer_unless_first(&self.linked, self.promoted, b)
     }
 
-    /// Lends the pair in a full bucket for writing. If the written key has the same hash, the keys still fit the table.
+    /// Lends the entry in a full bucket for writing. If a written key has the same hash, the keys still fit the table.
     #[inline]
     pub fn pair_mut(&mut self, b: usize) -> &mut Pair<K, V> {
         self.linked.pair_mut(b)
     }
 
-    /// Returns the bucket of the first pair that `f` accepts.
+    /// Returns the bucket of the first entry that `f` accepts.
     ///
-    /// `f` is called with pairs whose tag is the hash's top 7 bits. Only tests show that `f` is called with each pair
-    /// at most once, and not again after it returned true.
+    /// `f` is called with entries whose tag is the hash's top 7 bits. Only tests show that `f` is called with each of
+    /// them at most once, and not again after it returned true.
     ///
     /// Cost: `O(1)` expected.
     #[inline]

@@ -10,7 +10,7 @@ use crate::rattle_std::iter::FusedIterator;
 
 pub(crate) mod keys;
 
-/// A double-ended iterator over the pairs of a table or a map, newest first.
+/// A double-ended iterator over the entries of a table or a map, newest first.
 ///
 /// ```text
 /// let mut walk = map.iter();
@@ -19,7 +19,7 @@ pub(crate) mod keys;
 
 pub struct Walk<'a, K, V, N: LinkType> {
     entries: &'a OrderedTable<K, V, N>,
-    // The buckets of the first and the last pair that is left, and how many pairs are left.
+    // The buckets of the first and the last entry that is left, and how many entries are left.
     front: usize,
     back: usize,
     left: usize,
@@ -85,7 +85,7 @@ impl<'a, K: fmt::Debug, V: fmt::Debug, N: LinkType> fmt::Debug for Walk<'a, K, V
 }
 
 impl<K, V, N: LinkType> OrderedTable<K, V, N> {
-    /// Returns an iterator over the pairs, newest first.
+    /// Returns an iterator over the entries, newest first.
     ///
     /// Cost: `O(1)`, and `O(1)` for each step from either end.
     pub fn iter(&self) -> Walk<'_, K, V, N> {

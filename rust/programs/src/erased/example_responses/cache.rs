@@ -4,6 +4,8 @@
 #[allow(unused_imports)]
 use crate::rattle_std::prelude::*;
 
+use crate::erased::lru_caches::Counts;
+use crate::erased::lru_limits::{Budgeted, Insertion, KeyHasher, Limiter};
 use crate::erased::lru_tenants::{ByWeight, Costed, TenantCache, TenantError};
 use crate::erased::schnellru::RandomState;
 use crate::rattle_std::alloc::Global;
@@ -12,40 +14,33 @@ use crate::rattle_std::collections::BTreeMap;
 /// What an entry costs in addition to the bytes of its path and of its response.
 const OVERHEAD: u64 = 64;
 
-/// A response of `bytes` bytes. It is stale from the time `expires` on.
-#[derive(Clone, Copy)]
+/// A response. It is stale from the time `expires` on.
+
 pub struct Response {
-    pub bytes: u64,
+    pub body: Vec<u8>,
     pub expires: u64,
 }
 
 impl Costed for Response {
     fn cost(&self) -> u64 {
-        self.bytes
+        self.body.len() as u64
     }
-}
-
-/// The counts of a host. A hit is a look-up that found a fresh response. `evictions` also counts entries that were
-/// removed because a new response was rejected.
-#[derive(Clone, Copy, Default)]
-pub struct Counts {
-    pub hits: u64,
-    pub misses: u64,
-    pub evictions: u64,
 }
 
 type Responses = TenantCache<String, String, Response, ByWeight<OVERHEAD>>;
 
-fn fresh_response(entries: &mut Responses, host: &str, path: &str, now: u64) -> Result<Option<Response>, TenantError> {
-    let Some(response) = entries.get(&host, &path)?.copied() else {
-        return Ok(None);
+/// Looks a path up. Returns whether its response is fresh. A stale response is removed.
+fn has_fresh(entries: &mut Responses, host: &str, path: &str, now: u64) -> Result<bool, TenantError> {
+    let expires = match entries.get(&host, &path)? {
+        Some(response) => response.expires,
+        None => return Ok(false),
     };
-    if now < response.expires {
-        return Ok(Some(response));
+    if now < expires {
+        return Ok(true);
     }
     let _len = entries.len();
     entries.remove(&host, &path)?;
-    Ok(None)
+    Ok(false)
 }
 
 fn is_below(path: &String, prefix: &str) -> bool {
@@ -57,6 +52,17 @@ fn owned(alloc: Global, text: &str) -> Result<String, TenantError> {
         Ok(text) => Ok(text),
         Err(_) => Err(TenantError::Memory),
     }
+}
+
+fn put_path(
+    alloc: Global,
+    entries: &mut Responses,
+    host: &str,
+    path: &str,
+    response: Response,
+) -> Result<bool, TenantError> {
+    let path = owned(alloc, path)?;
+    entries.put(&host, path, response)
 }
 
 pub struct ResponseCache {
@@ -78,11 +84,21 @@ impl ResponseCache {
         &self.counts
     }
 
-    fn count(&mut self, host: &str, hits: u64, misses: u64, evictions: u64) {
+    fn count_look_up(&mut self, host: &str, found: bool) {
         if let Some(counts) = self.counts.get_mut(host) {
-            counts.hits = counts.hits.saturating_add(hits);
-            counts.misses = counts.misses.saturating_add(misses);
-            counts.evictions = counts.evictions.saturating_add(evictions);
+            counts.count_look_up(found);
+        }
+    }
+
+    fn count_evicted(&mut self, host: &str, evicted: u64) {
+        if let Some(counts) = self.counts.get_mut(host) {
+            counts.evictions = counts.evictions.saturating_add(evicted);
+        }
+    }
+
+    fn count_put(&mut self, host: &str, stored: &Result<bool, TenantError>, evicted: u64) {
+        if let Some(counts) = self.counts.get_mut(host) {
+            counts.count_insert(stored, evicted);
         }
     }
 
@@ -103,26 +119,48 @@ impl ResponseCache {
         }
         let (after, _) = self.size(host);
         let evicted = before.saturating_sub(after) as u64;
-        self.count(host, 0, 0, evicted);
+        self.count_evicted(host, evicted);
         Ok(("budget set", evicted))
     }
 
-    /// Stores a response. Returns `stored` or `rejected`, and how many old entries were removed.
-    pub fn put(&mut self, host: &str, path: &str, response: Response) -> Result<(&'static str, u64), TenantError> {
-        let path = owned(self.alloc, path)?;
-        let mut evicted = 0u64;
-        let stored = self.entries.put_with(&host, path, response, &mut |_, _| evicted = evicted.saturating_add(1));
-        // If memory ran out, the callback got the new entry, too.
-        let evicted = evicted.saturating_sub(stored.is_err() as u64);
-        self.count(host, 0, 0, evicted);
-        Ok((if stored? { "stored" } else { "rejected" }, evicted))
+    // How many responses the host has, without the response of this path.
+    fn others(&self, host: &str, path: &str) -> u64 {
+        let there = self.entries.contains(&host, &path) == Ok(true);
+        let (entries, _) = self.size(host);
+        entries.saturating_sub(there as usize) as u64
     }
 
-    pub fn look_up(&mut self, host: &str, path: &str, now: u64) -> Result<Option<Response>, TenantError> {
-        let found = fresh_response(&mut self.entries, host, path, now)?;
-        let hits = found.is_some() as u64;
-        self.count(host, hits, found.is_none() as u64, 0);
-        Ok(found)
+    /// Stores a response. Returns whether the host has it afterwards, and how many other responses were evicted.
+    pub fn put(&mut self, host: &str, path: &str, response: Response) -> (Result<bool, TenantError>, u64) {
+        let before = self.others(host, path);
+        let stored = put_path(self.alloc, &mut self.entries, host, path, response);
+        let evicted = before.saturating_sub(self.others(host, path));
+        self.count_put(host, &stored, evicted);
+        (stored, evicted)
+    }
+
+    fn look_up(&mut self, host: &str, path: &str, now: u64) -> Result<bool, TenantError> {
+        let found = has_fresh(&mut self.entries, host, path, now);
+        self.count_look_up(host, found == Ok(true));
+        found
+    }
+
+    fn copy(&self, host: &str, path: &str) -> Result<Option<Response>, TenantError> {
+        let Some(response) = self.entries.peek(&host, &path)? else {
+            return Ok(None);
+        };
+        match Vec::from_slice(self.alloc, &response.body) {
+            Ok(body) => Ok(Some(Response { body, expires: response.expires })),
+            Err(_) => Err(TenantError::Memory),
+        }
+    }
+
+    /// Returns a copy of a path's response, if it is fresh. A stale response is removed.
+    pub fn get(&mut self, host: &str, path: &str, now: u64) -> Result<Option<Response>, TenantError> {
+        if !self.look_up(host, path, now)? {
+            return Ok(None);
+        }
+        self.copy(host, path)
     }
 
     pub fn purge(&mut self, host: &str, path: &str) -> Result<bool, TenantError> {
@@ -142,8 +180,8 @@ impl ResponseCache {
     }
 }
 
-/// Shows that a look-up of a just purged path returns no response.
-fn look_up_purged(
+/// Shows that a just purged path has no response.
+fn get_purged(
     cache: &mut ResponseCache,
     host: &str,
     prefix: &str,
@@ -151,5 +189,5 @@ fn look_up_purged(
     now: u64,
 ) -> Result<Option<Response>, TenantError> {
     cache.purge_below(host, prefix)?;
-    cache.look_up(host, path, now)
+    cache.get(host, path, now)
 }

@@ -15,8 +15,8 @@ pub enum Expiry {
 pub enum Line<'a> {
     Now(u64),
     Host(&'a str, u64),
-    /// A response of this many bytes.
-    Put(&'a str, &'a str, u64, Expiry),
+    /// A host, a path, when the response becomes stale, and its body.
+    Put(&'a str, &'a str, Expiry, &'a str),
     Get(&'a str, &'a str),
     Purge(&'a str, &'a str),
     PurgeBelow(&'a str, &'a str),
@@ -47,8 +47,8 @@ pub fn parse(text: &str) -> Option<Line<'_>> {
         "now" if path.is_empty() => Some(Line::Now(number(name)?)),
         "host" if path == "budget" => Some(Line::Host(name, number(rest)?)),
         "put" => {
-            let (bytes, word) = two(rest);
-            Some(Line::Put(name, path, number(bytes)?, expiry_of(word)?))
+            let (expiry, body) = two(rest);
+            Some(Line::Put(name, path, expiry_of(expiry)?, body))
         }
         "get" | "purge" if path.is_empty() || !rest.is_empty() => None,
         "get" => Some(Line::Get(name, path)),

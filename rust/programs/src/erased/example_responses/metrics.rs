@@ -3,21 +3,24 @@
 #[allow(unused_imports)]
 use crate::rattle_std::prelude::*;
 
-use crate::programs::example_responses::cache::{Counts, ResponseCache};
+use crate::erased::lru_caches::Counts;
+use crate::programs::example_responses::cache::ResponseCache;
 use crate::rattle_std::io;
 
-const METRICS: [(&str, &str); 5] = [
+const METRICS: [(&str, &str); 7] = [
     ("responses_hits_total", "counter"),
     ("responses_misses_total", "counter"),
+    ("responses_insertions_total", "counter"),
+    ("responses_rejections_total", "counter"),
     ("responses_evictions_total", "counter"),
     ("responses_entries", "gauge"),
     ("responses_cost", "gauge"),
 ];
 
 /// Returns the values of a host, in the order of the metrics.
-fn values_of(cache: &ResponseCache, host: &str, counts: &Counts) -> [u64; 5] {
+fn values_of(cache: &ResponseCache, host: &str, counts: &Counts) -> [u64; 7] {
     let (entries, cost) = cache.size(host);
-    [counts.hits, counts.misses, counts.evictions, entries as u64, cost]
+    [counts.hits, counts.misses, counts.insertions, counts.rejections, counts.evictions, entries as u64, cost]
 }
 
 fn write_label(rt: &HostRuntime, host: &str) -> io::Result<()> {

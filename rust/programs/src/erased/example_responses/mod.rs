@@ -10,7 +10,7 @@ mod line;
 mod metrics;
 
 use crate::erased::lru_tenants::TenantError;
-use crate::rattle_std::io;
+use crate::rattle_std::io::{self, Write};
 use cache::{Response, ResponseCache};
 use line::{Expiry, Line};
 
@@ -23,19 +23,47 @@ fn text_of(error: TenantError) -> &'static str {
     }
 }
 
-fn say_evicted(rt: &HostRuntime, done: Result<(&str, u64), TenantError>) -> io::Result<()> {
-    match done {
-        Ok((what, evicted)) => println!(rt; "{what}, {evicted} evicted"),
+fn say_evicted(rt: &HostRuntime, what: &str, evicted: u64) -> io::Result<()> {
+    println!(rt; "{what}, {evicted} evicted")
+}
+
+fn set_host(rt: &HostRuntime, cache: &mut ResponseCache, host: &str, budget: u64) -> io::Result<()> {
+    match cache.set_host(host, budget) {
+        Ok((what, evicted)) => say_evicted(rt, what, evicted),
         Err(error) => println!(rt; "{}", text_of(error)),
     }
+}
+
+fn put(
+    rt: &HostRuntime,
+    cache: &mut ResponseCache,
+    host: &str,
+    path: &str,
+    expires: u64,
+    body: &str,
+) -> io::Result<()> {
+    let Ok(body) = Vec::from_slice(rt.alloc(), body.as_bytes()) else {
+        return println!(rt; "{}", text_of(TenantError::Memory));
+    };
+    match cache.put(host, path, Response { body, expires }) {
+        (Ok(true), evicted) => say_evicted(rt, "stored", evicted),
+        (Ok(false), evicted) => say_evicted(rt, "rejected", evicted),
+        (Err(error), _) => println!(rt; "{}", text_of(error)),
+    }
+}
+
+fn show(rt: &HostRuntime, response: &Response) -> io::Result<()> {
+    print!(rt; "hit until {}: ", response.expires)?;
+    io::writer(rt).write_all(&response.body)?;
+    println!(rt; "")
 }
 
 fn stats(rt: &HostRuntime, cache: &ResponseCache) -> io::Result<()> {
     for (name, counts) in cache.counts() {
         let (entries, cost) = cache.size(name.as_str());
         println!(rt;
-            "{name}: {} hits, {} misses, {} evictions, {entries} entries, cost {cost}",
-            counts.hits, counts.misses, counts.evictions
+            "{name}: {} hits, {} misses, {} insertions, {} rejections, {} evictions, {entries} entries, cost {cost}",
+            counts.hits, counts.misses, counts.insertions, counts.rejections, counts.evictions
         )?;
     }
     Ok(())
@@ -47,16 +75,16 @@ fn answer(rt: &HostRuntime, cache: &mut ResponseCache, now: &mut u64, line: Opti
             *now = time;
             return Ok(());
         }
-        Some(Line::Host(host, budget)) => return say_evicted(rt, cache.set_host(host, budget)),
-        Some(Line::Put(host, path, bytes, expiry)) => {
+        Some(Line::Host(host, budget)) => return set_host(rt, cache, host, budget),
+        Some(Line::Put(host, path, expiry, body)) => {
             let expires = match expiry {
                 Expiry::At(time) => time,
                 Expiry::MaxAge(age) => now.saturating_add(age),
             };
-            return say_evicted(rt, cache.put(host, path, Response { bytes, expires }));
+            return put(rt, cache, host, path, expires, body);
         }
-        Some(Line::Get(host, path)) => match cache.look_up(host, path, *now) {
-            Ok(Some(it)) => return println!(rt; "hit {} until {}", it.bytes, it.expires),
+        Some(Line::Get(host, path)) => match cache.get(host, path, *now) {
+            Ok(Some(response)) => return show(rt, &response),
             Ok(None) => "miss",
             Err(error) => text_of(error),
         },

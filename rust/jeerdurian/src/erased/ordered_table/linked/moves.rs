@@ -1,5 +1,5 @@
 // Erased from crates/ordered_table/src/linked/moves.rt: do not edit.
-//! Moves all pairs of a `LinkedTable` into a table of another size, or rehashes them.
+//! Moves all entries of a `LinkedTable` into a table of another size, or rehashes them.
 
 #[allow(unused_imports)]
 use crate::rattle_std::prelude::*;

@@ -19,7 +19,7 @@ impl<K, V, N: LinkType> OrderedTable<K, V, N> {
         settle(&mut self.linked, &mut self.promoted);
     }
 
-    /// Puts a pair whose key has this hash into the first free bucket, as the newest. There must be growth left.
+    /// Puts an entry whose key has this hash into the first free bucket, as the newest. There must be growth left.
     ///
     /// Cost: `O(1)` expected.
     #[inline(always)]
@@ -28,17 +28,17 @@ impl<K, V, N: LinkType> OrderedTable<K, V, N> {
         self.linked.place(hash, pair);
     }
 
-    /// Does what `place` does. If no growth is left, only a deleted bucket may take the pair.
+    /// Does what `place` does. If no growth is left, only a deleted bucket may take the entry.
     ///
     /// # Errors
     ///
-    /// Returns the pair if no bucket may take it. Then nothing has changed.
+    /// Returns the entry if no bucket may take it. Then nothing has changed.
     pub fn try_place(&mut self, hash: u64, pair: (K, V)) -> Result<(), (K, V)> {
         settle(&mut self.linked, &mut self.promoted);
         self.linked.try_place(hash, pair)
     }
 
-    /// Makes the pair in a full bucket the newest.
+    /// Makes the entry in a full bucket the newest.
     ///
     /// Cost: `O(1)`.
     #[inline]
@@ -48,14 +48,14 @@ impl<K, V, N: LinkType> OrderedTable<K, V, N> {
                 self.linked.promote(*last);
                 *last = b;
             }
-            // Writes this promotion into the links at once, and so writes to the second-oldest pair. If the oldest pair
-            // is promoted each time, the next call reads this pair.
+            // Writes this promotion into the links at once, and so writes to the second-oldest entry. If the oldest
+            // entry is promoted each time, the next call reads this entry.
             None if self.linked.oldest() == b => self.linked.promote(b),
             None => self.promoted = Some(b),
         }
     }
 
-    /// Makes the pair in a full bucket the oldest.
+    /// Makes the entry in a full bucket the oldest.
     ///
     /// Cost: `O(1)`.
     pub fn demote(&mut self, b: usize) {
@@ -63,7 +63,7 @@ impl<K, V, N: LinkType> OrderedTable<K, V, N> {
         self.linked.demote(b);
     }
 
-    /// Takes the pair out of a full bucket.
+    /// Takes the entry out of a full bucket.
     ///
     /// Cost: `O(1)`.
     #[inline(always)]
@@ -72,7 +72,7 @@ impl<K, V, N: LinkType> OrderedTable<K, V, N> {
         self.linked.take(b, false)
     }
 
-    /// Takes out the oldest pair. The table must not be empty. Does not read the older link of this pair.
+    /// Takes out the oldest entry. The table must not be empty. Does not read the older link of this entry.
     ///
     /// Cost: `O(1)`.
     #[inline(always)]
@@ -84,7 +84,7 @@ impl<K, V, N: LinkType> OrderedTable<K, V, N> {
 }
 
 impl<K, V, N: LinkType> OrderedTable<K, V, N> {
-    /// Drops all pairs. The buckets stay, and are empty.
+    /// Drops all entries. The buckets stay, and are empty.
     ///
     /// Cost: `O(buckets)`.
     pub fn clear(&mut self) {
@@ -94,14 +94,14 @@ impl<K, V, N: LinkType> OrderedTable<K, V, N> {
 }
 
 impl<K: Eq + Hash, V, N: LinkType> OrderedTable<K, V, N> {
-    /// Moves all pairs into a table of `buckets` buckets, in the same order. If the table already has `buckets`
-    /// buckets, the pairs are rehashed in place.
+    /// Moves all entries into a table of `buckets` buckets, in the same order. If the table already has `buckets`
+    /// buckets, rehashes the entries in place.
     ///
-    /// Cost: `O(old buckets + new buckets)`, and a hash for each pair.
+    /// Cost: `O(old buckets + new buckets)`, and a hash for each entry.
     ///
     /// # Errors
     ///
-    /// Out of memory. Nothing has changed. The call never fails if `buckets` is 0, or if a table without pairs keeps
+    /// Out of memory. Nothing has changed. The call never fails if `buckets` is 0, or if a table without entries keeps
     /// its number of buckets.
     pub fn move_to<S: KeyHasher<K>>(&mut self, buckets: usize, hasher: &S) -> Result<(), AllocError> {
         settle(&mut self.linked, &mut self.promoted);
@@ -110,7 +110,7 @@ impl<K: Eq + Hash, V, N: LinkType> OrderedTable<K, V, N> {
 }
 
 impl<K, V, N: LinkType> OrderedTable<K, V, N> {
-    /// Clones the pairs into buckets of the same numbers, in the same order. The links are copied with the entries.
+    /// Clones the entries into buckets of the same numbers, in the same order. The links are copied with the entries.
     ///
     /// Cost: `O(buckets)`, and a clone of each key and value.
     ///

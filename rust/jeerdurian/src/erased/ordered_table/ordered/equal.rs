@@ -5,9 +5,9 @@ use crate::rattle_std::prelude::*;
 use crate::erased::group_table::LinkType;
 use crate::erased::ordered_table::ordered::OrderedTable;
 
-/// Two tables are equal if they have equal pairs in the same order, in any buckets.
+/// Two tables are equal if they have equal entries in the same order, in any buckets.
 ///
-/// Cost: `O(n)` for n pairs, and `O(1)` if the lengths differ.
+/// Cost: `O(n)` for n entries, and `O(1)` if the lengths differ.
 impl<K: PartialEq, V: PartialEq, N: LinkType> PartialEq for OrderedTable<K, V, N> {
     fn eq(&self, other: &Self) -> bool {
         let mut theirs = other.iter();

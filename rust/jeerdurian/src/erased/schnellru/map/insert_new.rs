@@ -66,7 +66,7 @@ impl<K: Eq + Hash, V, L: Limiter<K, V>, S: KeyHasher<K>> LruMap<K, V, L, S> {
         }
     }
 
-    // Stores a pair that the limiter returned, with evictions before and after.
+    // Stores an entry that the limiter returned, with evictions before and after.
     fn insert_pair<F: FnMut(K, V)>(&mut self, hash: u64, pair: (K, V), sink: &mut F) -> Result<bool, AllocError> {
         self.settle();
         self.make_room(sink);
@@ -99,7 +99,7 @@ impl<K: Eq + Hash, V, L: Limiter<K, V>, S: KeyHasher<K>> LruMap<K, V, L, S> {
         }
     }
 
-    // Under `ByMemoryUsage`, each insert of a new pair may call this function. Out of line, so that the code of other
+    // Under `ByMemoryUsage`, each insert of a new entry may call this function. Out of line, so that the code of other
     // inserts stays short.
     #[inline(never)]
     fn insert_without_bucket<F: FnMut(K, V)>(

@@ -1,5 +1,5 @@
 // Erased from crates/schnellru/src/map/resize.rt: do not edit.
-//! Moves all pairs to a larger table, or rehashes the table.
+//! Moves all entries to a larger table, or rehashes the table.
 
 #[allow(unused_imports)]
 use crate::rattle_std::prelude::*;

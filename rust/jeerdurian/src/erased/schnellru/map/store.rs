@@ -1,6 +1,6 @@
 // Erased from crates/schnellru/src/map/store.rt: do not edit.
-//! Stores a new pair in a free bucket. If no bucket can take the pair, first rehashes or grows the table, or evicts the
-//! oldest pairs.
+//! Stores a new entry in a free bucket. If no bucket can take it, first rehashes or grows the table, or evicts the
+//! oldest entries.
 
 #[allow(unused_imports)]
 use crate::rattle_std::prelude::*;
@@ -23,7 +23,7 @@ impl<K: Eq + Hash, V, L: Limiter<K, V>, S: KeyHasher<K>> LruMap<K, V, L, S> {
         Ok(())
     }
 
-    // Returns whether the pair is stored.
+    // Returns whether the entry is stored.
     pub(super) fn store_without_bucket<F: FnMut(K, V)>(
         &mut self,
         hash: u64,
@@ -56,7 +56,7 @@ impl<K: Eq + Hash, V, L: Limiter<K, V>, S: KeyHasher<K>> LruMap<K, V, L, S> {
         }
     }
 
-    // Evicts the oldest pairs until the new pair can be stored. If the map is empty, does not store the pair.
+    // Evicts the oldest entries until the new entry can be stored. If the map is empty, does not store the entry.
     fn store_without_growth<F: FnMut(K, V)>(
         &mut self,
         hash: u64,

@@ -1,0 +1,207 @@
+// Erased from crates/lru_caches/src/counted.rt: do not edit.
+//! `CountedMap`. A contract sees a map and its counts.
+
+#[allow(unused_imports)]
+use crate::rattle_std::prelude::*;
+
+use crate::erased::schnellru::{Inserted, Insertion, KeyHasher, Limiter, LookupKey, LruMap, RandomState};
+use crate::rattle_std::alloc::AllocError;
+use crate::rattle_std::hash::Hash;
+
+/// What operators watch of a cache. Each count stops at `u64::MAX`.
+///
+/// ```text
+/// let mut counts = Counts::default();
+/// counts.count_look_up(true);
+/// assert_eq!(rt; (counts.hits, counts.misses), (1, 0));
+/// ```
+#[derive(Clone, Copy, Debug, Default, PartialEq, Eq)]
+pub struct Counts {
+    /// How many look-ups found their key.
+    pub hits: u64,
+    /// How many look-ups did not find their key.
+    pub misses: u64,
+    /// How many inserts left their key in the cache.
+    pub insertions: u64,
+    /// How many inserts did not, although memory did not run out: the limiter rejected the entry, or no table could
+    /// hold it.
+    pub rejections: u64,
+    /// How many entries inserts evicted.
+    pub evictions: u64,
+}
+
+impl Counts {
+    /// Counts a look-up.
+    ///
+    /// ```text
+    /// counts.count_look_up(false);
+    /// assert_eq!(rt; counts.misses, 1);
+    /// ```
+    pub fn count_look_up(&mut self, found: bool) {
+        if found {
+            self.hits = self.hits.saturating_add(1);
+        } else {
+            self.misses = self.misses.saturating_add(1);
+        }
+    }
+
+    /// Counts an insert by its result, and the entries that it evicted.
+    ///
+    /// ```text
+    /// counts.count_insert(&map.insert(4, 40), 1);
+    /// assert_eq!(rt; (counts.insertions, counts.evictions), (1, 1));
+    /// ```
+    pub fn count_insert<E>(&mut self, done: &Result<bool, E>, evicted: u64) {
+        self.evictions = self.evictions.saturating_add(evicted);
+        match done {
+            Ok(true) => self.insertions = self.insertions.saturating_add(1),
+            Ok(false) => self.rejections = self.rejections.saturating_add(1),
+            Err(_) => {}
+        }
+    }
+}
+
+/// A map that counts its look-ups and its inserts, for users who want the numbers. Other users pay nothing.
+///
+/// In the examples, `counted` contains the entries (1, 10), (2, 20) and (3, 30), and may contain three entries.
+///
+/// ```text
+/// let mut counted = CountedMap::new(map);
+/// assert_eq!(rt; (counted.get(&1).copied(), counted.get(&9)), (Some(10), None));
+/// assert!(rt; counted.insert(4, 40)?);
+/// let counts = counted.counts();
+/// assert_eq!(rt; (counts.hits, counts.misses, counts.insertions, counts.evictions), (1, 1, 1, 1));
+/// ```
+
+pub struct CountedMap<K, V, L: Limiter<K, V>, S = RandomState> {
+    map: LruMap<K, V, L, S>,
+    counts: Counts,
+}
+
+impl<K: Eq + Hash, V, L: Limiter<K, V>, S: KeyHasher<K>> CountedMap<K, V, L, S> {
+    /// Counts the calls on this map from now on.
+    ///
+    /// ```text
+    /// let mut counted = CountedMap::new(map);
+    /// ```
+    ///
+    /// Cost: `O(1)`.
+    pub fn new(map: LruMap<K, V, L, S>) -> Self {
+        CountedMap { map, counts: Counts::default() }
+    }
+
+    /// Returns the counts.
+    ///
+    /// ```text
+    /// assert_eq!(rt; counted.counts(), Counts::default());
+    /// ```
+    ///
+    /// Cost: `O(1)`.
+    pub fn counts(&self) -> Counts {
+        self.counts
+    }
+
+    /// Returns the map, whose calls with `&self` count nothing.
+    ///
+    /// ```text
+    /// assert_eq!(rt; (counted.map().len(), counted.map().peek(&2).copied()), (3, Some(20)));
+    /// ```
+    ///
+    /// Cost: `O(1)`.
+    pub fn map(&self) -> &LruMap<K, V, L, S> {
+        &self.map
+    }
+
+    /// Returns the map, and drops the counts.
+    ///
+    /// ```text
+    /// assert_eq!(rt; counted.into_map().len(), 3);
+    /// ```
+    ///
+    /// Cost: `O(1)`.
+    pub fn into_map(self) -> LruMap<K, V, L, S> {
+        let CountedMap { map, counts: _ } = self;
+        map
+    }
+
+    /// Makes the entry of a key the newest, and counts a hit. If the key is not there, counts a miss. Returns whether the
+    /// key is there. If it is, `map().peek_newest()` is its entry.
+    ///
+    /// ```text
+    /// if counted.promote(&1) {
+    ///     assert!(rt; counted.map().peek_newest() == Some((&1, &10)));
+    /// }
+    /// assert_eq!(rt; counted.counts().hits, 1);
+    /// ```
+    ///
+    /// Cost: as `LruMap::promote`.
+    pub fn promote<Q: LookupKey<K>>(&mut self, key: &Q) -> bool {
+        let there = self.map.promote(key);
+        self.counts.count_look_up(there);
+        there
+    }
+}
+
+impl<K: Eq + Hash, V: Copy, L: Limiter<K, V>, S: KeyHasher<K>> CountedMap<K, V, L, S> {
+    /// Calls `promote`, and returns the value of the key.
+    ///
+    /// ```text
+    /// assert_eq!(rt; (counted.get(&1), counted.get(&9)), (Some(10), None));
+    /// ```
+    ///
+    /// Cost: as `LruMap::get`, and another search.
+    pub fn get<Q: LookupKey<K>>(&mut self, key: &Q) -> Option<V> {
+        let value = self.map.peek(key).copied();
+        self.promote(key);
+        value
+    }
+}
+
+impl<K: Eq + Hash, V, L: Limiter<K, V>, S: KeyHasher<K>> CountedMap<K, V, L, S> {
+    /// Does what `LruMap::insert` does, and counts the insert.
+    ///
+    /// ```text
+    /// assert!(rt; counted.insert(4, 40)?);
+    /// assert_eq!(rt; (counted.counts().insertions, counted.counts().evictions), (1, 1));
+    /// ```
+    ///
+    /// Cost: as `LruMap::insert`.
+    ///
+    /// # Errors
+    ///
+    /// Fails as `LruMap::insert` does. Counts the entries that were evicted.
+    pub fn insert<I: LookupKey<K>>(&mut self, key: I, value: V) -> Result<bool, AllocError>
+    where
+        L: Insertion<K, V, I>,
+    {
+        let before = self.map.len();
+        let (was_there, is_there, done) = insert_full(&mut self.map, key, value);
+        let others = before - was_there as usize;
+        let evicted = others.saturating_sub(self.map.len() - is_there as usize);
+        self.counts.count_insert(&done, evicted as u64);
+        done
+    }
+
+    /// Does what `LruMap::remove` does. A removal counts nothing.
+    ///
+    /// ```text
+    /// assert_eq!(rt; (counted.remove(&1), counted.counts()), (Some(10), Counts::default()));
+    /// ```
+    ///
+    /// Cost: as `LruMap::remove`.
+    pub fn remove<Q: LookupKey<K>>(&mut self, key: &Q) -> Option<V> {
+        self.map.remove(key)
+    }
+}
+
+// Returns whether the key was there, whether it is there now, and what the insert returned.
+fn insert_full<K: Eq + Hash, V, I: LookupKey<K>, L: Insertion<K, V, I>, S: KeyHasher<K>>(
+    map: &mut LruMap<K, V, L, S>,
+    key: I,
+    value: V,
+) -> (bool, bool, Result<bool, AllocError>) {
+    match map.insert_full(key, value, &mut |_, _| {}) {
+        Ok(Inserted { kept, unkept }) => (unkept.is_some(), kept, Ok(kept)),
+        Err(error) => (false, false, Err(error)),
+    }
+}
