@@ -89,19 +89,22 @@ CRATES = {
     "lru_caches": Crate(["lru_caches"], """
         ghost use Rattle.std.specs.Prelude.{◌≡◌, ◌*◌};
 
-        use crate::beginnings::{Cache, Map, refill, rewrite};
+        use crate::beginnings::{Cache, Counted, Map, recount, refill, rewrite};
         use crate::disk::{Disk, DiskError};
         use lru_caches::{
-            BlockDevice, Durable, FileDevice, FileError, HashedFileDevice, Loader, Memo, MemoTable, OrderedMap,
+            BlockDevice, CountedMap, Counts, Durable, FileDevice, FileError, HashedFileDevice, Loader, Memo, MemoTable, OrderedMap,
             PageCache, PageError, Question, Unclosed,
         };
-        use schnellru::{ByLength, RandomState};
+        use schnellru::{ByLength, LruMap, RandomState};
+        use std::alloc::AllocError;
         use std::cell::Cell;
         use std::io::Cursor;
         use std::test::Fail;
         use test_helpers::{all, check};
         use test_maps::{is_pair, is_value};""",
         {"map": Given("let mut map: Map = OrderedMap::new(alloc);", "Map", "refill"),
+         "counted": Given("let mut counted: Counted = CountedMap::new(LruMap::with_limiter(alloc, ByLength::new(3)));",
+                          "Counted", "recount"),
          "calls_left": Given("let calls_left = Cell::new(100);"),
          "disk": Given("let disk = Disk::new([10, 11, 12, 13], [false; 4], &calls_left);"),
          "cache": Given("let mut cache = PageCache::new(alloc, disk, 2);", "Cache<'_>", "rewrite", "cache.discard();")},

@@ -38,6 +38,7 @@ impl Counts {
     /// Counts a look-up.
     ///
     /// ```
+    /// let mut counts = Counts::default();
     /// counts.count_look_up(false);
     /// assert_eq!(rt; counts.misses, 1);
     /// ```
@@ -54,8 +55,10 @@ impl Counts {
     /// Counts an insert by its result, and the entries that it evicted.
     ///
     /// ```
-    /// counts.count_insert(&map.insert(4, 40), 1);
-    /// assert_eq!(rt; (counts.insertions, counts.evictions), (1, 1));
+    /// let done: Result<bool, ()> = Ok(true);
+    /// let mut counts = Counts::default();
+    /// counts.count_insert(&done, 1);
+    /// assert_eq!(rt; (counts.insertions, counts.rejections, counts.evictions), (1, 0, 1));
     /// ```
     pub fn count_insert<E>(&mut self, done: &Result<bool, E>, evicted: u64)
         ensures { self.new ≡ inserted done.now evicted self.old }
@@ -69,13 +72,12 @@ impl Counts {
     }
 }
 
-/// A map that counts its look-ups and its inserts, for users who want the numbers. Other users pay nothing.
+/// A map that counts its look-ups and its inserts. A plain `LruMap` counts nothing, and costs nothing more.
 ///
-/// In the examples, `counted` contains the entries (1, 10), (2, 20) and (3, 30), and may contain three entries.
+/// In the examples, `counted` has room for three entries, and contains (1, 10), (2, 20) and (3, 30).
 ///
 /// ```
-/// let mut counted = CountedMap::new(map);
-/// assert_eq!(rt; (counted.get(&1).copied(), counted.get(&9)), (Some(10), None));
+/// assert_eq!(rt; (counted.get(&1), counted.get(&9)), (Some(10), None));
 /// assert!(rt; counted.insert(4, 40)?);
 /// let counts = counted.counts();
 /// assert_eq!(rt; (counts.hits, counts.misses, counts.insertions, counts.evictions), (1, 1, 1, 1));
@@ -98,7 +100,8 @@ impl<K: Eq + Hash, V, L: Limiter<K, V>, S: KeyHasher<K>> CountedMap<K, V, L, S> 
     /// Counts the calls on this map from now on.
     ///
     /// ```
-    /// let mut counted = CountedMap::new(map);
+    /// let counted: CountedMap<u64, u64, ByLength> = CountedMap::new(LruMap::with_limiter(alloc, ByLength::new(3)));
+    /// assert!(rt; counted.map().is_empty());
     /// ```
     ///
     /// Cost: `O(1)`.
@@ -125,7 +128,24 @@ impl<K: Eq + Hash, V, L: Limiter<K, V>, S: KeyHasher<K>> CountedMap<K, V, L, S> 
         self.counts
     }
 
-    /// Returns the map, whose calls with `&self` count nothing.
+    /// Returns the counts, and begins again with zeros.
+    ///
+    /// ```
+    /// counted.get(&1);
+    /// assert_eq!(rt; (counted.take_counts().hits, counted.counts().hits), (1, 0));
+    /// ```
+    ///
+    /// Cost: `O(1)`.
+    pub fn take_counts(&mut self) -> Counts
+        ensures { result ≡ self.old.counts }
+        ensures zeros { self.new ≡ record self.old { counts = zeros } }
+    {
+        let counts = self.counts;
+        self.counts = Counts::default();
+        counts
+    }
+
+    /// Returns the map. Calls on it count nothing.
     ///
     /// ```
     /// assert_eq!(rt; (counted.map().len(), counted.map().peek(&2).copied()), (3, Some(20)));
@@ -141,7 +161,8 @@ impl<K: Eq + Hash, V, L: Limiter<K, V>, S: KeyHasher<K>> CountedMap<K, V, L, S> 
     /// Returns the map, and drops the counts.
     ///
     /// ```
-    /// assert_eq!(rt; counted.into_map().len(), 3);
+    /// let counted: CountedMap<u64, u64, ByLength> = CountedMap::new(LruMap::with_limiter(alloc, ByLength::new(3)));
+    /// assert!(rt; counted.into_map().is_empty());
     /// ```
     ///
     /// Cost: `O(1)`.
@@ -156,10 +177,9 @@ impl<K: Eq + Hash, V, L: Limiter<K, V>, S: KeyHasher<K>> CountedMap<K, V, L, S> 
     /// key is there. If it is, `map().peek_newest()` is its entry.
     ///
     /// ```
-    /// if counted.promote(&1) {
-    ///     assert!(rt; counted.map().peek_newest() == Some((&1, &10)));
-    /// }
-    /// assert_eq!(rt; counted.counts().hits, 1);
+    /// assert!(rt; counted.promote(&1) && !counted.promote(&9));
+    /// assert!(rt; counted.map().peek_newest() == Some((&1, &10)));
+    /// assert_eq!(rt; (counted.counts().hits, counted.counts().misses), (1, 1));
     /// ```
     ///
     /// Cost: as `LruMap::promote`.

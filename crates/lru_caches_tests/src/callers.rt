@@ -1,9 +1,11 @@
-//! Callers of a page cache and of an ordered map, with contracts of their own.
-ghost use Rattle.std.specs.Prelude.{◌≡◌, ◌≢◌, ℕ, nat_eq, true, is_some, Some, OnOk, OnErr};
+//! Callers of a page cache, of an ordered map and of a map that counts, with contracts of their own.
+ghost use Rattle.std.specs.Prelude.{◌≡◌, ◌≢◌, ◌+◌, ◌^◌, ◌-◌, ◌<◌, ℕ, nat_eq, true, is_some, Some, OnOk, OnErr};
 ghost use Rattle.std.specs.Map.{lookup, set_value};
 ghost use Rattle.lru_caches.specs.Pages.{shown, ShowsTheSame};
 
-use lru_caches::{BlockDevice, OrderedMap, PageCache, PageError};
+use lru_caches::{BlockDevice, CountedMap, OrderedMap, PageCache, PageError};
+use schnellru::ByLength;
+use std::alloc::AllocError;
 
 /// Copies a block to another number.
 pub fn copy_block<D: BlockDevice<u64>>(
@@ -46,4 +48,20 @@ pub fn overwrite(map: &mut OrderedMap<u64, u64>, key: u64, value: u64) -> bool
         }
         None => false,
     }
+}
+
+/// Looks a path up, or else stores how many bytes its page has. Returns whether the path was there.
+pub fn visit(
+    pages: &mut CountedMap<String, u64, ByLength>,
+    path: String,
+    bytes: u64,
+) -> Result<bool, AllocError>
+    requires { pages.old.counts.hits + pages.old.counts.misses < 2 ^ 64 - 1 }
+    ensures { pages.new.counts.hits + pages.new.counts.misses ≡ pages.old.counts.hits + pages.old.counts.misses + 1 }
+{
+    if pages.promote(&path) {
+        return Ok(true);
+    }
+    pages.insert(path, bytes)?;
+    Ok(false)
 }

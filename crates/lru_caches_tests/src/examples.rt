@@ -1,13 +1,14 @@
 //! Written by `docs/examples.py` from the examples in the doc comments. Do not change it by hand.
 ghost use Rattle.std.specs.Prelude.{◌≡◌, ◌*◌};
 
-use crate::beginnings::{Cache, Map, refill, rewrite};
+use crate::beginnings::{Cache, Counted, Map, recount, refill, rewrite};
 use crate::disk::{Disk, DiskError};
 use lru_caches::{
-    BlockDevice, Durable, FileDevice, FileError, HashedFileDevice, Loader, Memo, MemoTable,
-    OrderedMap, PageCache, PageError, Question, Unclosed,
+    BlockDevice, CountedMap, Counts, Durable, FileDevice, FileError, HashedFileDevice, Loader,
+    Memo, MemoTable, OrderedMap, PageCache, PageError, Question, Unclosed,
 };
-use schnellru::{ByLength, RandomState};
+use schnellru::{ByLength, LruMap, RandomState};
+use std::alloc::AllocError;
 use std::cell::Cell;
 use std::io::Cursor;
 use std::test::Fail;
@@ -19,6 +20,60 @@ struct Squares;
 
 impl Question<u64, u64> for Squares {
     ghost answers = { λ n value. value ≡ n * n };
+}
+
+fn counted_1(counted: &mut Counted) -> Result<bool, AllocError> {
+    let held = all!(
+        recount(counted),
+        (counted.get(&1), counted.get(&9)) == (Some(10), None),
+        counted.insert(4, 40)?
+    );
+    let counts = counted.counts();
+    let held = held
+        & all!(
+            (
+                counts.hits,
+                counts.misses,
+                counts.insertions,
+                counts.evictions
+            ) == (1, 1, 1, 1),
+            recount(counted),
+            counted.counts() == Counts::default(),
+            recount(counted)
+        );
+    counted.get(&1);
+    Ok(
+        held & all!(
+            (counted.take_counts().hits, counted.counts().hits) == (1, 0),
+            recount(counted),
+            (counted.map().len(), counted.map().peek(&2).copied()) == (3, Some(20))
+        ),
+    )
+}
+
+fn counted_2(counted: &mut Counted) -> Result<bool, AllocError> {
+    Ok(all!(
+        recount(counted),
+        counted.promote(&1) && !counted.promote(&9),
+        is_pair(counted.map().peek_newest(), 1, 10),
+        (counted.counts().hits, counted.counts().misses) == (1, 1),
+        recount(counted),
+        counted.insert(4, 40)?,
+        (counted.counts().insertions, counted.counts().evictions) == (1, 1),
+        recount(counted),
+        (counted.remove(&1), counted.counts()) == (Some(10), Counts::default())
+    ))
+}
+
+#[test]
+fn on_a_counted(rt: HostRuntime) {
+    let alloc = rt.alloc();
+    let mut counted: Counted = CountedMap::new(LruMap::with_limiter(alloc, ByLength::new(3)));
+    let held = all!(
+        counted_1(&mut counted).unwrap_or(false),
+        counted_2(&mut counted).unwrap_or(false)
+    );
+    check!(rt; held);
 }
 
 fn map_1(map: &mut Map) -> bool {
@@ -157,6 +212,45 @@ fn on_a_cache(rt: HostRuntime) {
     );
     cache.discard();
     check!(rt; held);
+}
+
+#[test]
+fn of_counted(rt: HostRuntime) {
+    let mut counts = Counts::default();
+    counts.count_look_up(true);
+    check!(rt; (counts.hits, counts.misses) == (1, 0));
+}
+
+#[test]
+fn of_counted_2(rt: HostRuntime) {
+    let mut counts = Counts::default();
+    counts.count_look_up(false);
+    check!(rt; counts.misses == 1);
+}
+
+#[test]
+fn of_counted_3(rt: HostRuntime) {
+    let alloc = rt.alloc();
+    let done: Result<bool, ()> = Ok(true);
+    let mut counts = Counts::default();
+    counts.count_insert(&done, 1);
+    let held = (counts.insertions, counts.rejections, counts.evictions) == (1, 0, 1);
+    let counted: CountedMap<u64, u64, ByLength> = CountedMap::new(LruMap::with_limiter(
+        alloc,
+        ByLength::new(3),
+    ));
+    let held = held & all!(counted.map().is_empty());
+    check!(rt; held);
+}
+
+#[test]
+fn of_counted_4(rt: HostRuntime) {
+    let alloc = rt.alloc();
+    let counted: CountedMap<u64, u64, ByLength> = CountedMap::new(LruMap::with_limiter(
+        alloc,
+        ByLength::new(3),
+    ));
+    check!(rt; counted.into_map().is_empty());
 }
 
 #[test]

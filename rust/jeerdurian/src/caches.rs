@@ -1,11 +1,13 @@
-//! Caches above the LRU map: functions that remember their results, a hash map in the order of insertion, and a
-//! write-back cache of the blocks of a device.
+//! Caches above the LRU map: a map that counts, functions that remember their results, a hash map in the order of
+//! insertion, and a write-back cache of the blocks of a device.
 
+mod counted;
 mod devices;
 mod memo;
 mod ordered_map;
 mod page_cache;
 
+pub use counted::{CountedMap, Counts};
 pub use devices::{Durable, FileDevice, FileError, HashedFileDevice};
 pub use memo::{Loader, Memo};
 pub use ordered_map::{Entries, IntoEntries, Keys, OrderedMap, Values};

@@ -1,10 +1,10 @@
 //! The tenants and the ordered map, compared with plain lists, and with keys whose `==` and `Hash` say anything and panic:
 //! nothing is dropped twice or used after its drop.
 
-use jeerdurian::caches::{Loader, Memo, OrderedMap};
+use jeerdurian::caches::{CountedMap, Loader, Memo, OrderedMap};
 use jeerdurian::tenants::TenantCache;
 use jeerdurian::trace::Curve;
-use jeerdurian::{ByCost, ByMemoryUsage, LruMap, RandomState};
+use jeerdurian::{ByCost, ByLength, ByMemoryUsage, LruMap, RandomState};
 use std::cell::Cell;
 use std::collections::BTreeMap;
 use std::hash::{Hash, Hasher};
@@ -268,4 +268,47 @@ fn a_curve_of_many_keys() {
     (0..6000).chain(0..6000).for_each(|n: u32| assert_eq!(curve.refer(&n.to_string()), Ok(())));
     assert_eq!((curve.keys(), curve.references()), (6000, 12_000));
     assert_eq!([1, 60, 5999, 6000].map(|n| curve.misses(n)), [12_000, 12_000, 12_000, 6000]);
+}
+
+#[test]
+fn counts_are_those_of_a_plain_list() {
+    let mut counted = CountedMap::new(LruMap::<u64, u64, _>::new(ByLength::new(50)));
+    let mut list: Vec<u64> = Vec::new(); // newest first
+    let (mut hits, mut misses, mut insertions, mut evictions) = (0, 0, 0, 0);
+    let mut state = 7;
+    for _ in 0..100_000 {
+        let key = next(&mut state, 120);
+        let place = list.iter().position(|other| *other == key);
+        match next(&mut state, 5) {
+            0 | 1 => {
+                assert_eq!(counted.get(&key).is_some(), place.is_some());
+                if let Some(place) = place {
+                    let key = list.remove(place);
+                    list.insert(0, key);
+                    hits += 1;
+                } else {
+                    misses += 1;
+                }
+            }
+            2 | 3 => {
+                assert!(counted.insert(key, key));
+                if let Some(place) = place {
+                    list.remove(place);
+                }
+                list.insert(0, key);
+                insertions += 1;
+                if list.len() > 50 {
+                    list.pop();
+                    evictions += 1;
+                }
+            }
+            _ => {
+                assert_eq!(counted.remove(&key), place.map(|place| list.remove(place)));
+            }
+        }
+        let counts = counted.counts();
+        let counted_so_far = (counts.hits, counts.misses, counts.insertions, counts.evictions, counts.rejections);
+        assert_eq!(counted_so_far, (hits, misses, insertions, evictions, 0));
+        assert_eq!(counted.len(), list.len());
+    }
 }

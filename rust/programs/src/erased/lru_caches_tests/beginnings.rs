@@ -3,18 +3,28 @@
 #[allow(unused_imports)]
 use crate::rattle_std::prelude::*;
 
-use crate::erased::lru_caches::{FileError, OrderedMap, PageCache, PageError};
+use crate::erased::lru_caches::{CountedMap, Counts, FileError, OrderedMap, PageCache, PageError};
+use crate::erased::schnellru::ByLength;
 use crate::programs::lru_caches_tests::disk::Disk;
 use crate::programs::test_helpers::check;
 use crate::rattle_std::test::Fail;
 
 pub type Map = OrderedMap<u64, u64>;
 
+pub type Counted = CountedMap<u64, u64, ByLength>;
+
 pub type Cache<'a> = PageCache<u64, Disk<'a>>;
 
 pub fn refill(map: &mut Map) -> bool {
     map.clear();
     (map.insert(1, 11), map.insert(2, 20)) == (Ok(None), Ok(None))
+}
+
+pub fn recount(counted: &mut Counted) -> bool {
+    counted.remove(&4);
+    let inserted = (counted.insert(1, 10), counted.insert(2, 20), counted.insert(3, 30));
+    counted.take_counts();
+    inserted == (Ok(true), Ok(true), Ok(true)) && counted.counts() == Counts::default()
 }
 
 pub fn rewrite(cache: &mut Cache<'_>) -> bool {

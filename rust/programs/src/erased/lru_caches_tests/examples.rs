@@ -5,14 +5,15 @@
 use crate::rattle_std::prelude::*;
 
 use crate::erased::lru_caches::{
-    BlockDevice, Durable, FileDevice, FileError, HashedFileDevice, Loader, Memo, MemoTable, OrderedMap, PageCache,
-    PageError, Question, Unclosed,
+    BlockDevice, CountedMap, Counts, Durable, FileDevice, FileError, HashedFileDevice, Loader, Memo, MemoTable,
+    OrderedMap, PageCache, PageError, Question, Unclosed,
 };
-use crate::erased::schnellru::{ByLength, RandomState};
-use crate::programs::lru_caches_tests::beginnings::{Cache, Map, refill, rewrite};
+use crate::erased::schnellru::{ByLength, LruMap, RandomState};
+use crate::programs::lru_caches_tests::beginnings::{Cache, Counted, Map, recount, refill, rewrite};
 use crate::programs::lru_caches_tests::disk::{Disk, DiskError};
 use crate::programs::test_helpers::{all, check};
 use crate::programs::test_maps::{is_pair, is_value};
+use crate::rattle_std::alloc::AllocError;
 use crate::rattle_std::cell::Cell;
 use crate::rattle_std::io::Cursor;
 use crate::rattle_std::test::Fail;
@@ -20,6 +21,50 @@ use crate::rattle_std::test::Fail;
 struct Squares;
 
 impl Question<u64, u64> for Squares {}
+
+fn counted_1(counted: &mut Counted) -> Result<bool, AllocError> {
+    let held = all!(recount(counted), (counted.get(&1), counted.get(&9)) == (Some(10), None), counted.insert(4, 40)?);
+    let counts = counted.counts();
+    let held = held
+        & all!(
+            (counts.hits, counts.misses, counts.insertions, counts.evictions) == (1, 1, 1, 1),
+            recount(counted),
+            counted.counts() == Counts::default(),
+            recount(counted)
+        );
+    counted.get(&1);
+    Ok(held
+        & all!(
+            (counted.take_counts().hits, counted.counts().hits) == (1, 0),
+            recount(counted),
+            (counted.map().len(), counted.map().peek(&2).copied()) == (3, Some(20))
+        ))
+}
+
+fn counted_2(counted: &mut Counted) -> Result<bool, AllocError> {
+    Ok(all!(
+        recount(counted),
+        counted.promote(&1) && !counted.promote(&9),
+        is_pair(counted.map().peek_newest(), 1, 10),
+        (counted.counts().hits, counted.counts().misses) == (1, 1),
+        recount(counted),
+        counted.insert(4, 40)?,
+        (counted.counts().insertions, counted.counts().evictions) == (1, 1),
+        recount(counted),
+        (counted.remove(&1), counted.counts()) == (Some(10), Counts::default())
+    ))
+}
+
+#[test]
+fn on_a_counted() {
+    let run = |rt: HostRuntime| -> () {
+        let alloc = rt.alloc();
+        let mut counted: Counted = CountedMap::new(LruMap::with_limiter(alloc, ByLength::new(3)));
+        let held = all!(counted_1(&mut counted).unwrap_or(false), counted_2(&mut counted).unwrap_or(false));
+        check!(rt; held);
+    };
+    run(HostRuntime).passes();
+}
 
 fn map_1(map: &mut Map) -> bool {
     let held = refill(map);
@@ -143,6 +188,51 @@ fn on_a_cache() {
         let held = all!(cache_1(&mut cache), cache_2(&mut cache), cache_3(&mut cache));
         cache.discard();
         check!(rt; held);
+    };
+    run(HostRuntime).passes();
+}
+
+#[test]
+fn of_counted() {
+    let run = |rt: HostRuntime| -> () {
+        let mut counts = Counts::default();
+        counts.count_look_up(true);
+        check!(rt; (counts.hits, counts.misses) == (1, 0));
+    };
+    run(HostRuntime).passes();
+}
+
+#[test]
+fn of_counted_2() {
+    let run = |rt: HostRuntime| -> () {
+        let mut counts = Counts::default();
+        counts.count_look_up(false);
+        check!(rt; counts.misses == 1);
+    };
+    run(HostRuntime).passes();
+}
+
+#[test]
+fn of_counted_3() {
+    let run = |rt: HostRuntime| -> () {
+        let alloc = rt.alloc();
+        let done: Result<bool, ()> = Ok(true);
+        let mut counts = Counts::default();
+        counts.count_insert(&done, 1);
+        let held = (counts.insertions, counts.rejections, counts.evictions) == (1, 0, 1);
+        let counted: CountedMap<u64, u64, ByLength> = CountedMap::new(LruMap::with_limiter(alloc, ByLength::new(3)));
+        let held = held & all!(counted.map().is_empty());
+        check!(rt; held);
+    };
+    run(HostRuntime).passes();
+}
+
+#[test]
+fn of_counted_4() {
+    let run = |rt: HostRuntime| -> () {
+        let alloc = rt.alloc();
+        let counted: CountedMap<u64, u64, ByLength> = CountedMap::new(LruMap::with_limiter(alloc, ByLength::new(3)));
+        check!(rt; counted.into_map().is_empty());
     };
     run(HostRuntime).passes();
 }

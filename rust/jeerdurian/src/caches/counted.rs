@@ -1,0 +1,88 @@
+//! A map that counts hits, misses, insertions, rejections and evictions.
+
+use crate::erased::lru_caches as proved;
+pub use crate::erased::lru_caches::Counts;
+use crate::keys::{Named, Offered};
+use crate::limiter::{Calls, Limiter};
+use crate::{ByLength, LruMap, RandomState};
+use core::hash::{BuildHasher, Hash};
+
+/// A map that counts its look-ups and its inserts. A plain `LruMap` counts nothing, and costs nothing more.
+///
+/// Proved: each call does what the call of the map does, and the counts are exact, until one reaches `u64::MAX`.
+///
+/// ```
+/// use jeerdurian::{ByLength, LruMap, caches::CountedMap};
+///
+/// let mut counted = CountedMap::new(LruMap::new(ByLength::new(1)));
+/// assert!(counted.insert("a", 1) && counted.insert("b", 2));
+/// assert_eq!((counted.get(&"a"), counted.get(&"b")), (None, Some(&2)));
+/// let counts = counted.counts();
+/// assert_eq!((counts.hits, counts.misses, counts.insertions, counts.evictions), (1, 1, 2, 1));
+/// ```
+pub struct CountedMap<K, V, L = ByLength, S = RandomState>
+where
+    K: Eq + Hash,
+    L: Limiter<K, V>,
+    S: BuildHasher,
+{
+    counted: proved::CountedMap<K, V, Calls<L>, S>,
+}
+
+impl<K: Eq + Hash, V, L: Limiter<K, V>, S: BuildHasher> CountedMap<K, V, L, S> {
+    /// Counts the calls on this map from now on.
+    pub fn new(map: LruMap<K, V, L, S>) -> Self {
+        CountedMap { counted: proved::CountedMap::new(map.map) }
+    }
+
+    /// Returns the counts.
+    pub fn counts(&self) -> Counts {
+        self.counted.counts()
+    }
+
+    /// Returns the counts, and begins again with zeros.
+    pub fn take_counts(&mut self) -> Counts {
+        self.counted.take_counts()
+    }
+
+    /// Returns the map, and drops the counts.
+    pub fn into_map(self) -> LruMap<K, V, L, S> {
+        LruMap { map: self.counted.into_map() }
+    }
+
+    /// Returns the number of entries.
+    pub fn len(&self) -> usize {
+        self.counted.map().len()
+    }
+
+    /// Returns whether there are no entries.
+    pub fn is_empty(&self) -> bool {
+        self.counted.map().is_empty()
+    }
+
+    /// Returns the value of a key. The order stays, and nothing is counted.
+    pub fn peek(&self, key: &(impl Hash + PartialEq<K> + ?Sized)) -> Option<&V> {
+        self.counted.map().peek(&Named(key))
+    }
+
+    /// Returns the value of a key, as the newest, and counts a hit. If the key is not there, counts a miss.
+    pub fn get(&mut self, key: &(impl Hash + PartialEq<K> + ?Sized)) -> Option<&V> {
+        if !self.counted.promote(&Named(key)) {
+            return None;
+        }
+        self.counted.map().peek_newest().map(|(_, value)| value)
+    }
+
+    /// Does what `LruMap::insert` does, and counts the insert.
+    pub fn insert<'a>(&mut self, key: L::KeyToInsert<'a>, value: V) -> bool
+    where
+        L::KeyToInsert<'a>: Hash + PartialEq<K>,
+    {
+        self.counted.insert(Offered(key), value).unwrap_or(false)
+    }
+
+    /// Does what `LruMap::remove` does. A removal counts nothing.
+    pub fn remove(&mut self, key: &(impl Hash + PartialEq<K> + ?Sized)) -> Option<V> {
+        self.counted.remove(&Named(key))
+    }
+}
