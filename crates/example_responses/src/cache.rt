@@ -2,6 +2,9 @@
 ghost use Rattle.std.specs.Prelude.{◌≡◌, ◌<◌, true, nat_eq, Err, None, IfOk, OnErr, IfSome};
 ghost use Rattle.std.specs.Prelude.{string_bytes, string_eq, vec_len};
 ghost use Rattle.std.specs.List.{starts_with};
+ghost use Rattle.std.specs.Option.{option_map};
+ghost use Rattle.std_collections.specs.BTreeMap.{get_by_text};
+ghost use Rattle.lru_caches.specs.Counted.{looked_up, inserted};
 ghost use Rattle.lru_limits.specs.Texts.{names_text};
 ghost use Rattle.lru_tenants.specs.Cache.{On, tenant};
 ghost use Rattle.lru_tenants.specs.TenantRuns.{OfOpen, IfOpen};
@@ -108,7 +111,9 @@ impl ResponseCache {
     }
 
     fn count_look_up(&mut self, host: &str, found: bool)
-        ensures { self.new.entries ≡ self.old.entries }
+        ensures entries { self.new.entries ≡ self.old.entries }
+        ensures counts { get_by_text self.new.counts host.now
+            ≡ option_map (looked_up found) (get_by_text self.old.counts host.now) }
     {
         if let Some(counts) = self.counts.get_mut(host) {
             counts.count_look_up(found);

@@ -137,7 +137,7 @@ impl<K: Eq + Hash, V, L: Limiter<K, V>, S: KeyHasher<K>> CountedMap<K, V, L, S> 
     ///
     /// Cost: `O(1)`.
     pub fn take_counts(&mut self) -> Counts
-        ensures { result ≡ self.old.counts }
+        ensures taken { result ≡ self.old.counts }
         ensures zeros { self.new ≡ record self.old { counts = zeros } }
     {
         let counts = self.counts;
