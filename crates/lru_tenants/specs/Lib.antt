@@ -1,6 +1,7 @@
 -- What the contracts of `lru_tenants` cite.
 pub mod Cache
 pub mod Pool
+pub mod Bytes
 pub mod Inside
 pub mod Isolation
 pub mod TenantRuns
