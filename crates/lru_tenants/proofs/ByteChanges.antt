@@ -1,11 +1,13 @@
 -- What a call does to the named tenant determines what it does to a cache of bytes.
-use Rattle.std.proofs.Common.{◌≡◌, ℕ, Bool, true, false, cond, List, ◌∷◌, Option, Some, None, is_some, refl, sym, ap}
+use Rattle.std.proofs.Common.{◌≡◌, ◌+◌, ◌≤◌, arith, ℕ, Bool, true, false, cond, List, ◌∷◌, Option, Some, None, is_some, refl, sym, ap}
 use Rattle.std.proofs.Common.{◌∙◌, subst}
+use Rattle.std.proofs.lemmas.Bool.Decides.{nat_tests}
 use Rattle.std.proofs.lemmas.Map.{lookup-set_value, lookup-remove_entry}
 use Rattle.std.specs.Cmp.{IsEquivalence}
 use Rattle.std.specs.List.{IsDistinct}
 use Rattle.std.specs.Map.{keys_of, lookup, remove_entry, set_value}
 use Rattle.std.specs.Option.{unwrap_or}
+use Rattle.std.specs.Prelude.{nat_lt}
 use Rattle.lru_limits.specs.Bytes.{Bytes}
 use Rattle.lru_model.specs.Sizes.{usage}
 use Rattle.lru_model.specs.State.{State, Contents, Leaves as Stays}
@@ -78,3 +80,7 @@ on-same {names = names} Does answer cache was is does = (
   subst (λ t. Does t answer t) (sym is) does,
   leaves-same names cache,
 )
+
+pub not-over : (limit reserved left bytes more : ℕ) → left + reserved ≡ limit → bytes ≤ left → bytes ≡ more
+    → nat_lt limit (reserved + more) ≡ false
+not-over limit reserved left bytes more sum fits is = grind (arith, nat_tests)

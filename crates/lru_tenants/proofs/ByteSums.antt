@@ -1,5 +1,5 @@
 -- What a cache of tenants takes is within its limit, and stays there if one tenant's map changes.
-use Rattle.std.proofs.Common.{◌≡◌, ◌+◌, ◌-◌, ◌^◌, ◌≤◌, ◌<◌, ℕ, Bool, List, [], ◌∷◌, Option, Some, None, length, refl, sym}
+use Rattle.std.proofs.Common.{◌≡◌, ◌+◌, ◌-◌, ◌^◌, ◌≤◌, ◌<◌, ◌⊎◌, inl, ℕ, Bool, List, [], ◌∷◌, Option, Some, None, length, refl, sym}
 use Rattle.std.proofs.Common.{ap, ◌∙◌, arith, sum_by, subst}
 use Rattle.std.specs.List.{All}
 use Rattle.std.specs.Map.{lookup, remove_entry, set_value, values_of}
@@ -13,6 +13,7 @@ use Rattle.lru_limits.specs.Bytes.{Bytes, both_own, in_word}
 use Rattle.lru_model.specs.Bytes.{KeepsBytes}
 use Rattle.lru_model.specs.Calls.{written}
 use Rattle.lru_model.specs.Lists.{lookup_entry}
+use Rattle.lru_model.specs.Runs.{Run, ends, goes_on}
 use Rattle.lru_model.specs.Sizes.{usage}
 use Rattle.lru_model.specs.State.{State, IsSized, buckets}
 use Rattle.lru_model.proofs.CallerLemmas.{lookup-entry, usage_bytes}
@@ -43,6 +44,12 @@ has_table st n sized more = omega (
 
     some : 0 < buckets st
     some = full st.table.states sized.taken
+
+-- steps that write no value
+pub run-kept : {K V L H : Type 0} {IsStep IsWrite : State K V L H → State K V L H → Type 0} (new old : State K V L H)
+    → Run IsStep new old → Run (λ a b. IsStep a b ⊎ IsWrite a b) new old
+run-kept new old ends = ends
+run-kept new old (goes_on mid step sized more) = goes_on mid (inl step) sized (run-kept new mid more)
 
 module _ {N K V S : Type 0} (of_name : N → ℕ) (of_pair : K → V → ℕ) where
   abbrev counted : N × State K V Bytes S → ℕ
@@ -91,15 +98,20 @@ module _ {N K V S : Type 0} (of_name : N → ℕ) (of_pair : K → V → ℕ) wh
           )),
         )
 
-    pub holds-removed : (names : N → Bool) (new : State N (State K V Bytes S) Bytes S)
-        → new.pairs ≡ remove_entry names tenants.pairs → limit_of new ≡ limit_of tenants
+    pub holds-at : (pairs : List (N × State K V Bytes S)) (new : State N (State K V Bytes S) Bytes S)
+        → new.pairs ≡ pairs → All (KeepsBytes of_pair) (values_of pairs) → limit_of new ≡ limit_of tenants
         → KeepsBytes (both_own of_name limit_of) new → HoldsBytes of_name of_pair new
-    holds-removed names new is same keeps = record {
-      each = subst (λ l. All (KeepsBytes of_pair) (values_of l)) (sym is)
-          (All-map-remove_entry names (λ e. e.1) (KeepsBytes of_pair) tenants.pairs holds.each);
+    holds-at pairs new is each same keeps = record {
+      each = subst (λ l. All (KeepsBytes of_pair) (values_of l)) (sym is) each;
       all = keeps;
       small = omega (arith, same, holds.small);
     }
+
+    pub holds-removed : (names : N → Bool) (new : State N (State K V Bytes S) Bytes S)
+        → new.pairs ≡ remove_entry names tenants.pairs → limit_of new ≡ limit_of tenants
+        → KeepsBytes (both_own of_name limit_of) new → HoldsBytes of_name of_pair new
+    holds-removed names new is = holds-at (remove_entry names tenants.pairs) new is
+        (All-map-remove_entry names (λ e. e.1) (KeepsBytes of_pair) tenants.pairs holds.each)
 
     module _ (names : N → Bool) (was left : State K V Bytes S) (there : lookup names tenants.pairs ≡ Some was)
         (same : limit_of left ≡ limit_of was) where

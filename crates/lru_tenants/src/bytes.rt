@@ -1,5 +1,5 @@
 //! One limit for the bytes of all tenants.
-ghost use Rattle.std.specs.Prelude.{◌≡◌, [], length};
+ghost use Rattle.std.specs.Prelude.{◌≡◌, ◌+◌, [], length};
 ghost use Rattle.std.specs.Borrow.{u32 as link};
 ghost use Rattle.std.specs.Result.{OnErr};
 ghost use Rattle.std.specs.List.{All, IsDistinct};
@@ -8,7 +8,7 @@ ghost use Rattle.lru_limits.specs.Bytes.{both_own, by_bytes, bytes_offers};
 ghost use Rattle.lru_limits.specs.Mixing.{seeded};
 ghost use Rattle.lru_model.specs.Bytes.{KeepsBytes};
 ghost use Rattle.ordered_table.specs.EntrySize.{entry_size};
-ghost use Rattle.lru_tenants.specs.Bytes.{IsWithin, is_over, fresh, On};
+ghost use Rattle.lru_tenants.specs.Bytes.{IsWithin, reserved, is_over, fresh, On};
 ghost use Rattle.lru_tenants.specs.TenantRuns.{OfOpen, Opens, Puts, Closes, IfOpen};
 ghost use Rattle.lru_model.specs.Calls.{Remove};
 
@@ -149,6 +149,62 @@ impl<
         ensures { result ≡ self.now.limit }
     {
         self.tenants.limiter().limit()
+    }
+
+    /// Returns how many bytes are left for one tenant more: for its limit and the bytes that its name owns. If the table
+    /// of tenants must grow, fewer are left.
+    ///
+    /// ```
+    /// assert!(rt; bytes.left() < 500);
+    /// ```
+    ///
+    /// Cost: `O(1)`.
+    pub fn left(&self) -> u64
+        ensures { result + reserved N.owned self.now ≡ self.now.limit }
+    {
+        let table = self.tenants.memory_usage() as u64;
+        let limiter = self.tenants.limiter();
+        limiter.limit() - limiter.owned() - table
+    }
+
+    /// Opens a tenant with an empty map and its own limit of bytes. No call of an open tenant fails because of another.
+    ///
+    /// ```
+    /// assert_eq!(rt; (bytes.open(2, 100), bytes.open(1, 100)), (Ok(()), Err(TenantError::AlreadyOpen)));
+    /// assert_eq!(rt; bytes.open(3, 1000), Err(TenantError::OverTotal));
+    /// ```
+    ///
+    /// Cost: as `LruMap::try_insert`, over the tenants.
+    ///
+    /// # Errors
+    ///
+    /// The tenants stay.
+    ///
+    /// - `AlreadyOpen`
+    /// - `OverTotal`: the name and the limit need more bytes than are left (`left`).
+    /// - `Memory`: the table of tenants must grow, and either memory or the limit does not suffice. The table may have
+    ///   grown.
+    pub fn open(&mut self, name: N, limit: u64) -> Result<(), TenantError>
+        ensures opens { On N.eq (N.eq name) (Opens (is_over N.owned name limit self.old)
+            (fresh (entry_size K.row V.row link) self.old.hasher limit)) self.old result
+            (record self.new { table = self.old.table }) }
+        ensures unchanged { OnErr result (self.new.tenants ≡ self.old.tenants) }
+        ensures within { IsWithin N.owned (both_own K.owned V.owned) self.new }
+    {
+        laws::runs_keep_the_bytes::<N, ByteTenant<K, V, S>, S>();
+        let _len = self.tenants.len();
+        if self.tenants.contains(&name) {
+            return Err(TenantError::AlreadyOpen);
+        }
+        let bytes = name.owned_bytes().saturating_add(limit);
+        if bytes > self.left() {
+            return Err(TenantError::OverTotal);
+        }
+        let own = ByteTenant::new(self.alloc, *self.tenants.hasher(), limit);
+        let Ok(()) = self.tenants.try_insert(name, own) else {
+            return Err(TenantError::Memory);
+        };
+        Ok(())
     }
 
     /// Inserts a key with a value, as the newest entry of the tenant. Returns whether the key is there afterwards.
