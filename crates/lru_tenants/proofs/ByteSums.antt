@@ -11,12 +11,12 @@ use Rattle.std.proofs.lemmas.Map.Views.{All-map-remove_entry, All-values-set_val
 use Rattle.group_table.specs.Bucket.{BucketState, entry_count}
 use Rattle.lru_limits.specs.Bytes.{Bytes, both_own, in_word}
 use Rattle.lru_model.specs.Bytes.{KeepsBytes}
-use Rattle.lru_model.specs.Calls.{written}
+use Rattle.lru_model.specs.Calls.{promoted, written}
 use Rattle.lru_model.specs.Lists.{lookup_entry}
 use Rattle.lru_model.specs.Runs.{Run, ends, goes_on}
 use Rattle.lru_model.specs.Sizes.{usage}
 use Rattle.lru_model.specs.State.{State, IsSized, buckets}
-use Rattle.lru_model.proofs.CallerLemmas.{lookup-entry, usage_bytes}
+use Rattle.lru_model.proofs.CallerLemmas.{lookup-entry, promoted-summed, usage_bytes}
 use Rattle.lru_model.proofs.Theorems.Sums.{sum-set}
 use Rattle.lru_tenants.specs.Bytes.{limit_of, table_bytes, taken}
 use Rattle.lru_tenants.specs.Inside.{HoldsBytes}
@@ -44,6 +44,16 @@ has_table st n sized more = omega (
 
     some : 0 < buckets st
     some = full st.table.states sized.taken
+
+pub promoted-keeps : {K V H : Type 0} {bytes_of : K → V → ℕ} (names : K → Bool) (st : State K V Bytes H)
+    → KeepsBytes bytes_of st → KeepsBytes bytes_of (promoted names st)
+promoted-keeps {bytes_of = bytes_of} names st k = record {
+  counts = record {
+    table = k.counts.table;
+    owned = promoted-summed names st bytes_of (λ b. b.owned) k.counts.owned;
+  };
+  within = k.within;
+}
 
 -- steps that write no value
 pub run-kept : {K V L H : Type 0} {IsStep IsWrite : State K V L H → State K V L H → Type 0} (new old : State K V L H)

@@ -7,5 +7,6 @@ pub mod Isolation
 pub mod TenantRuns
 pub mod Lending
 pub mod PoolLending
+pub mod ByteLending
 pub mod GetOrPuts
 pub mod PutFulls

@@ -18,6 +18,7 @@ use std::alloc::Global;
 use std::hash::Hash;
 use std::marker::Model;
 
+mod reading;
 mod tenant;
 
 use tenant::ByteTenant;
@@ -120,51 +121,6 @@ impl<
             tenants: LruMap::with_limiter_and_hasher(alloc, ByBytes::new(limit), hasher),
             alloc,
         }
-    }
-
-    /// Returns how many tenants are open.
-    ///
-    /// ```
-    /// assert_eq!(rt; bytes.len(), 1);
-    /// ```
-    ///
-    /// Cost: `O(1)`.
-    pub fn len(&self) -> usize
-        ensures len { result ≡ length self.now.tenants }
-        ensures names { IsDistinct N.eq (keys_of self.now.tenants) }
-        ensures tenants { All (KeepsBytes (both_own K.owned V.owned)) (values_of self.now.tenants) }
-        ensures within { IsWithin N.owned (both_own K.owned V.owned) self.now }
-    {
-        self.tenants.len()
-    }
-
-    /// Returns the limit of all bytes.
-    ///
-    /// ```
-    /// assert_eq!(rt; bytes.limit(), 1000);
-    /// ```
-    ///
-    /// Cost: `O(1)`.
-    pub fn limit(&self) -> u64
-        ensures { result ≡ self.now.limit }
-    {
-        self.tenants.limiter().limit()
-    }
-
-    /// Returns how many bytes are left for one tenant more: for its limit and the bytes that its name owns. If the table
-    /// of tenants must grow, fewer are left.
-    ///
-    /// ```
-    /// assert!(rt; bytes.left() < 500);
-    /// ```
-    ///
-    /// Cost: `O(1)`.
-    pub fn left(&self) -> u64
-        ensures { result + reserved N.owned self.now ≡ self.now.limit }
-    {
-        let table = self.tenants.memory_usage() as u64;
-        let limiter = self.tenants.limiter();
-        limiter.limit() - limiter.owned() - table
     }
 
     /// Opens a tenant with an empty map and its own limit of bytes. No call of an open tenant fails because of another.

@@ -1,9 +1,11 @@
-ghost use Rattle.std.specs.Prelude.{◌≡◌, length, option_map};
-ghost use Rattle.std.specs.Borrow.{u32 as link};
+ghost use Rattle.std.specs.Prelude.{◌≡◌};
+ghost use Rattle.std.specs.Borrow.{sem, u32 as link};
+ghost use Rattle.std.specs.Option.{option_copied};
 ghost use Rattle.lru_limits.specs.Bytes.{both_own, by_bytes, bytes_offers};
 ghost use Rattle.lru_model.specs.Bytes.{KeepsBytes};
-ghost use Rattle.lru_model.specs.Calls.{Remove};
+ghost use Rattle.lru_model.specs.Calls.{promoted, Remove};
 ghost use Rattle.lru_model.specs.Inserts.{Insert};
+ghost use Rattle.lru_model.specs.Lists.{lookup};
 ghost use Rattle.ordered_table.specs.EntrySize.{entry_size};
 ghost use Rattle.lru_tenants.specs.Bytes.{fresh, limit_of};
 
@@ -14,11 +16,11 @@ use std::marker::Model;
 
 /// A tenant's map. It counts as its own limit, which is at most what it takes.
 #[derive(Drop)]
-pub(super) struct ByteTenant<K: Eq + Hash + OwnedBytes, V: OwnedBytes, S: KeyHasher<K> + Copy> {
+pub(super) struct ByteTenant<K: Eq + Hash + OwnedBytes, V: OwnedBytes, S: KeyHasher<K>> {
     pub(super) map: LruMap<K, V, ByBytes, S>,
 }
 
-impl<K: Eq + Hash + OwnedBytes, V: OwnedBytes, S: KeyHasher<K> + Copy> Model for ByteTenant<K, V, S> {
+impl<K: Eq + Hash + OwnedBytes, V: OwnedBytes, S: KeyHasher<K>> Model for ByteTenant<K, V, S> {
     ghost use Rattle.lru_limits.specs.Bytes.{Bytes};
     ghost use Rattle.lru_model.specs.State.{State};
 
@@ -27,7 +29,7 @@ impl<K: Eq + Hash + OwnedBytes, V: OwnedBytes, S: KeyHasher<K> + Copy> Model for
     ghost view = { λ own. own.map };
 }
 
-impl<K: Eq + Hash + OwnedBytes, V: OwnedBytes, S: KeyHasher<K> + Copy> OwnedBytes for ByteTenant<K, V, S> {
+impl<K: Eq + Hash + OwnedBytes, V: OwnedBytes, S: KeyHasher<K>> OwnedBytes for ByteTenant<K, V, S> {
     ghost owned = { limit_of };
 
     fn owned_bytes(&self) -> u64 {
@@ -35,7 +37,9 @@ impl<K: Eq + Hash + OwnedBytes, V: OwnedBytes, S: KeyHasher<K> + Copy> OwnedByte
     }
 }
 
-impl<K: Eq + Hash + OwnedBytes + Drop, V: OwnedBytes + Drop, S: KeyHasher<K> + Copy> ByteTenant<K, V, S> {
+impl<K: Eq + Hash + OwnedBytes + Drop, V: OwnedBytes + Drop, S: KeyHasher<K>> ByteTenant<K, V, S> {
+    ghost use Rattle.lru_tenants.specs.ByteLending.{ends_as};
+
     pub(super) fn new(alloc: Global, hasher: S, limit: u64) -> Self
         ensures map { result ≡ fresh (entry_size K.row V.row link) hasher limit }
         ensures keeps { KeepsBytes (both_own K.owned V.owned) result }
@@ -56,6 +60,17 @@ impl<K: Eq + Hash + OwnedBytes + Drop, V: OwnedBytes + Drop, S: KeyHasher<K> + C
         laws::calls_keep_the_bytes::<K, V, S>();
         let _len = self.map.len();
         self.map.insert(key, value)
+    }
+
+    pub(super) fn get<Q: LookupKey<K>>(&mut self, key: &Q) -> Option<&V>
+        ensures* ends { sem 𝓛 (ends_as K.row V.row S.row S.Hasher.row K.Hash K.owned V.owned S.KeyHasher S.Hasher.Hasher
+            self.entry (promoted (Q.names key.now) self.old)) }
+        ensures value { option_copied result ≡ lookup (Q.names key.now) self.old.pairs }
+    {
+        match self.map.get(key) {
+            Some(value) => Some(&*value),
+            None => None,
+        }
     }
 
     pub(super) fn remove<Q: LookupKey<K>>(&mut self, key: &Q) -> Option<V>
