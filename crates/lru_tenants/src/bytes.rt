@@ -25,17 +25,20 @@ use tenant::ByteTenant;
 
 /// A cache for many tenants within one limit of bytes.
 ///
-/// The limit is for everything: the table of tenants, their names, their tables, and what their entries own. Each
-/// tenant has its own limit for its table and for what its entries own.
+/// After each call, the table of tenants, what the names own, the tables of the tenants, and what the entries own take
+/// at most the limit together (`within`). Each tenant has its own limit, for its table and what its entries own, and
+/// evicts its oldest entries to keep to it, as a map under [`ByBytes`] does.
 ///
-/// In the examples of the calls, `bytes` has a limit of 1,000 bytes, and one tenant, 1, with a limit of 500 bytes and
+/// While a table grows, the old table also exists, and is not counted.
+///
+/// In the examples of the calls, `bytes` has a limit of 4,000 bytes, and one tenant, 1, with a limit of 500 bytes and
 /// the entry (7, 2).
 ///
 /// ```
-/// let mut bytes: ByteTenants<u64, u64, u64> = ByteTenants::new(alloc, [1, 2, 3, 4], 1000);
+/// let mut bytes: ByteTenants<u64, u64, u64> = ByteTenants::new(alloc, [1, 2, 3, 4], 4000);
 /// assert_eq!(rt; bytes.open(1, 500), Ok(()));
 /// assert_eq!(rt; bytes.put(&1, 7, 2), Ok(true));
-/// assert_eq!(rt; bytes.open(2, 500), Err(TenantError::OverTotal));
+/// assert_eq!(rt; bytes.open(2, 3500), Err(TenantError::OverTotal));
 /// ```
 pub struct ByteTenants<
     N: Eq + Hash + OwnedBytes,
@@ -89,8 +92,8 @@ impl<
     /// Makes a cache without tenants (see `TenantCache::new`). Cost: `O(1)`, and no memory.
     ///
     /// ```
-    /// let bytes: ByteTenants<u64, u64, u64> = ByteTenants::new(alloc, [1, 2, 3, 4], 1000);
-    /// assert_eq!(rt; (bytes.len(), bytes.limit()), (0, 1000));
+    /// let bytes: ByteTenants<u64, u64, u64> = ByteTenants::new(alloc, [1, 2, 3, 4], 4000);
+    /// assert_eq!(rt; (bytes.len(), bytes.left()), (0, 4000));
     /// ```
     pub fn new(alloc: Global, seeds: [u64; 4], limit: u64) -> Self
         ensures { result ≡ record { tenants = []; table = 0; limit = limit; hasher = seeded seeds } }
@@ -110,7 +113,7 @@ impl<
     ///
     /// ```
     /// let bytes: ByteTenants<u64, u64, u64, _> =
-    ///     ByteTenants::with_hasher(alloc, std::collections::hash_map::RandomState::new(&rt)?, 1000);
+    ///     ByteTenants::with_hasher(alloc, std::collections::hash_map::RandomState::new(&rt)?, 4000);
     /// assert_eq!(rt; bytes.len(), 0);
     /// ```
     pub fn with_hasher(alloc: Global, hasher: S, limit: u64) -> Self
@@ -118,28 +121,33 @@ impl<
     {
         laws::calls_keep_the_bytes::<N, ByteTenant<K, V, S>, S>();
         ByteTenants {
-            tenants: LruMap::with_limiter_and_hasher(alloc, ByBytes::new(limit), hasher),
+            tenants: LruMap::<N, ByteTenant<K, V, S>, ByBytes, S>::with_limiter_and_hasher(
+                alloc,
+                ByBytes::new(limit),
+                hasher,
+            ),
             alloc,
         }
     }
 
-    /// Opens a tenant with an empty map and its own limit of bytes. No call of an open tenant fails because of another.
+    /// Opens a tenant with an empty map and its own limit of bytes. The limit counts as taken until the tenant is
+    /// closed.
     ///
     /// ```
     /// assert_eq!(rt; (bytes.open(2, 100), bytes.open(1, 100)), (Ok(()), Err(TenantError::AlreadyOpen)));
-    /// assert_eq!(rt; bytes.open(3, 1000), Err(TenantError::OverTotal));
+    /// assert_eq!(rt; bytes.open(3, 3500), Err(TenantError::OverTotal));
     /// ```
     ///
-    /// Cost: as `LruMap::try_insert`, over the tenants.
+    /// Cost: as `LruMap::try_insert`.
     ///
     /// # Errors
     ///
-    /// The tenants stay.
+    /// The tenants are unchanged.
     ///
     /// - `AlreadyOpen`
-    /// - `OverTotal`: the name and the limit need more bytes than are left (`left`).
-    /// - `Memory`: the table of tenants must grow, and either memory or the limit does not suffice. The table may have
-    ///   grown.
+    /// - `OverTotal`: the tenant's limit and the bytes of its name are above `left`.
+    /// - `Memory`: the table of tenants must grow, and memory or the limit does not permit it, or the tenant does not
+    ///   fit once it has grown.
     pub fn open(&mut self, name: N, limit: u64) -> Result<(), TenantError>
         ensures opens { On N.eq (N.eq name) (Opens (is_over N.owned name limit self.old)
             (fresh (entry_size K.row V.row link) self.old.hasher limit)) self.old result
@@ -165,7 +173,7 @@ impl<
 
     /// Inserts a key with a value, as the newest entry of the tenant. Returns whether the key is there afterwards.
     ///
-    /// The tenant's limit decides what is evicted, as [`ByBytes`] does in a map. No entry of another tenant is evicted.
+    /// Follows `LruMap::insert` under [`ByBytes`] with the tenant's limit.
     ///
     /// ```
     /// assert_eq!(rt; (bytes.put(&1, 8, 3), bytes.put(&9, 8, 3)), (Ok(true), Err(TenantError::NotOpen)));

@@ -21,7 +21,7 @@ impl<
     V: OwnedBytes,
     S: KeyHasher<K> + Copy,
 > ByteTenants<N, K, V, S> {
-        /// Returns how many tenants are open.
+    /// Returns how many tenants are open.
     ///
     /// ```
     /// assert_eq!(rt; bytes.len(), 1);
@@ -40,7 +40,7 @@ impl<
     /// Returns the limit of all bytes.
     ///
     /// ```
-    /// assert_eq!(rt; bytes.limit(), 1000);
+    /// assert_eq!(rt; bytes.limit(), 4000);
     /// ```
     ///
     /// Cost: `O(1)`.
@@ -50,11 +50,11 @@ impl<
         self.tenants.limiter().limit()
     }
 
-    /// Returns how many bytes are left for one tenant more: for its limit and the bytes that its name owns. If the table
-    /// of tenants must grow, fewer are left.
+    /// Returns how many bytes are left for the limit of a further tenant and the bytes that its name owns. Fewer are left
+    /// if the table of tenants must grow.
     ///
     /// ```
-    /// assert!(rt; bytes.left() < 500);
+    /// assert!(rt; bytes.left() < 3500);
     /// ```
     ///
     /// Cost: `O(1)`.

@@ -47,8 +47,11 @@ returns-in_default-clause-closes g c =
     let absent = sym found ∙ c.in_default.is in
     let same = law.limit old new c.len-len.ensures.map.sized (removes names c.remove.result c.remove.ensures.step)
     c.self.invariant.all in
-    rw (← c.self.view_is, left-view old new _ c.remove.ensures.step.state same,
-    without_none names old.pairs (no_pair names old.pairs absent))
+    rw (
+      ← c.self.view_is,
+      left-view old new _ c.remove.ensures.step.state same,
+      without_none names old.pairs (no_pair names old.pairs absent),
+    )
     (on-same (OfOpen Closes) (Err NotOpen) _ None absent (refl, refl))
 
 pub returns-clause-closes : goal.returns-clause-closes

@@ -49,7 +49,8 @@ returns-clause-puts g c =
       budget = c.insert.ensures.limit;
       said = elim (c.match-insert.branch) [
         | in-Ok w ↦ w.result-is ∙ sym (ap put_answer w.in-Ok.is)
-        | in-Err w ↦ w.result-is ∙ sym (ap put_answer w.in-Err.is) ];
+        | in-Err w ↦ w.result-is ∙ sym (ap put_answer w.in-Err.is)
+      ];
       is = refl;
     }) (leaves-written names g.met.N.Eq.laws (g.met.T.LookupKey.laws.one c.args.name.now) _ _ _
     c.self.inside.tenants.pairs was there left))

@@ -1,0 +1,187 @@
+//! One limit for the bytes of all tenants.
+
+use super::TenantError;
+use crate::erased::lru_tenants as proved;
+use crate::keys::Borrowed;
+use crate::rattle_std::alloc::Global;
+use crate::{OwnedBytes, RandomState};
+use core::borrow::Borrow;
+use core::hash::{BuildHasher, Hash};
+
+/// A cache for many tenants within one limit of bytes.
+///
+/// After each call, the table of tenants, what the names own, the tables of the tenants, and what the entries own take
+/// at most the limit together. Each tenant has its own limit, for its table and what its entries own, and evicts its
+/// oldest entries to keep to it, as a map under [`ByBytes`](crate::ByBytes) does.
+///
+/// While a table grows, the old table also exists, and is not counted. Proved of the sources, for names, keys and values
+/// that own the same bytes while they are stored.
+///
+/// In the examples of the calls, `bytes` has a limit of 4,000 bytes, and one tenant, 1, with a limit of 500 bytes and
+/// the entry (7, 2).
+///
+/// ```
+/// use jeerdurian::tenants::{ByteTenants, TenantError};
+///
+/// let mut bytes: ByteTenants<u64, u64, u64> = ByteTenants::new(4000);
+/// assert_eq!((bytes.open(1, 500), bytes.put(&1, 7, 2)), (Ok(()), Ok(true)));
+/// assert_eq!(bytes.open(2, 3500), Err(TenantError::OverTotal));
+/// ```
+pub struct ByteTenants<N, K, V, S = RandomState>
+where
+    N: Eq + Hash + OwnedBytes,
+    K: Eq + Hash + OwnedBytes,
+    V: OwnedBytes,
+    S: BuildHasher + Copy,
+{
+    bytes: proved::ByteTenants<N, K, V, S>,
+}
+
+impl<N, K, V, S> core::fmt::Debug for ByteTenants<N, K, V, S>
+where
+    N: Eq + Hash + OwnedBytes,
+    K: Eq + Hash + OwnedBytes,
+    V: OwnedBytes,
+    S: BuildHasher + Copy,
+{
+    fn fmt(&self, f: &mut core::fmt::Formatter<'_>) -> core::fmt::Result {
+        f.debug_struct("ByteTenants").field("len", &self.len()).finish_non_exhaustive()
+    }
+}
+
+impl<N: Eq + Hash + OwnedBytes, K: Eq + Hash + OwnedBytes, V: OwnedBytes> ByteTenants<N, K, V> {
+    /// Makes a cache without tenants, whose hashers have random seeds. It takes no memory.
+    ///
+    /// ```
+    /// # use jeerdurian::tenants::ByteTenants;
+    /// let bytes: ByteTenants<String, u64, u64> = ByteTenants::new(4000);
+    /// assert!(bytes.is_empty());
+    /// ```
+    #[cfg(feature = "runtime-rng")]
+    pub fn new(limit: u64) -> Self {
+        Self::with_hasher(RandomState::default(), limit)
+    }
+}
+
+impl<N, K, V, S> ByteTenants<N, K, V, S>
+where
+    N: Eq + Hash + OwnedBytes,
+    K: Eq + Hash + OwnedBytes,
+    V: OwnedBytes,
+    S: BuildHasher + Copy,
+{
+    /// Makes a cache without tenants, with this hasher of names and keys. It takes no memory.
+    ///
+    /// ```
+    /// # use jeerdurian::{RandomState, tenants::ByteTenants};
+    /// let bytes: ByteTenants<u64, u64, u64> = ByteTenants::with_hasher(RandomState::default(), 4000);
+    /// assert_eq!((bytes.limit(), bytes.left()), (4000, 4000));
+    /// ```
+    pub fn with_hasher(hasher: S, limit: u64) -> Self {
+        ByteTenants { bytes: proved::ByteTenants::with_hasher(Global, hasher, limit) }
+    }
+
+    /// Returns the number of open tenants.
+    pub fn len(&self) -> usize {
+        self.bytes.len()
+    }
+
+    /// Returns whether no tenant is open.
+    pub fn is_empty(&self) -> bool {
+        self.bytes.len() == 0
+    }
+
+    /// Returns the limit of all bytes.
+    pub fn limit(&self) -> u64 {
+        self.bytes.limit()
+    }
+
+    /// Returns how many bytes are left for the limit of a further tenant and the bytes that its name owns. Fewer are
+    /// left if the table of tenants must grow.
+    pub fn left(&self) -> u64 {
+        self.bytes.left()
+    }
+
+    /// Opens a tenant with an empty map and its own limit of bytes. The limit counts as taken until the tenant is
+    /// closed.
+    ///
+    /// # Errors
+    ///
+    /// The tenants are unchanged. `AlreadyOpen`; `OverTotal`: the limit and the bytes of the name are above
+    /// [`left`](Self::left); `Memory`: the table of tenants must grow, and memory or the limit does not permit it, or the
+    /// tenant does not fit once it has grown.
+    pub fn open(&mut self, name: N, limit: u64) -> Result<(), TenantError> {
+        self.bytes.open(name, limit)
+    }
+
+    /// Inserts a key with a value, as the newest entry of the tenant. Returns whether the key is there then.
+    ///
+    /// # Errors
+    ///
+    /// `NotOpen`: nothing has changed. `Memory`: out of memory for the entry, which is not there then.
+    pub fn put<T>(&mut self, name: &T, key: K, value: V) -> Result<bool, TenantError>
+    where
+        N: Borrow<T>,
+        T: Eq + Hash + ?Sized,
+    {
+        self.bytes.put(&Borrowed(name), key, value)
+    }
+
+    /// Returns a tenant's value of a key, and makes its entry the tenant's newest.
+    ///
+    /// # Errors
+    ///
+    /// `NotOpen`: nothing has changed.
+    pub fn get<T, Q>(&mut self, name: &T, key: &Q) -> Result<Option<&V>, TenantError>
+    where
+        N: Borrow<T>,
+        T: Eq + Hash + ?Sized,
+        K: Borrow<Q>,
+        Q: Eq + Hash + ?Sized,
+    {
+        self.bytes.get(&Borrowed(name), &Borrowed(key))
+    }
+
+    /// Returns a tenant's value of a key. The order stays.
+    ///
+    /// # Errors
+    ///
+    /// `NotOpen`.
+    pub fn peek<T, Q>(&self, name: &T, key: &Q) -> Result<Option<&V>, TenantError>
+    where
+        N: Borrow<T>,
+        T: Eq + Hash + ?Sized,
+        K: Borrow<Q>,
+        Q: Eq + Hash + ?Sized,
+    {
+        self.bytes.peek(&Borrowed(name), &Borrowed(key))
+    }
+
+    /// Removes a key of a tenant. Returns its value.
+    ///
+    /// # Errors
+    ///
+    /// `NotOpen`: nothing has changed.
+    pub fn remove<T, Q>(&mut self, name: &T, key: &Q) -> Result<Option<V>, TenantError>
+    where
+        N: Borrow<T>,
+        T: Eq + Hash + ?Sized,
+        K: Borrow<Q>,
+        Q: Eq + Hash + ?Sized,
+    {
+        self.bytes.remove(&Borrowed(name), &Borrowed(key))
+    }
+
+    /// Closes a tenant and drops its entries. Returns the number of these entries. The table of tenants keeps its size.
+    ///
+    /// # Errors
+    ///
+    /// `NotOpen`: nothing has changed.
+    pub fn close<T>(&mut self, name: &T) -> Result<usize, TenantError>
+    where
+        N: Borrow<T>,
+        T: Eq + Hash + ?Sized,
+    {
+        self.bytes.close(&Borrowed(name))
+    }
+}
