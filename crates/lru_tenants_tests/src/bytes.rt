@@ -26,8 +26,8 @@ fn serve(pages: &mut Pages, host: &str, paths: Vec<String>) -> Result<u64, Tenan
     Ok(hits)
 }
 
-/// Serves a host, whatever is returned: the table of hosts, the names of the hosts, and the tables, paths and pages of
-/// all hosts take at most the limit.
+/// Serves a host. Whatever `serve` returns, the table of hosts, their names, tables, paths and pages take at most the
+/// limit.
 fn serve_within(pages: &mut Pages, host: &str, paths: Vec<String>) -> Result<u64, TenantError>
     ensures { pages.new.table + sum_by (taken (λ name. block_bytes (string_capacity name))
         (both_own (λ path. block_bytes (string_capacity path)) (λ page. block_bytes (string_capacity page))))

@@ -50,8 +50,7 @@ impl<
         self.tenants.limiter().limit()
     }
 
-    /// Returns how many bytes are left for the limit of a further tenant and the bytes that its name owns. Fewer are left
-    /// if the table of tenants must grow.
+    /// Returns how many bytes are left for a further tenant: for its limit and its name, in the present table.
     ///
     /// ```
     /// assert!(rt; bytes.left() < 3500);
@@ -101,8 +100,6 @@ impl<
     ghost use Rattle.lru_tenants.specs.ByteLending.{ends_so};
 
     /// Returns a tenant's value of a key, and makes its entry the tenant's newest.
-    ///
-    /// The value is lent only for reading, so what it owns does not change.
     ///
     /// ```
     /// assert_eq!(rt; bytes.get(&1, &7), Ok(Some(&2)));

@@ -8,24 +8,18 @@ use crate::{OwnedBytes, RandomState};
 use core::borrow::Borrow;
 use core::hash::{BuildHasher, Hash};
 
-/// A cache for many tenants within one limit of bytes.
+/// A cache for many tenants within one limit of bytes: for the table of tenants, their names, their tables, and what
+/// their entries own.
 ///
-/// After each call, the table of tenants, what the names own, the tables of the tenants, and what the entries own take
-/// at most the limit together. Each tenant has its own limit, for its table and what its entries own, and evicts its
-/// oldest entries to keep to it, as a map under [`ByBytes`](crate::ByBytes) does.
-///
-/// While a table grows, the old table also exists, and is not counted. Proved of the sources, for names, keys and values
-/// that own the same bytes while they are stored.
-///
-/// In the examples of the calls, `bytes` has a limit of 4,000 bytes, and one tenant, 1, with a limit of 500 bytes and
-/// the entry (7, 2).
+/// Each tenant has its own limit, which its map keeps as under [`ByBytes`](crate::ByBytes). While a table grows, the old
+/// table is not counted. The calls do what the calls of a [`TenantCache`](super::TenantCache) do.
 ///
 /// ```
 /// use jeerdurian::tenants::{ByteTenants, TenantError};
 ///
 /// let mut bytes: ByteTenants<u64, u64, u64> = ByteTenants::new(4000);
 /// assert_eq!((bytes.open(1, 500), bytes.put(&1, 7, 2)), (Ok(()), Ok(true)));
-/// assert_eq!(bytes.open(2, 3500), Err(TenantError::OverTotal));
+/// assert_eq!((bytes.get(&1, &7), bytes.open(2, 3500)), (Ok(Some(&2)), Err(TenantError::OverTotal)));
 /// ```
 pub struct ByteTenants<N, K, V, S = RandomState>
 where
@@ -50,13 +44,7 @@ where
 }
 
 impl<N: Eq + Hash + OwnedBytes, K: Eq + Hash + OwnedBytes, V: OwnedBytes> ByteTenants<N, K, V> {
-    /// Makes a cache without tenants, whose hashers have random seeds. It takes no memory.
-    ///
-    /// ```
-    /// # use jeerdurian::tenants::ByteTenants;
-    /// let bytes: ByteTenants<String, u64, u64> = ByteTenants::new(4000);
-    /// assert!(bytes.is_empty());
-    /// ```
+    /// Makes a cache without tenants, whose hashers have random seeds.
     #[cfg(feature = "runtime-rng")]
     pub fn new(limit: u64) -> Self {
         Self::with_hasher(RandomState::default(), limit)
@@ -70,13 +58,7 @@ where
     V: OwnedBytes,
     S: BuildHasher + Copy,
 {
-    /// Makes a cache without tenants, with this hasher of names and keys. It takes no memory.
-    ///
-    /// ```
-    /// # use jeerdurian::{RandomState, tenants::ByteTenants};
-    /// let bytes: ByteTenants<u64, u64, u64> = ByteTenants::with_hasher(RandomState::default(), 4000);
-    /// assert_eq!((bytes.limit(), bytes.left()), (4000, 4000));
-    /// ```
+    /// Makes a cache without tenants, with this hasher of names and keys.
     pub fn with_hasher(hasher: S, limit: u64) -> Self {
         ByteTenants { bytes: proved::ByteTenants::with_hasher(Global, hasher, limit) }
     }
@@ -96,29 +78,26 @@ where
         self.bytes.limit()
     }
 
-    /// Returns how many bytes are left for the limit of a further tenant and the bytes that its name owns. Fewer are
-    /// left if the table of tenants must grow.
+    /// Returns how many bytes are left for a further tenant: for its limit and its name, in the present table.
     pub fn left(&self) -> u64 {
         self.bytes.left()
     }
 
-    /// Opens a tenant with an empty map and its own limit of bytes. The limit counts as taken until the tenant is
-    /// closed.
+    /// Opens a tenant with an empty map, and reserves its limit until it is closed.
     ///
     /// # Errors
     ///
-    /// The tenants are unchanged. `AlreadyOpen`; `OverTotal`: the limit and the bytes of the name are above
-    /// [`left`](Self::left); `Memory`: the table of tenants must grow, and memory or the limit does not permit it, or the
-    /// tenant does not fit once it has grown.
+    /// The tenants are unchanged. `AlreadyOpen`, or `OverTotal`: the limit and the bytes of the name are above
+    /// [`left`](Self::left). `Memory`: memory or the limit does not permit the larger table of tenants that is needed.
     pub fn open(&mut self, name: N, limit: u64) -> Result<(), TenantError> {
         self.bytes.open(name, limit)
     }
 
-    /// Inserts a key with a value, as the newest entry of the tenant. Returns whether the key is there then.
+    /// Inserts a key with a value. Returns whether the key is there then.
     ///
     /// # Errors
     ///
-    /// `NotOpen`: nothing has changed. `Memory`: out of memory for the entry, which is not there then.
+    /// `NotOpen` or `Memory`.
     pub fn put<T>(&mut self, name: &T, key: K, value: V) -> Result<bool, TenantError>
     where
         N: Borrow<T>,
@@ -131,7 +110,7 @@ where
     ///
     /// # Errors
     ///
-    /// `NotOpen`: nothing has changed.
+    /// `NotOpen`.
     pub fn get<T, Q>(&mut self, name: &T, key: &Q) -> Result<Option<&V>, TenantError>
     where
         N: Borrow<T>,
@@ -161,7 +140,7 @@ where
     ///
     /// # Errors
     ///
-    /// `NotOpen`: nothing has changed.
+    /// `NotOpen`.
     pub fn remove<T, Q>(&mut self, name: &T, key: &Q) -> Result<Option<V>, TenantError>
     where
         N: Borrow<T>,
@@ -172,11 +151,11 @@ where
         self.bytes.remove(&Borrowed(name), &Borrowed(key))
     }
 
-    /// Closes a tenant and drops its entries. Returns the number of these entries. The table of tenants keeps its size.
+    /// Closes a tenant and drops its entries. Returns the number of these entries.
     ///
     /// # Errors
     ///
-    /// `NotOpen`: nothing has changed.
+    /// `NotOpen`.
     pub fn close<T>(&mut self, name: &T) -> Result<usize, TenantError>
     where
         N: Borrow<T>,

@@ -14,22 +14,18 @@ mod tenant;
 
 use tenant::ByteTenant;
 
-/// A cache for many tenants within one limit of bytes.
+/// A cache for many tenants within one limit of bytes: for the table of tenants, their names, their tables, and what
+/// their entries own.
 ///
-/// After each call, the table of tenants, what the names own, the tables of the tenants, and what the entries own take
-/// at most the limit together (`within`). Each tenant has its own limit, for its table and what its entries own, and
-/// evicts its oldest entries to keep to it, as a map under [`ByBytes`] does.
+/// Each tenant has its own limit, which its map keeps as under [`ByBytes`]. While a table grows, the old table is not
+/// counted.
 ///
-/// While a table grows, the old table also exists, and is not counted.
-///
-/// In the examples of the calls, `bytes` has a limit of 4,000 bytes, and one tenant, 1, with a limit of 500 bytes and
-/// the entry (7, 2).
+/// In the examples of the calls, `bytes` has a limit of 4,000 bytes, and tenant 1 with a limit of 500 bytes and the
+/// entry (7, 2).
 ///
 /// ```text
 /// let mut bytes: ByteTenants<u64, u64, u64> = ByteTenants::new(alloc, [1, 2, 3, 4], 4000);
-/// assert_eq!(rt; bytes.open(1, 500), Ok(()));
-/// assert_eq!(rt; bytes.put(&1, 7, 2), Ok(true));
-/// assert_eq!(rt; bytes.open(2, 3500), Err(TenantError::OverTotal));
+/// assert_eq!(rt; (bytes.open(1, 500), bytes.put(&1, 7, 2)), (Ok(()), Ok(true)));
 /// ```
 pub struct ByteTenants<
     N: Eq + Hash + OwnedBytes,
@@ -46,7 +42,7 @@ impl<N: Eq + Hash + OwnedBytes, K: Eq + Hash + OwnedBytes, V: OwnedBytes> ByteTe
     ///
     /// ```text
     /// let bytes: ByteTenants<u64, u64, u64> = ByteTenants::new(alloc, [1, 2, 3, 4], 4000);
-    /// assert_eq!(rt; (bytes.len(), bytes.left()), (0, 4000));
+    /// assert_eq!(rt; bytes.left(), 4000);
     /// ```
     pub fn new(alloc: Global, seeds: [u64; 4], limit: u64) -> Self {
         ByteTenants::with_hasher(alloc, RandomState::with_seeds(seeds), limit)
@@ -56,8 +52,7 @@ impl<N: Eq + Hash + OwnedBytes, K: Eq + Hash + OwnedBytes, V: OwnedBytes> ByteTe
 impl<N: Eq + Hash + OwnedBytes, K: Eq + Hash + OwnedBytes, V: OwnedBytes, S: KeyHasher<K> + Copy>
     ByteTenants<N, K, V, S>
 {
-    /// Makes a cache without tenants, with a hasher of names and keys (see `TenantCache::with_hasher`). Cost: `O(1)`,
-    /// and no memory.
+    /// Makes a cache without tenants (see `TenantCache::with_hasher`). Cost: `O(1)`, and no memory.
     ///
     /// ```text
     /// let bytes: ByteTenants<u64, u64, u64, _> =
@@ -76,11 +71,10 @@ impl<N: Eq + Hash + OwnedBytes, K: Eq + Hash + OwnedBytes, V: OwnedBytes, S: Key
         }
     }
 
-    /// Opens a tenant with an empty map and its own limit of bytes. The limit counts as taken until the tenant is
-    /// closed.
+    /// Opens a tenant with an empty map, and reserves its limit until it is closed.
     ///
     /// ```text
-    /// assert_eq!(rt; (bytes.open(2, 100), bytes.open(1, 100)), (Ok(()), Err(TenantError::AlreadyOpen)));
+    /// assert_eq!(rt; (bytes.open(1, 100), bytes.open(2, 100)), (Err(TenantError::AlreadyOpen), Ok(())));
     /// assert_eq!(rt; bytes.open(3, 3500), Err(TenantError::OverTotal));
     /// ```
     ///
@@ -88,12 +82,8 @@ impl<N: Eq + Hash + OwnedBytes, K: Eq + Hash + OwnedBytes, V: OwnedBytes, S: Key
     ///
     /// # Errors
     ///
-    /// The tenants are unchanged.
-    ///
-    /// - `AlreadyOpen`
-    /// - `OverTotal`: the tenant's limit and the bytes of its name are above `left`.
-    /// - `Memory`: the table of tenants must grow, and memory or the limit does not permit it, or the tenant does not
-    ///   fit once it has grown.
+    /// The tenants are unchanged. `AlreadyOpen`, or `OverTotal`: the limit and the bytes of the name are above `left`.
+    /// `Memory`: memory or the limit does not permit the larger table of tenants that is needed.
     pub fn open(&mut self, name: N, limit: u64) -> Result<(), TenantError> {
         laws::runs_keep_the_bytes::<N, ByteTenant<K, V, S>, S>();
         let _len = self.tenants.len();
@@ -111,9 +101,7 @@ impl<N: Eq + Hash + OwnedBytes, K: Eq + Hash + OwnedBytes, V: OwnedBytes, S: Key
         Ok(())
     }
 
-    /// Inserts a key with a value, as the newest entry of the tenant. Returns whether the key is there afterwards.
-    ///
-    /// Follows `LruMap::insert` under [`ByBytes`] with the tenant's limit.
+    /// Does what `TenantCache::put` does, under [`ByBytes`] with the tenant's limit.
     ///
     /// ```text
     /// assert_eq!(rt; (bytes.put(&1, 8, 3), bytes.put(&9, 8, 3)), (Ok(true), Err(TenantError::NotOpen)));
@@ -123,7 +111,7 @@ impl<N: Eq + Hash + OwnedBytes, K: Eq + Hash + OwnedBytes, V: OwnedBytes, S: Key
     ///
     /// # Errors
     ///
-    /// `NotOpen` or `Memory`. After `Memory`, some of the tenant's oldest entries may have been evicted.
+    /// As `TenantCache::put`.
     pub fn put<T: LookupKey<N>>(&mut self, name: &T, key: K, value: V) -> Result<bool, TenantError> {
         let _len = self.tenants.len();
         let Some(own) = self.tenants.peek_mut(name) else {

@@ -25,8 +25,8 @@ fn serve(pages: &mut Pages, host: &str, paths: Vec<String>) -> Result<u64, Tenan
     Ok(hits)
 }
 
-/// Serves a host, whatever is returned: the table of hosts, the names of the hosts, and the tables, paths and pages of
-/// all hosts take at most the limit.
+/// Serves a host. Whatever `serve` returns, the table of hosts, their names, tables, paths and pages take at most the
+/// limit.
 fn serve_within(pages: &mut Pages, host: &str, paths: Vec<String>) -> Result<u64, TenantError> {
     let served = serve(pages, host, paths);
     // The clause `within` of `len`.

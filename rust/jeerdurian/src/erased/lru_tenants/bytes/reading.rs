@@ -34,8 +34,7 @@ impl<N: Eq + Hash + OwnedBytes, K: Eq + Hash + OwnedBytes, V: OwnedBytes, S: Key
         self.tenants.limiter().limit()
     }
 
-    /// Returns how many bytes are left for the limit of a further tenant and the bytes that its name owns. Fewer are left
-    /// if the table of tenants must grow.
+    /// Returns how many bytes are left for a further tenant: for its limit and its name, in the present table.
     ///
     /// ```text
     /// assert!(rt; bytes.left() < 3500);
@@ -71,8 +70,6 @@ impl<N: Eq + Hash + OwnedBytes, K: Eq + Hash + OwnedBytes, V: OwnedBytes, S: Key
     ByteTenants<N, K, V, S>
 {
     /// Returns a tenant's value of a key, and makes its entry the tenant's newest.
-    ///
-    /// The value is lent only for reading, so what it owns does not change.
     ///
     /// ```text
     /// assert_eq!(rt; bytes.get(&1, &7), Ok(Some(&2)));
