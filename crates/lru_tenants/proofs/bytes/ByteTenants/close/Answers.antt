@@ -1,14 +1,12 @@
 use Rattle.std.proofs.Common.{◌≡◌, Some, None, Ok, Err, sym, refl, ap, ◌∙◌, option_map, length}
 use Rattle.std.proofs.lemmas.Iterator.Adapters.{option_map_id}
 use Rattle.lru_limits.specs.Bytes.{both_own}
-use Rattle.lru_model.specs.Calls.{removal}
 use Rattle.lru_model.specs.Lists.{lookup}
 use Rattle.lru_model.specs.Runs.Step.{removes}
-use Rattle.lru_model.specs.State.{contents}
 use Rattle.lru_model.proofs.CallerLemmas.{lookup-entry, no_pair, without_none}
 use Rattle.lru_tenants.specs.TenantRuns.{OfOpen, Closes}
 use Rattle.lru_tenants.specs.declared.error.TenantError.TheVariants.{NotOpen}
-use Rattle.lru_tenants.proofs.ByteChanges.{cache_of, left-view, leaves-removed, on-from, on-same}
+use Rattle.lru_tenants.proofs.ByteChanges.{left-view, leaves-removed, on-from, on-same}
 use Rattle.lru_tenants.proofs.ByteSums.{is_within, holds-removed}
 use Rattle.lru_tenants.proofs.bytes.ByteTenants.close.Goals as goal
 
