@@ -18,6 +18,7 @@ pub record ByteCache (N K V S : Type 0) : Type 0 where
   -- the hasher of names and keys
   pub hasher : S
 
+-- the bytes of the table; `usage` is `Some` for every map
 abbrev pub table_bytes : {K V L S : Type 0} → State K V L S → ℕ
 table_bytes map = unwrap_or (usage map.entry_bytes (buckets map)) 0
 
@@ -36,8 +37,7 @@ module _ {N K V S : Type 0} where
 
   -- what a tenant takes: the bytes that its name owns, the bytes of its table, and the bytes that its entries own
   abbrev pub taken : (N → ℕ) → (K → V → ℕ) → N × State K V Bytes S → ℕ
-  taken of_name of_pair t =
-      of_name t.0 + table_bytes t.1 + sum_by (λ pair. of_pair pair.0 pair.1) t.1.pairs
+  taken of_name of_pair t = of_name t.0 + table_bytes t.1 + sum_by (λ pair. of_pair pair.0 pair.1) t.1.pairs
 
   -- the table of tenants and all tenants take at most the limit
   abbrev pub IsWithin : (N → ℕ) → (K → V → ℕ) → ByteCache N K V S → Type 0
