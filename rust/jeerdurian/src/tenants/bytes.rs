@@ -19,7 +19,8 @@ use core::hash::{BuildHasher, Hash};
 ///
 /// let mut bytes: ByteTenants<u64, u64, u64> = ByteTenants::new(4000);
 /// assert_eq!((bytes.open(1, 500), bytes.put(&1, 7, 2)), (Ok(()), Ok(true)));
-/// assert_eq!((bytes.get(&1, &7), bytes.open(2, 3500)), (Ok(Some(&2)), Err(TenantError::OverTotal)));
+/// assert_eq!(bytes.get(&1, &7), Ok(Some(&2)));
+/// assert_eq!(bytes.open(2, 3500), Err(TenantError::OverTotal));
 /// ```
 pub struct ByteTenants<N, K, V, S = RandomState>
 where
