@@ -78,14 +78,15 @@ CRATES = {
         use std::test::Fail;
         use test_helpers::{all, check};"""),
     "lru_tenants": Crate(["lru_tenants"], """
-        use crate::numbers::{Numbers, Shared, refill, restock};
+        use crate::numbers::{Bytes, Numbers, Shared, refill, reopen, restock};
         use lru_tenants::{
-            ByWeight, TenantAnswer, TenantCache, TenantCall, TenantError, TenantPool, run_tenants,
+            ByWeight, ByteTenants, TenantAnswer, TenantCache, TenantCall, TenantError, TenantPool, run_tenants,
         };
         use std::test::Fail;
         use test_helpers::{all, check};""",
         {"cache": Given("let mut cache: Numbers = TenantCache::new(alloc, [1, 2, 3, 4]);", "Numbers", "refill"),
-         "pool": Given("let mut pool: Shared = TenantPool::new(alloc, [1, 2, 3, 4], 5);", "Shared", "restock")}),
+         "pool": Given("let mut pool: Shared = TenantPool::new(alloc, [1, 2, 3, 4], 5);", "Shared", "restock"),
+         "bytes": Given("let mut bytes: Bytes = ByteTenants::new(alloc, [1, 2, 3, 4], 4000);", "Bytes", "reopen")}),
     "lru_caches": Crate(["lru_caches"], """
         ghost use Rattle.std.specs.Prelude.{◌≡◌, ◌*◌};
 

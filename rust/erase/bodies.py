@@ -5,7 +5,7 @@ from impls import Impl, begins_impl
 from tokens import CLOSE, OPEN, after, before, closing, find, is_trivia, item_start, raw, significant, text_of, words
 
 # Traits whose keys are bound.
-BOUND_BY_KEYS = ("Insertion", "Budgeted")
+BOUND_BY_KEYS = ("Insertion", "Budgeted", "OwnedBytes")
 KEYWORDS = {"mut", "in", "return", "let", "if", "match", "else", "dyn", "as", "ref", "move", "while", "break"}
 
 

@@ -10,3 +10,5 @@ pub mod Pools
 pub mod PoolEvict
 pub mod PoolKept
 pub mod PoolPuts
+pub mod ByteSums
+pub mod ByteChanges

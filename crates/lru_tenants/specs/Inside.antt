@@ -1,9 +1,12 @@
 -- What holds for the fields of a cache, and of a pool. No public contract cites this module.
-use Rattle.std.specs.Prelude.{◌≡◌, ◌≤◌, ℕ, Bool, false, List, Option, Some, None, sum_by, not}
+use Rattle.std.specs.Prelude.{◌≡◌, ◌≤◌, ◌<◌, ◌^◌, ℕ, Bool, false, List, Option, Some, None, sum_by, not}
 use Rattle.std.specs.List.{All}
 use Rattle.std.specs.Map.{values_of}
+use Rattle.lru_limits.specs.Bytes.{Bytes, both_own}
+use Rattle.lru_model.specs.Bytes.{KeepsBytes}
 use Rattle.lru_model.specs.Lists.{is_empty}
 use Rattle.lru_model.specs.State.{State}
+use Rattle.lru_tenants.specs.Bytes.{limit_of}
 use Rattle.lru_tenants.specs.Cache.{IsTenant, is_above}
 use Rattle.lru_tenants.specs.Pool.{Part, IsPart, total_cost, total_share}
 
@@ -24,3 +27,10 @@ pub record HoldsPool {N K V L S : Type 0} (eq : K → K → Bool) (costs : K →
 abbrev pub has_entries : {K V L S : Type 0} → Option (Part K V L S) → Bool
 has_entries None = false
 has_entries (Some own) = not (is_empty own.1.pairs)
+
+-- `tenants` is the map from the names to the maps of the tenants
+pub record HoldsBytes {N K V S : Type 0} (of_name : N → ℕ) (of_pair : K → V → ℕ)
+    (tenants : State N (State K V Bytes S) Bytes S) : Type 0 where
+  pub each : All (KeepsBytes of_pair) (values_of tenants.pairs)
+  pub all : KeepsBytes (both_own of_name limit_of) tenants
+  pub small : limit_of tenants < 2 ^ 64

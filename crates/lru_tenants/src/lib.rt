@@ -1,9 +1,11 @@
 //! Caches for many tenants.
 //!
-//! In a [`TenantCache`] each tenant has its own budget. In a [`TenantPool`] all tenants share one limit.
+//! In a [`TenantCache`] each tenant has its own budget. In a [`TenantPool`] all tenants share one limit. A
+//! [`ByteTenants`] limits the bytes of everything.
 //! `docs/TENANTS.md` says how to use them, and what is proved.
 #![tactic(auto)]
 
+mod bytes;
 mod cache;
 mod call;
 mod error;
@@ -12,6 +14,7 @@ mod pool;
 mod runs;
 mod tenant;
 
+pub use bytes::ByteTenants;
 pub use cache::TenantCache;
 pub use call::{TenantAnswer, TenantCall};
 pub use error::TenantError;

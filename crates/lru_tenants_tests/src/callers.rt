@@ -22,7 +22,7 @@ fn put_beside(
     cache.put(name, key, value)
 }
 
-fn page_of(path: &String) -> Result<String, TenantError> {
+pub fn page_of(path: &String) -> Result<String, TenantError> {
     match path.clone() {
         Ok(page) => Ok(page),
         Err(_) => Err(TenantError::Memory),

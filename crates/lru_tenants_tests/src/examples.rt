@@ -1,10 +1,45 @@
 //! Written by `docs/examples.py` from the examples in the doc comments. Do not change it by hand.
-use crate::numbers::{Numbers, Shared, refill, restock};
+use crate::numbers::{Bytes, Numbers, Shared, refill, reopen, restock};
 use lru_tenants::{
-    ByWeight, TenantAnswer, TenantCache, TenantCall, TenantError, TenantPool, run_tenants,
+    ByWeight, ByteTenants, TenantAnswer, TenantCache, TenantCall, TenantError, TenantPool,
+    run_tenants,
 };
 use std::test::Fail;
 use test_helpers::{all, check};
+
+fn bytes_1(bytes: &mut Bytes) -> bool {
+    all!(
+        reopen(bytes),
+        bytes.len() == 1,
+        bytes.limit() == 4000,
+        bytes.left() < 3500,
+        reopen(bytes),
+        bytes.peek(&1, &7) == Ok(Some(&2)),
+        bytes.get(&1, &7) == Ok(Some(&2))
+    )
+}
+
+fn bytes_2(bytes: &mut Bytes) -> bool {
+    all!(
+        reopen(bytes),
+        (bytes.open(1, 100), bytes.open(2, 100)) == (Err(TenantError::AlreadyOpen), Ok(())),
+        bytes.open(3, 3500) == Err(TenantError::OverTotal),
+        reopen(bytes),
+        (bytes.put(&1, 8, 3), bytes.put(&9, 8, 3)) == (Ok(true), Err(TenantError::NotOpen)),
+        reopen(bytes),
+        (bytes.close(&1), bytes.open(2, 500)) == (Ok(1), Ok(())),
+        reopen(bytes),
+        (bytes.remove(&1, &7), bytes.remove(&1, &7)) == (Ok(Some(2)), Ok(None))
+    )
+}
+
+#[test]
+fn on_a_bytes(rt: HostRuntime) {
+    let alloc = rt.alloc();
+    let mut bytes: Bytes = ByteTenants::new(alloc, [1, 2, 3, 4], 4000);
+    let held = all!(bytes_1(&mut bytes), bytes_2(&mut bytes));
+    check!(rt; held);
+}
 
 fn cache_1(cache: &mut Numbers) -> Result<bool, TenantError> {
     let held = all!(
@@ -154,6 +189,32 @@ fn on_a_pool(rt: HostRuntime) {
     let mut pool: Shared = TenantPool::new(alloc, [1, 2, 3, 4], 5);
     let held = all!(pool_1(&mut pool), pool_2(&mut pool), pool_3(&mut pool));
     check!(rt; held);
+}
+
+#[test]
+fn of_bytes(rt: HostRuntime) {
+    let alloc = rt.alloc();
+    let mut bytes: ByteTenants<u64, u64, u64> = ByteTenants::new(alloc, [1, 2, 3, 4], 4000);
+    check!(rt; (bytes.open(1, 500), bytes.put(&1, 7, 2)) == (Ok(()), Ok(true)));
+}
+
+#[test]
+fn of_bytes_2(rt: HostRuntime) {
+    let alloc = rt.alloc();
+    let bytes: ByteTenants<u64, u64, u64> = ByteTenants::new(alloc, [1, 2, 3, 4], 4000);
+    check!(rt; bytes.left() == 4000);
+}
+
+#[test]
+fn of_bytes_3(rt: HostRuntime) -> Result<(), Fail> {
+    let alloc = rt.alloc();
+    let bytes: ByteTenants<u64, u64, u64, _> = ByteTenants::with_hasher(
+        alloc,
+        std::collections::hash_map::RandomState::new(&rt)?,
+        4000,
+    );
+    check!(rt; bytes.len() == 0);
+    Ok(())
 }
 
 #[test]

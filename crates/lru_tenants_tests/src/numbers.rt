@@ -1,6 +1,8 @@
-//! The cache and the pool of numbers in the examples of the docs. Tests of the texts of errors, and of names and keys
+//! The caches of numbers in the examples of the docs. Tests of the texts of errors, and of names and keys
 //! that are texts.
-use lru_tenants::{TenantCache, TenantError, TenantPool, costs_are_within_the_total_limit};
+use lru_tenants::{
+    ByteTenants, TenantCache, TenantError, TenantPool, costs_are_within_the_total_limit,
+};
 use std::test::Fail;
 use test_helpers::check;
 
@@ -22,6 +24,14 @@ pub type Shared = TenantPool<u64, u64, u64>;
 pub fn restock(pool: &mut Shared) -> bool {
     let _ = (pool.close(&1), pool.close(&2), pool.close(&3));
     (pool.open(1, 3), pool.open(2, 1), pool.put(&1, 7, 2)) == (Ok(()), Ok(()), Ok(true))
+}
+
+pub type Bytes = ByteTenants<u64, u64, u64>;
+
+/// Leaves one tenant, whose name is 1, with a limit of 500 bytes and the entry (7, 2).
+pub fn reopen(bytes: &mut Bytes) -> bool {
+    let _ = (bytes.close(&1), bytes.close(&2));
+    (bytes.open(1, 500), bytes.put(&1, 7, 2)) == (Ok(()), Ok(true))
 }
 
 #[test]

@@ -14,9 +14,11 @@
 //! # }
 //! ```
 
+mod bytes;
 mod entries;
 mod pool;
 
+pub use bytes::ByteTenants;
 pub use pool::TenantPool;
 
 use crate::erased::lru_limits::Budgeted;

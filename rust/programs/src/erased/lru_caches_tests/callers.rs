@@ -1,10 +1,12 @@
 // Erased from crates/lru_caches_tests/src/callers.rt: do not edit.
-//! Callers of a page cache and of an ordered map, with contracts of their own.
+//! Callers of a page cache, of an ordered map and of a map that counts, with contracts of their own.
 
 #[allow(unused_imports)]
 use crate::rattle_std::prelude::*;
 
-use crate::erased::lru_caches::{BlockDevice, OrderedMap, PageCache, PageError};
+use crate::erased::lru_caches::{BlockDevice, CountedMap, OrderedMap, PageCache, PageError};
+use crate::erased::schnellru::ByLength;
+use crate::rattle_std::alloc::AllocError;
 
 /// Copies a block to another number.
 pub fn copy_block<D: BlockDevice<u64>>(
@@ -35,4 +37,13 @@ pub fn overwrite(map: &mut OrderedMap<u64, u64>, key: u64, value: u64) -> bool {
         }
         None => false,
     }
+}
+
+/// Looks a path up, or else stores how many bytes its page has. Returns whether the path was there.
+pub fn visit(pages: &mut CountedMap<String, u64, ByLength>, path: String, bytes: u64) -> Result<bool, AllocError> {
+    if pages.promote(&path) {
+        return Ok(true);
+    }
+    pages.insert(path, bytes)?;
+    Ok(false)
 }

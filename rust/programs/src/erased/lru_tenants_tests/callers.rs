@@ -14,7 +14,7 @@ fn put_beside(cache: &mut TenantCache<u64, u64, u64>, name: &u64, key: u64, valu
     cache.put(name, key, value)
 }
 
-fn page_of(path: &String) -> Result<String, TenantError> {
+pub fn page_of(path: &String) -> Result<String, TenantError> {
     match path.try_clone() {
         Ok(page) => Ok(page),
         Err(_) => Err(TenantError::Memory),

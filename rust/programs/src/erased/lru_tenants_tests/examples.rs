@@ -4,11 +4,48 @@
 use crate::rattle_std::prelude::*;
 
 use crate::erased::lru_tenants::{
-    ByWeight, TenantAnswer, TenantCache, TenantCall, TenantError, TenantPool, run_tenants,
+    ByWeight, ByteTenants, TenantAnswer, TenantCache, TenantCall, TenantError, TenantPool, run_tenants,
 };
-use crate::programs::lru_tenants_tests::numbers::{Numbers, Shared, refill, restock};
+use crate::programs::lru_tenants_tests::numbers::{Bytes, Numbers, Shared, refill, reopen, restock};
 use crate::programs::test_helpers::{all, check};
 use crate::rattle_std::test::Fail;
+
+fn bytes_1(bytes: &mut Bytes) -> bool {
+    all!(
+        reopen(bytes),
+        bytes.len() == 1,
+        bytes.limit() == 4000,
+        bytes.left() < 3500,
+        reopen(bytes),
+        bytes.peek(&1, &7) == Ok(Some(&2)),
+        bytes.get(&1, &7) == Ok(Some(&2))
+    )
+}
+
+fn bytes_2(bytes: &mut Bytes) -> bool {
+    all!(
+        reopen(bytes),
+        (bytes.open(1, 100), bytes.open(2, 100)) == (Err(TenantError::AlreadyOpen), Ok(())),
+        bytes.open(3, 3500) == Err(TenantError::OverTotal),
+        reopen(bytes),
+        (bytes.put(&1, 8, 3), bytes.put(&9, 8, 3)) == (Ok(true), Err(TenantError::NotOpen)),
+        reopen(bytes),
+        (bytes.close(&1), bytes.open(2, 500)) == (Ok(1), Ok(())),
+        reopen(bytes),
+        (bytes.remove(&1, &7), bytes.remove(&1, &7)) == (Ok(Some(2)), Ok(None))
+    )
+}
+
+#[test]
+fn on_a_bytes() {
+    let run = |rt: HostRuntime| -> () {
+        let alloc = rt.alloc();
+        let mut bytes: Bytes = ByteTenants::new(alloc, [1, 2, 3, 4], 4000);
+        let held = all!(bytes_1(&mut bytes), bytes_2(&mut bytes));
+        check!(rt; held);
+    };
+    run(HostRuntime).passes();
+}
 
 fn cache_1(cache: &mut Numbers) -> Result<bool, TenantError> {
     let held = all!(
@@ -150,6 +187,38 @@ fn on_a_pool() {
         let mut pool: Shared = TenantPool::new(alloc, [1, 2, 3, 4], 5);
         let held = all!(pool_1(&mut pool), pool_2(&mut pool), pool_3(&mut pool));
         check!(rt; held);
+    };
+    run(HostRuntime).passes();
+}
+
+#[test]
+fn of_bytes() {
+    let run = |rt: HostRuntime| -> () {
+        let alloc = rt.alloc();
+        let mut bytes: ByteTenants<u64, u64, u64> = ByteTenants::new(alloc, [1, 2, 3, 4], 4000);
+        check!(rt; (bytes.open(1, 500), bytes.put(&1, 7, 2)) == (Ok(()), Ok(true)));
+    };
+    run(HostRuntime).passes();
+}
+
+#[test]
+fn of_bytes_2() {
+    let run = |rt: HostRuntime| -> () {
+        let alloc = rt.alloc();
+        let bytes: ByteTenants<u64, u64, u64> = ByteTenants::new(alloc, [1, 2, 3, 4], 4000);
+        check!(rt; bytes.left() == 4000);
+    };
+    run(HostRuntime).passes();
+}
+
+#[test]
+fn of_bytes_3() {
+    let run = |rt: HostRuntime| -> Result<(), Fail> {
+        let alloc = rt.alloc();
+        let bytes: ByteTenants<u64, u64, u64, _> =
+            ByteTenants::with_hasher(alloc, crate::rattle_std::collections::hash_map::RandomState::new(&rt)?, 4000);
+        check!(rt; bytes.len() == 0);
+        Ok(())
     };
     run(HostRuntime).passes();
 }

@@ -5,6 +5,8 @@
 use crate::rattle_std::prelude::*;
 
 #[cfg(test)]
+mod bytes;
+#[cfg(test)]
 mod callers;
 #[cfg(test)]
 mod examples;

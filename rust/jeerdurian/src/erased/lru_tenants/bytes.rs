@@ -1,0 +1,164 @@
+// Erased from crates/lru_tenants/src/bytes.rt: do not edit.
+//! One limit for the bytes of all tenants.
+
+#[allow(unused_imports)]
+use crate::rattle_std::prelude::*;
+
+use crate::erased::lru_tenants::error::TenantError;
+use crate::erased::schnellru::{ByBytes, KeyHasher, LookupKey, LruMap, OwnedBytes, RandomState, laws};
+use crate::rattle_std::alloc::Global;
+use crate::rattle_std::hash::Hash;
+
+mod reading;
+mod tenant;
+
+use tenant::ByteTenant;
+
+/// A cache for many tenants within one limit of bytes: for the table of tenants, their names, their tables, and what
+/// their entries own.
+///
+/// Each tenant has its own limit, which its map keeps as under [`ByBytes`]. While a table grows, the old table is not
+/// counted.
+///
+/// In the examples of the calls, `bytes` has a limit of 4,000 bytes, and tenant 1 with a limit of 500 bytes and the
+/// entry (7, 2).
+///
+/// ```text
+/// let mut bytes: ByteTenants<u64, u64, u64> = ByteTenants::new(alloc, [1, 2, 3, 4], 4000);
+/// assert_eq!(rt; (bytes.open(1, 500), bytes.put(&1, 7, 2)), (Ok(()), Ok(true)));
+/// ```
+pub struct ByteTenants<
+    N: Eq + Hash + OwnedBytes,
+    K: Eq + Hash + OwnedBytes,
+    V: OwnedBytes,
+    S: KeyHasher<K> + Copy = RandomState,
+> {
+    tenants: LruMap<N, ByteTenant<K, V, S>, ByBytes, S>,
+    alloc: Global,
+}
+
+impl<N: Eq + Hash + OwnedBytes, K: Eq + Hash + OwnedBytes, V: OwnedBytes> ByteTenants<N, K, V> {
+    /// Makes a cache without tenants (see `TenantCache::new`). Cost: `O(1)`, and no memory.
+    ///
+    /// ```text
+    /// let bytes: ByteTenants<u64, u64, u64> = ByteTenants::new(alloc, [1, 2, 3, 4], 4000);
+    /// assert_eq!(rt; bytes.left(), 4000);
+    /// ```
+    pub fn new(alloc: Global, seeds: [u64; 4], limit: u64) -> Self {
+        ByteTenants::with_hasher(alloc, RandomState::with_seeds(seeds), limit)
+    }
+}
+
+impl<N: Eq + Hash + OwnedBytes, K: Eq + Hash + OwnedBytes, V: OwnedBytes, S: KeyHasher<K> + Copy>
+    ByteTenants<N, K, V, S>
+{
+    /// Makes a cache without tenants (see `TenantCache::with_hasher`). Cost: `O(1)`, and no memory.
+    ///
+    /// ```text
+    /// let bytes: ByteTenants<u64, u64, u64, _> =
+    ///     ByteTenants::with_hasher(alloc, std::collections::hash_map::RandomState::new(&rt)?, 4000);
+    /// assert_eq!(rt; bytes.len(), 0);
+    /// ```
+    pub fn with_hasher(alloc: Global, hasher: S, limit: u64) -> Self {
+        laws::calls_keep_the_bytes::<N, ByteTenant<K, V, S>, S>();
+        ByteTenants {
+            tenants: LruMap::<N, ByteTenant<K, V, S>, ByBytes, S>::with_limiter_and_hasher(
+                alloc,
+                ByBytes::new(limit),
+                hasher,
+            ),
+            alloc,
+        }
+    }
+
+    /// Opens a tenant with an empty map, and reserves its limit until it is closed.
+    ///
+    /// ```text
+    /// assert_eq!(rt; (bytes.open(1, 100), bytes.open(2, 100)), (Err(TenantError::AlreadyOpen), Ok(())));
+    /// assert_eq!(rt; bytes.open(3, 3500), Err(TenantError::OverTotal));
+    /// ```
+    ///
+    /// Cost: as `LruMap::try_insert`.
+    ///
+    /// # Errors
+    ///
+    /// The tenants are unchanged. `AlreadyOpen`, or `OverTotal`: the limit and the bytes of the name are above `left`.
+    /// `Memory`: memory or the limit does not permit the larger table of tenants that is needed.
+    pub fn open(&mut self, name: N, limit: u64) -> Result<(), TenantError> {
+        laws::runs_keep_the_bytes::<N, ByteTenant<K, V, S>, S>();
+        let _len = self.tenants.len();
+        if self.tenants.contains(&name) {
+            return Err(TenantError::AlreadyOpen);
+        }
+        let bytes = name.owned_bytes().saturating_add(limit);
+        if bytes > self.left() {
+            return Err(TenantError::OverTotal);
+        }
+        let own = ByteTenant::new(self.alloc, *self.tenants.hasher(), limit);
+        let Ok(()) = self.tenants.try_insert(name, own) else {
+            return Err(TenantError::Memory);
+        };
+        Ok(())
+    }
+
+    /// Does what `TenantCache::put` does, under [`ByBytes`] with the tenant's limit.
+    ///
+    /// ```text
+    /// assert_eq!(rt; (bytes.put(&1, 8, 3), bytes.put(&9, 8, 3)), (Ok(true), Err(TenantError::NotOpen)));
+    /// ```
+    ///
+    /// Cost: as `LruMap::insert`.
+    ///
+    /// # Errors
+    ///
+    /// As `TenantCache::put`.
+    pub fn put<T: LookupKey<N>>(&mut self, name: &T, key: K, value: V) -> Result<bool, TenantError> {
+        let _len = self.tenants.len();
+        let Some(own) = self.tenants.peek_mut(name) else {
+            return Err(TenantError::NotOpen);
+        };
+        match own.insert(key, value) {
+            Ok(kept) => Ok(kept),
+            Err(_) => Err(TenantError::Memory),
+        }
+    }
+
+    /// Closes a tenant and drops its entries. Returns their number. The table of tenants keeps its size.
+    ///
+    /// ```text
+    /// assert_eq!(rt; (bytes.close(&1), bytes.open(2, 500)), (Ok(1), Ok(())));
+    /// ```
+    ///
+    /// Cost: `O(buckets)` of its table.
+    ///
+    /// # Errors
+    ///
+    /// `NotOpen`.
+    pub fn close<T: LookupKey<N>>(&mut self, name: &T) -> Result<usize, TenantError> {
+        laws::calls_keep_the_bytes::<N, ByteTenant<K, V, S>, S>();
+        let _len = self.tenants.len();
+        let Some(own) = self.tenants.remove(name) else {
+            return Err(TenantError::NotOpen);
+        };
+        Ok(own.map.len())
+    }
+
+    /// Removes a key of a tenant. Returns its value.
+    ///
+    /// ```text
+    /// assert_eq!(rt; (bytes.remove(&1, &7), bytes.remove(&1, &7)), (Ok(Some(2)), Ok(None)));
+    /// ```
+    ///
+    /// Cost: `O(1)` expected.
+    ///
+    /// # Errors
+    ///
+    /// `NotOpen`.
+    pub fn remove<T: LookupKey<N>, Q: LookupKey<K>>(&mut self, name: &T, key: &Q) -> Result<Option<V>, TenantError> {
+        let _len = self.tenants.len();
+        let Some(own) = self.tenants.peek_mut(name) else {
+            return Err(TenantError::NotOpen);
+        };
+        Ok(own.remove(key))
+    }
+}

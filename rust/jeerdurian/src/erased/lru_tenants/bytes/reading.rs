@@ -1,0 +1,89 @@
+// Erased from crates/lru_tenants/src/bytes/reading.rt: do not edit.
+//! Calls that keep the tenants and their entries.
+
+#[allow(unused_imports)]
+use crate::rattle_std::prelude::*;
+
+use crate::erased::lru_tenants::bytes::ByteTenants;
+use crate::erased::lru_tenants::error::TenantError;
+use crate::erased::schnellru::{KeyHasher, LookupKey, OwnedBytes};
+use crate::rattle_std::hash::Hash;
+
+impl<N: Eq + Hash + OwnedBytes, K: Eq + Hash + OwnedBytes, V: OwnedBytes, S: KeyHasher<K> + Copy>
+    ByteTenants<N, K, V, S>
+{
+    /// Returns how many tenants are open.
+    ///
+    /// ```text
+    /// assert_eq!(rt; bytes.len(), 1);
+    /// ```
+    ///
+    /// Cost: `O(1)`.
+    pub fn len(&self) -> usize {
+        self.tenants.len()
+    }
+
+    /// Returns the limit of all bytes.
+    ///
+    /// ```text
+    /// assert_eq!(rt; bytes.limit(), 4000);
+    /// ```
+    ///
+    /// Cost: `O(1)`.
+    pub fn limit(&self) -> u64 {
+        self.tenants.limiter().limit()
+    }
+
+    /// Returns how many bytes are left for a further tenant: for its limit and its name, in the present table.
+    ///
+    /// ```text
+    /// assert!(rt; bytes.left() < 3500);
+    /// ```
+    ///
+    /// Cost: `O(1)`.
+    pub fn left(&self) -> u64 {
+        let table = self.tenants.memory_usage() as u64;
+        let limiter = self.tenants.limiter();
+        limiter.limit() - limiter.owned() - table
+    }
+
+    /// Returns a tenant's value of a key. The order stays.
+    ///
+    /// ```text
+    /// assert_eq!(rt; bytes.peek(&1, &7), Ok(Some(&2)));
+    /// ```
+    ///
+    /// Cost: `O(1)` expected.
+    ///
+    /// # Errors
+    ///
+    /// `NotOpen`.
+    pub fn peek<T: LookupKey<N>, Q: LookupKey<K>>(&self, name: &T, key: &Q) -> Result<Option<&V>, TenantError> {
+        let Some(own) = self.tenants.peek(name) else {
+            return Err(TenantError::NotOpen);
+        };
+        Ok(own.map.peek(key))
+    }
+}
+
+impl<N: Eq + Hash + OwnedBytes, K: Eq + Hash + OwnedBytes, V: OwnedBytes, S: KeyHasher<K> + Copy>
+    ByteTenants<N, K, V, S>
+{
+    /// Returns a tenant's value of a key, and makes its entry the tenant's newest.
+    ///
+    /// ```text
+    /// assert_eq!(rt; bytes.get(&1, &7), Ok(Some(&2)));
+    /// ```
+    ///
+    /// Cost: `O(1)` expected.
+    ///
+    /// # Errors
+    ///
+    /// `NotOpen`.
+    pub fn get<T: LookupKey<N>, Q: LookupKey<K>>(&mut self, name: &T, key: &Q) -> Result<Option<&V>, TenantError> {
+        let Some(own) = self.tenants.peek_mut(name) else {
+            return Err(TenantError::NotOpen);
+        };
+        Ok(own.get(key))
+    }
+}

@@ -1,0 +1,167 @@
+//! One limit for the bytes of all tenants.
+
+use super::TenantError;
+use crate::erased::lru_tenants as proved;
+use crate::keys::Borrowed;
+use crate::rattle_std::alloc::Global;
+use crate::{OwnedBytes, RandomState};
+use core::borrow::Borrow;
+use core::hash::{BuildHasher, Hash};
+
+/// A cache for many tenants within one limit of bytes: for the table of tenants, their names, their tables, and what
+/// their entries own.
+///
+/// Each tenant has its own limit, which its map keeps as under [`ByBytes`](crate::ByBytes). While a table grows, the old
+/// table is not counted. The calls do what the calls of a [`TenantCache`](super::TenantCache) do.
+///
+/// ```
+/// use jeerdurian::tenants::{ByteTenants, TenantError};
+///
+/// let mut bytes: ByteTenants<u64, u64, u64> = ByteTenants::new(4000);
+/// assert_eq!((bytes.open(1, 500), bytes.put(&1, 7, 2)), (Ok(()), Ok(true)));
+/// assert_eq!(bytes.get(&1, &7), Ok(Some(&2)));
+/// assert_eq!(bytes.open(2, 3500), Err(TenantError::OverTotal));
+/// ```
+pub struct ByteTenants<N, K, V, S = RandomState>
+where
+    N: Eq + Hash + OwnedBytes,
+    K: Eq + Hash + OwnedBytes,
+    V: OwnedBytes,
+    S: BuildHasher + Copy,
+{
+    bytes: proved::ByteTenants<N, K, V, S>,
+}
+
+impl<N, K, V, S> core::fmt::Debug for ByteTenants<N, K, V, S>
+where
+    N: Eq + Hash + OwnedBytes,
+    K: Eq + Hash + OwnedBytes,
+    V: OwnedBytes,
+    S: BuildHasher + Copy,
+{
+    fn fmt(&self, f: &mut core::fmt::Formatter<'_>) -> core::fmt::Result {
+        f.debug_struct("ByteTenants").field("len", &self.len()).finish_non_exhaustive()
+    }
+}
+
+impl<N: Eq + Hash + OwnedBytes, K: Eq + Hash + OwnedBytes, V: OwnedBytes> ByteTenants<N, K, V> {
+    /// Makes a cache without tenants, whose hashers have random seeds.
+    #[cfg(feature = "runtime-rng")]
+    pub fn new(limit: u64) -> Self {
+        Self::with_hasher(RandomState::default(), limit)
+    }
+}
+
+impl<N, K, V, S> ByteTenants<N, K, V, S>
+where
+    N: Eq + Hash + OwnedBytes,
+    K: Eq + Hash + OwnedBytes,
+    V: OwnedBytes,
+    S: BuildHasher + Copy,
+{
+    /// Makes a cache without tenants, with this hasher of names and keys.
+    pub fn with_hasher(hasher: S, limit: u64) -> Self {
+        ByteTenants { bytes: proved::ByteTenants::with_hasher(Global, hasher, limit) }
+    }
+
+    /// Returns the number of open tenants.
+    pub fn len(&self) -> usize {
+        self.bytes.len()
+    }
+
+    /// Returns whether no tenant is open.
+    pub fn is_empty(&self) -> bool {
+        self.bytes.len() == 0
+    }
+
+    /// Returns the limit of all bytes.
+    pub fn limit(&self) -> u64 {
+        self.bytes.limit()
+    }
+
+    /// Returns how many bytes are left for a further tenant: for its limit and its name, in the present table.
+    pub fn left(&self) -> u64 {
+        self.bytes.left()
+    }
+
+    /// Opens a tenant with an empty map, and reserves its limit until it is closed.
+    ///
+    /// # Errors
+    ///
+    /// The tenants are unchanged. `AlreadyOpen`, or `OverTotal`: the limit and the bytes of the name are above
+    /// [`left`](Self::left). `Memory`: memory or the limit does not permit the larger table of tenants that is needed.
+    pub fn open(&mut self, name: N, limit: u64) -> Result<(), TenantError> {
+        self.bytes.open(name, limit)
+    }
+
+    /// Inserts a key with a value. Returns whether the key is there then.
+    ///
+    /// # Errors
+    ///
+    /// `NotOpen` or `Memory`.
+    pub fn put<T>(&mut self, name: &T, key: K, value: V) -> Result<bool, TenantError>
+    where
+        N: Borrow<T>,
+        T: Eq + Hash + ?Sized,
+    {
+        self.bytes.put(&Borrowed(name), key, value)
+    }
+
+    /// Returns a tenant's value of a key, and makes its entry the tenant's newest.
+    ///
+    /// # Errors
+    ///
+    /// `NotOpen`.
+    pub fn get<T, Q>(&mut self, name: &T, key: &Q) -> Result<Option<&V>, TenantError>
+    where
+        N: Borrow<T>,
+        T: Eq + Hash + ?Sized,
+        K: Borrow<Q>,
+        Q: Eq + Hash + ?Sized,
+    {
+        self.bytes.get(&Borrowed(name), &Borrowed(key))
+    }
+
+    /// Returns a tenant's value of a key. The order stays.
+    ///
+    /// # Errors
+    ///
+    /// `NotOpen`.
+    pub fn peek<T, Q>(&self, name: &T, key: &Q) -> Result<Option<&V>, TenantError>
+    where
+        N: Borrow<T>,
+        T: Eq + Hash + ?Sized,
+        K: Borrow<Q>,
+        Q: Eq + Hash + ?Sized,
+    {
+        self.bytes.peek(&Borrowed(name), &Borrowed(key))
+    }
+
+    /// Removes a key of a tenant. Returns its value.
+    ///
+    /// # Errors
+    ///
+    /// `NotOpen`.
+    pub fn remove<T, Q>(&mut self, name: &T, key: &Q) -> Result<Option<V>, TenantError>
+    where
+        N: Borrow<T>,
+        T: Eq + Hash + ?Sized,
+        K: Borrow<Q>,
+        Q: Eq + Hash + ?Sized,
+    {
+        self.bytes.remove(&Borrowed(name), &Borrowed(key))
+    }
+
+    /// Closes a tenant and drops its entries. Returns the number of these entries.
+    ///
+    /// # Errors
+    ///
+    /// `NotOpen`.
+    pub fn close<T>(&mut self, name: &T) -> Result<usize, TenantError>
+    where
+        N: Borrow<T>,
+        T: Eq + Hash + ?Sized,
+    {
+        self.bytes.close(&Borrowed(name))
+    }
+}
