@@ -1,6 +1,6 @@
 -- How a look-up of a response changes its host.
 use Rattle.std.proofs.Common.{◌≡◌, ◌<◌, ◌≤◌, ℕ, arith, Result, Ok, Err, is_ok, Bool, true, false, is_some, List, []}
-use Rattle.std.proofs.Common.{◌∷◌, Option, Some, None, cond, refl, sym, ap, ◌∙◌, subst, inl}
+use Rattle.std.proofs.Common.{◌∷◌, Option, Some, None, cond, refl, sym, ap, ◌∙◌, subst, inl, inr}
 use Rattle.std.specs.Cmp.{IsEquivalence}
 use Rattle.std.specs.List.{All, IsDistinct}
 use Rattle.std.specs.Map.{keys_of, values_of, remove_entry}
@@ -18,7 +18,7 @@ use Rattle.lru_tenants.specs.TenantRuns.{Gets, OfOpen, IfOpen, read_of}
 use Rattle.lru_tenants.specs.declared.error.TenantError.{TenantError}
 use Rattle.example_responses.specs.LookUps.{fresh_at, looked_up, LooksUp, GetsCopy, IsCopy, Copies, CopiesFrom}
 use Rattle.example_responses.specs.declared.cache.Response.{Response}
-use Rattle.std.specs.Prelude.{IfSome}
+use Rattle.std.specs.Prelude.{IfSome, IfOk}
 use Rattle.lru_model.proofs.PairLists.NamedPairs.{no_pair}
 use Rattle.lru_model.proofs.CallerLemmas.{read_back, written-found, promoted-absent}
 
@@ -230,6 +230,27 @@ module _ {N K S : Type 0} {eq : N → N → Bool} (names : K → Bool) (now : �
         list,
       )
 
+  pub there-copied : (said : Result Bool TenantError) (answer : Result (Option Response) TenantError)
+      → On eq host (OfOpen (LooksUp names now)) old said mid → said ≡ Ok true → CopiesFrom names (tenant host mid) answer
+      → IfOk answer (λ found. is_some found ≡ true)
+  there-copied said answer (left, looks, leaves) is-said copied =
+      go (tenant host old) (subst (λ a. OfOpen (LooksUp names now) (tenant host old) a left) is-said looks)
+    where
+      some-copied : (fresh : Option Response) (own : State K Response Budget S) → true ≡ is_some fresh
+          → tenant host mid ≡ Some own → lookup names own.pairs ≡ fresh → IfOk answer (λ found. is_some found ≡ true)
+      some-copied None own there is found = absurd (true≢false there)
+      some-copied (Some stored) own there is found = elim (subst (λ o. Copies o answer) found
+          (subst (λ t. CopiesFrom names t answer) is copied)) [
+        | inl (copy, same, e) ↦ subst (λ a. IfOk a (λ found. is_some found ≡ true)) (sym e) refl
+        | inr e ↦ subst (λ a. IfOk a (λ found. is_some found ≡ true)) (sym e) tt
+      ]
+
+      go : (was : Option (State K Response Budget S)) → OfOpen (LooksUp names now) was (Ok true) left
+          → IfOk answer (λ found. is_some found ≡ true)
+      go None (says, is) = absurd (ok≢err says)
+      go (Some map) (own, says, is, list, found) =
+          some-copied (fresh_at now (lookup names map.pairs)) own (ok-same says) (leaves.own ∙ is) found
+
   pub fails-alike : (e : TenantError) → On eq host (OfOpen (LooksUp names now)) old (Err e) mid
       → On eq host (OfOpen (GetsCopy names now)) old (Err e) mid
   fails-alike e (left, looks, leaves) = (left, go (tenant host old) looks, leaves)
@@ -249,3 +270,9 @@ pub copied-from : {K S : Type 0} (names : K → Bool) (host : Option (State K Re
 copied-from names None stored copy is same = absurd (ok≢err (sym is))
 copied-from names (Some map) stored copy is same =
     subst (λ o. Copies o (Ok (Some copy))) (sym (ok-same is)) (inl (copy, same, refl))
+
+pub counts-found : {C E : Type 0} (answer : Result (Option Response) E) (after : C) (counted : Bool → C)
+    → after ≡ counted true → IfOk answer (λ found. is_some found ≡ true)
+    → IfOk answer (λ found. after ≡ counted (is_some found))
+counts-found (Ok found) after counted e there = e ∙ sym (ap counted there)
+counts-found (Err error) after counted e there = tt

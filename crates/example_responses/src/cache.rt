@@ -1,5 +1,5 @@
 //! A cache of responses that expire, with counts for each host.
-ghost use Rattle.std.specs.Prelude.{◌≡◌, ◌<◌, true, nat_eq, Err, None, IfOk, OnErr, IfSome};
+ghost use Rattle.std.specs.Prelude.{◌≡◌, ◌<◌, Bool, true, nat_eq, Ok, Err, None, is_some, IfOk, OnErr, IfSome};
 ghost use Rattle.std.specs.Prelude.{string_bytes, string_eq, vec_len};
 ghost use Rattle.std.specs.List.{starts_with};
 ghost use Rattle.std.specs.Option.{option_map};
@@ -129,7 +129,9 @@ impl ResponseCache {
     }
 
     fn count_put(&mut self, host: &str, stored: &Result<bool, TenantError>, evicted: u64)
-        ensures { self.new.entries ≡ self.old.entries }
+        ensures entries { self.new.entries ≡ self.old.entries }
+        ensures counts { get_by_text self.new.counts host.now
+            ≡ option_map (inserted stored.now evicted) (get_by_text self.old.counts host.now) }
     {
         if let Some(counts) = self.counts.get_mut(host) {
             counts.count_insert(stored, evicted);
@@ -175,11 +177,13 @@ impl ResponseCache {
         path: &str,
         response: Response,
     ) -> (Result<bool, TenantError>, u64)
-        ensures { PutsPath ⟦<ByWeight<OVERHEAD> as Limiter<String, Response>>⟧.rules
+        ensures puts { PutsPath ⟦<ByWeight<OVERHEAD> as Limiter<String, Response>>⟧.rules
             ⟦<ByWeight<OVERHEAD> as Insertion<String, Response, String>>⟧.offers
             ⟦<ByWeight<OVERHEAD> as Budgeted<String, Response>>⟧.budget_of
             ⟦<RandomState as KeyHasher<String>>⟧.hash_of string_eq (names_text host.now) path.now response
             self.old.entries result.0 self.new.entries }
+        ensures counts { get_by_text self.new.counts host.now
+            ≡ option_map (inserted result.0 result.1) (get_by_text self.old.counts host.now) }
     {
         let before = self.others(host, path);
         let stored = put_path(self.alloc, &mut self.entries, host, path, response);
@@ -189,8 +193,10 @@ impl ResponseCache {
     }
 
     fn look_up(&mut self, host: &str, path: &str, now: u64) -> Result<bool, TenantError>
-        ensures { On string_eq (names_text host.now) (OfOpen (LooksUp (names_text path.now) now))
+        ensures finds { On string_eq (names_text host.now) (OfOpen (LooksUp (names_text path.now) now))
             self.old.entries result self.new.entries }
+        ensures counts { (found : Bool) → result ≡ Ok found → get_by_text self.new.counts host.now
+            ≡ option_map (looked_up found) (get_by_text self.old.counts host.now) }
     {
         let found = has_fresh(&mut self.entries, host, path, now);
         self.count_look_up(host, found == Ok(true));
@@ -217,6 +223,8 @@ impl ResponseCache {
         ensures fresh { IfOk result (λ found. IfSome found (λ response. now < response.expires)) }
         ensures gets { On string_eq (names_text host.now) (OfOpen (GetsCopy (names_text path.now) now))
             self.old.entries result self.new.entries }
+        ensures counts { IfOk result (λ found. get_by_text self.new.counts host.now
+            ≡ option_map (looked_up (is_some found)) (get_by_text self.old.counts host.now)) }
     {
         if !self.look_up(host, path, now)? {
             return Ok(None);
