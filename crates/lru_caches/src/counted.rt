@@ -72,7 +72,7 @@ impl Counts {
     }
 }
 
-/// A map that counts its look-ups and its inserts. A plain `LruMap` counts nothing, and costs nothing more.
+/// A map that counts its look-ups and its inserts.
 ///
 /// In the examples, `counted` has room for three entries, and contains (1, 10), (2, 20) and (3, 30).
 ///

@@ -7,7 +7,7 @@ use crate::limiter::{Calls, Limiter};
 use crate::{ByLength, LruMap, RandomState};
 use core::hash::{BuildHasher, Hash};
 
-/// A map that counts its look-ups and its inserts. A plain `LruMap` counts nothing, and costs nothing more.
+/// A map that counts its look-ups and its inserts.
 ///
 /// Proved: each call does what the call of the map does, and the counts are exact, until one reaches `u64::MAX`.
 ///
