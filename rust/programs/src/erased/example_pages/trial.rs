@@ -131,8 +131,8 @@ fn check(store: &mut Store, model: &mut Model, counts: &mut Counts) {
     }
 }
 
-/// Crashes a store `count` times: crash n after n % `CALLS` calls of its files, or after all its work. Half of the
-/// time, crashes the store again in the recovery.
+/// Crashes a store `count` times: crash n comes after n % `CALLS` calls of the files, or after all the work. Half of
+/// the time, crashes the store again in the recovery.
 pub fn crashes(alloc: Global, count: u64) -> Result<Counts, StoreError> {
     let power = Power::new();
     let mut random = Random::new(1);
