@@ -17,8 +17,7 @@ fn map_of_texts(alloc: Global, length: u32, texts: &str, width: usize) -> LruMap
     map
 }
 
-/// Inserts texts of `width` bytes. Then gets each by a `&str` in each of `rounds` rounds. Returns a sum over the
-/// values.
+/// Inserts texts of `width` bytes. Then gets each text by a `&str`, `rounds` times. Returns a sum over the values.
 #[unsafe(no_mangle)]
 pub extern "C" fn rattle_texts(
     alloc: Global,

@@ -9,7 +9,7 @@ use test_helpers::Random;
 /// A disk writes a sector whole. A crash may tear a page between two sectors.
 const SECTOR: usize = 2048;
 
-/// The power of a machine. It fails after `calls_left` calls, and then each call fails.
+/// The power of a machine. After `calls_left` calls, each call fails.
 #[derive(Drop)]
 pub struct Power {
     calls_left: Cell<u64>,

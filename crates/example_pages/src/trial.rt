@@ -12,7 +12,7 @@ const SIZES: Sizes = Sizes {
     cache: 2,
 };
 
-/// How many records the trial changes: three of each page. One of the three lies across two sectors.
+/// How many records the trial changes: three of each page, one of which lies across two sectors.
 const USED: u64 = 12;
 
 fn id_of(n: u64) -> u64 {
@@ -21,7 +21,7 @@ fn id_of(n: u64) -> u64 {
         .wrapping_add((n % 3).wrapping_mul(31))
 }
 
-/// The work between two crashes makes fewer calls.
+/// More calls than the work between two crashes makes.
 const CALLS: u64 = 150;
 
 type Files<'a> = (Disk<'a>, Disk<'a>);
@@ -136,8 +136,8 @@ fn check(store: &mut Store, model: &mut Model, counts: &mut Counts) {
     }
 }
 
-/// Crashes a store `count` times: crash n after n % `CALLS` calls of its files, or after all its work. Half of the
-/// time, crashes the store again in the recovery.
+/// Crashes a store `count` times: crash n comes after n % `CALLS` calls of the files, or after all the work. Half of
+/// the time, crashes the store again in the recovery.
 pub fn crashes(alloc: Global, count: u64) -> Result<Counts, StoreError> {
     let power = Power::new();
     let mut random = Random::new(1);

@@ -10,7 +10,6 @@ use Rattle.lru_tenants.specs.declared.error.TenantError.{TenantError}
 use Rattle.lru_tenants.specs.declared.error.TenantError.TheVariants.{Memory, NotOpen}
 use Rattle.example_responses.specs.declared.cache.Response.{Response}
 
--- the stored response, if it is not stale
 abbrev pub fresh_at : ℕ → Option Response → Option Response
 fresh_at now None = None
 fresh_at now (Some response) = if nat_lt now response.expires then Some response else None
@@ -20,7 +19,7 @@ abbrev pub looked_up : {K : Type 0} → (K → Bool) → ℕ → List (K × Resp
 looked_up names now pairs =
     if is_some (fresh_at now (lookup names pairs)) then front names pairs else without names pairs
 
--- The host after a call that may change only its list, its table and the total of its limiter.
+-- The host after a call that may change only the list, the table and the total of the limiter.
 abbrev pub with_list : {K S : Type 0} → List (K × Response) → State K Response Budget S → State K Response Budget S
     → State K Response Budget S
 with_list list left old =
@@ -43,13 +42,11 @@ Copies None answer = answer ≡ Ok None
 Copies (Some stored) answer =
     ((copy : Response) × IsCopy stored copy × (answer ≡ Ok (Some copy))) ⊎ (answer ≡ Err Memory)
 
--- the answer is a copy of the response that the host has for the path
 abbrev pub CopiesFrom : {K S : Type 0} → (K → Bool) → Option (State K Response Budget S)
     → Result (Option Response) TenantError → Type 0
 CopiesFrom names None answer = answer ≡ Err NotOpen
 CopiesFrom names (Some map) answer = Copies (lookup names map.pairs) answer
 
--- a look-up that answers with a copy of the fresh response
 abbrev pub GetsCopy : {K S : Type 0} → (K → Bool) → ℕ → State K Response Budget S
     → Result (Option Response) TenantError → Option (State K Response Budget S) → Type 0
 GetsCopy {K} {S} names now old answer new = (left : State K Response Budget S)

@@ -10,8 +10,7 @@ use Rattle.lru_tenants.specs.declared.error.TenantError.{TenantError}
 use Rattle.lru_tenants.specs.declared.error.TenantError.TheVariants.{Memory}
 use Rattle.example_responses.specs.declared.cache.Response.{Response}
 
--- The path was copied into a key, and the response was put at this key. Or memory ran out for the copy, and nothing
--- has changed.
+-- The response was put at a copy of the path, or memory ran out for the copy, and nothing has changed.
 abbrev pub PutsPath : {N S : Type 0} → Rules (String Global) Response Budget
     → Offers (String Global) Response Budget (String Global) → (Budget → ℕ) → (S → String Global → ℕ) → (N → N → Bool)
     → (N → Bool) → List ℕ → Response → Cache N (String Global) Response Budget S → Result Bool TenantError

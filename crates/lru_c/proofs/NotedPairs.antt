@@ -13,7 +13,7 @@ pub record Held : Type 0 where
 abbrev pub pair_of : Held → Option (ℕ × ℕ)
 pair_of h = noted_pair h.noted.now h.place.now
 
--- The callback holds the same places as before, and `now` was noted. If it is `None`, the place is unchanged.
+-- The callback holds the same places as before, and `now` was noted. If `now` is `None`, the place is unchanged.
 pub record Notes (old new : Held) (now : Option (ℕ × ℕ)) : Type 0 where
   pub key : new.key ≡ old.key
   pub noted : new.noted.ghost_name ≡ old.noted.ghost_name

@@ -37,7 +37,7 @@ not_less m n few = grind (arith, nat_tests, few)
 can : (limit sum c : ℕ) → sum + c ≤ limit → limit < 2 ^ 64 → can_add limit sum c ≡ true
 can limit sum c few small = grind (arith, nat_tests, few, small)
 
--- the map after it got ready for a put has the same pairs and limiter
+-- a map that got ready for a put has the same pairs and limiter
 ready_same : {key : List ℕ} {old ready : BytesMap} → IsReady key old ready → contents ready ≡ contents old
 ready_same (there found same) = ap contents same
 ready_same (reserved absent (unchanged nothing same)) = ap contents same

@@ -36,13 +36,12 @@ filled [] slots = slots
 filled (pair ∷ pairs) [] = []
 filled (pair ∷ pairs) (slot ∷ slots) = record { key = pair.0; value = pair.1 } ∷ filled pairs slots
 
--- how many pairs fit into the slots
 abbrev pub fitting : List (ℕ × ℕ) → List Entry → ℕ
 fitting [] slots = 0
 fitting (pair ∷ pairs) [] = 0
 fitting (pair ∷ pairs) (slot ∷ slots) = suc (fitting pairs slots)
 
--- A pair of another key is noted if none was noted before.
+-- Notes the first pair of another key.
 abbrev pub noting_other : ℕ → Option (ℕ × ℕ) → ℕ × ℕ → Option (ℕ × ℕ)
 noting_other key None pair = if nat_eq key pair.0 then None else Some pair
 noting_other key (Some noted) pair = Some noted
@@ -57,26 +56,25 @@ put_code (Ok false) = 1
 put_code (Err error) = 2
 
 -- An insert, which turns the entry `place` into `left`. If the callback gets pairs of other keys, `left` is the first
--- of these pairs. Otherwise `left` is `place`. If the map contained the key, its old value is returned.
+-- of these pairs. Otherwise `left` is `place`.
 pub record Inserts (key value : ℕ) (old : Map) (answer : Inserted) (place left : Entry) (new : Map) : Type 0 where
   pub result : Result Bool AllocError
   pub passed : List (ℕ × ℕ)
   pub step : InsertPasses length_rules length_offers nat_eq hash_of key value old result passed new
   pub evicted : noted_pair answer.evicted left ≡ first_other key passed
   pub untouched : answer.evicted ≡ false → left ≡ place
-  -- If the maximum length is at most 939,524,096, at most one pair of another key was evicted.
+  -- `most_exact_length` is 939,524,096.
   pub one_evicted : old.limiter ≤ most_exact_length → length (others (nat_eq key) passed) ≤ 1
   pub returned : answer ≡ inserted_of (put_code result) (lookup (nat_eq key) old.pairs) answer.evicted
 
--- A get that inserts. If the key is there, it becomes the newest key, and its value is returned as the old value.
--- Otherwise the value is inserted.
+-- If the key is there, it becomes the newest key, and its value is returned as the old value. Otherwise the value is
+-- inserted.
 abbrev pub GetsOrInserts : ℕ → ℕ → Map → Inserted → Entry → Entry → Map → Type 0
 GetsOrInserts key value old answer place left new = MatchOption (lookup (nat_eq key) old.pairs)
     (Inserts key value old answer place left new)
     (λ there. (answer ≡ inserted_of 0 (Some there) false) × (left ≡ place) × (new ≡ promoted (nat_eq key) old))
 
--- A call on a handle. If the handle has a map, the map makes the step. Otherwise the handle still has no map
--- afterwards, and the result is what `returns_nothing` says.
+-- If the handle has a map, the map makes the step. Otherwise the handle still has no map, and `returns_nothing` holds.
 abbrev pub OnMap : {M : Type 0} → Type 0 → (M → M → Type 0) → Option M → Option M → Type 0
 OnMap returns_nothing step None None = returns_nothing
 OnMap returns_nothing step None (Some after) = ⊥

@@ -39,7 +39,6 @@ same_bytes x y = bytes_eq x.items y.items
 abbrev pub names_bytes : List ℕ → Bytes → Bool
 names_bytes bytes k = bytes_eq bytes k.items
 
--- the laws of a look-up key with these bytes
 pub names_bytes-lawful : {Q : Type 0} (bytes : Q → List ℕ) → IsLookup (λ q k. names_bytes (bytes q) k) same_bytes
     (λ q. fed.slice fed.u8 (bytes q)) (λ k. fed.slice fed.u8 k.items)
 names_bytes-lawful bytes = record {
@@ -56,7 +55,6 @@ hash_of_bytes = hash_by input_of_bytes random_builds.ghosts default_hashes.ghost
 abbrev pub weight : ℕ → ℕ → ℕ
 weight key value = pair_cost 64 key value
 
--- the bytes of the value of a key with these bytes, if the key is there
 abbrev pub value_of : List ℕ → BytesMap → Option (List ℕ)
 value_of key map = option_map vec_items (lookup (names_bytes key) map.pairs)
 
@@ -108,7 +106,7 @@ Shows (Some pair) answer key key_left value value_left = (answer ≡ lengths_of 
 abbrev pub texts : List (Bytes × Bytes) → List (List ℕ × List ℕ)
 texts pairs = map (λ pair. (pair.0.items, pair.1.items)) pairs
 
--- A copy of a map. Its keys and values have the same bytes in the same order, and everything else is equal.
+-- The keys and values of a copy have the same bytes in the same order, and everything else is equal.
 pub record Copies (old copy : BytesMap) : Type 0 where
   pub entries : texts copy.pairs ≡ texts old.pairs
   pub rest : copy ≡ record old { pairs = copy.pairs }
@@ -126,12 +124,10 @@ pub data Pops (old : BytesMap) (answer : Popped) (key key_left value value_left 
       answer ≡ lengths_of pair true → key_left ≡ poured pair.0.items key → value_left ≡ poured pair.1.items value →
       PopOldest bytes_rules old (Some pair) new → Pops old answer key key_left value value_left new
 
--- what the entries of other keys weigh
 abbrev pub others_weight : List ℕ → BytesMap → ℕ
 others_weight key map = total_weight (without (names_bytes key) map.pairs)
 
--- Whether a put of this key, with a value of this length, has to evict another entry: the new entry alone is within the
--- budget, but not together with the entries of other keys.
+-- The new entry alone is within the budget, but not together with the entries of other keys.
 abbrev pub must_evict : List ℕ → ℕ → BytesMap → Bool
 must_evict key value_len map = let added = weight (length key) value_len in
     nat_le added map.limiter.limit && nat_lt map.limiter.limit (others_weight key map + added)
@@ -139,11 +135,10 @@ must_evict key value_len map = let added = weight (length key) value_len in
 -- A pop for a put of the key `own`, with a value of `n` bytes.
 pub data PopsFor (own : List ℕ) (n : ℕ) (old : BytesMap) (answer : Popped) (key key_left value value_left : List ℕ)
     (new : BytesMap) : Type 0 where
-  -- The put has to evict no other entry, so nothing changes.
   has_room : must_evict own n old ≡ false → answer ≡ no_entry → key_left ≡ key → value_left ≡ value → new ≡ old →
       PopsFor own n old answer key key_left value value_left new
-  -- Otherwise the entry of the key becomes the newest. Then the oldest entry of another key is the oldest entry, and is
-  -- popped if it fits.
+  -- The entry of the key becomes the newest. So the oldest entry of another key is now the oldest of all. It is popped
+  -- if it fits.
   pops : must_evict own n old ≡ true → (pair : Bytes × Bytes) →
       last (without (names_bytes own) old.pairs) ≡ Some pair → last (front (names_bytes own) old.pairs) ≡ Some pair →
       Pops (promoted (names_bytes own) old) answer key key_left value value_left new →
@@ -152,26 +147,23 @@ pub data PopsFor (own : List ℕ) (n : ℕ) (old : BytesMap) (answer : Popped) (
 abbrev pub has_bytes : List ℕ → BytesMap → Bool
 has_bytes key map = is_some (lookup (names_bytes key) map.pairs)
 
--- If the map `old` contains the key, `ready` is `old`. Otherwise `ready` is the map after a reservation for one entry.
 pub data IsReady (key : List ℕ) (old ready : BytesMap) : Type 0 where
   there : has_bytes key old ≡ true → ready ≡ old → IsReady key old ready
   reserved : has_bytes key old ≡ false → Reserve bytes_rules 1 old (Ok tt) ready → IsReady key old ready
 
--- An insert of this key needs no memory for the table, because the map contains the key or growth is left.
+-- An insert of this key needs no memory for the table.
 abbrev pub FindsMemory : List ℕ → BytesMap → Type 0
 FindsMemory key ready = has_bytes key ready ≡ false → 1 ≤ growth_left ready
 
 pub data Puts (key value : List ℕ) (old : BytesMap) (code : ℕ) (new : BytesMap) : Type 0 where
-  -- The key alone is over the budget, so nothing changes.
+  -- The key alone is over the budget.
   too_long : old.limiter.limit < length key → code ≡ 1 → new ≡ old → Puts key value old code new
-  -- The entry alone is over the budget. It is not stored, and the old entry of the key is removed.
+  -- The entry alone is over the budget. The old entry of the key is removed.
   too_heavy : old.limiter.limit < weight (length key) (length value) → code ≡ 1 →
       (value_gone : Option Bytes) → Remove bytes_rules (names_bytes key) old value_gone new →
       Puts key value old code new
-  -- Memory runs out, so nothing changes.
   no_memory : weight (length key) (length value) ≤ old.limiter.limit → code ≡ 2 → new ≡ old →
       Puts key value old code new
-  -- Copies of the key and the value are inserted into the map `ready`.
   inserted : weight (length key) (length value) ≤ old.limiter.limit →
       (ready : BytesMap) → IsReady key old ready →
       (k v : Bytes) → k.items ≡ key → v.items ≡ value →

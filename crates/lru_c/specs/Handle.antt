@@ -26,7 +26,7 @@ use Rattle.schnellru.specs.contracts.map.LruMap as lru_map
 abbrev pub Map : Type 0
 Map = State ℕ ℕ ℕ Mixer
 
--- The map of each handle is within its maximum length. Its entries have 24 bytes, and its links 32 bits.
+-- What holds for the map of each handle.
 pub record FitsHandle (map : Map) : Type 0 where
   pub within : length map.pairs ≤ map.limiter
   pub entry : map.entry_bytes ≡ 24

@@ -65,7 +65,7 @@ fn insert_and_note(
 {
     laws::inserts_leave_the_newest::<u64, u64, RandomState>();
     laws::nothing_is_lost::<u64, u64, u64, ByLength, RandomState>();
-    // Does nothing at run time. It shows the prover that the table is sound.
+    // Shows the prover that the table is sound.
     let _len = map.len();
     map.insert_full(key, value, &mut |k, v| note_other(noted, place, key, k, v))
 }

@@ -94,8 +94,7 @@ impl Slot {
     }
 }
 
-/// A handle: a map on the heap, or none. The map has at most its maximum length of entries (`FitsHandle`). A contract
-/// sees the map.
+/// A handle: a map on the heap, or none. The map is within its maximum length (`FitsHandle`). A contract sees the map.
 ///
 /// Nothing drops a handle, because its map cannot be freed without an allocator.
 #[repr(C)]

@@ -13,8 +13,8 @@ pub record Memoized (K V S H F : Type 0) : Type 0 where
   pub map : State K V S H
   pub function : F
 
--- The call returned `value`. Either `value` was stored at the key, and its entry becomes the newest. Or no value was
--- stored, and the call inserts `value`.
+-- The call returned `value`. If `value` was stored at the key, its entry becomes the newest. If no value was stored,
+-- the call inserts `value`.
 abbrev pub Remembers : {K V S H : Type 0} → Rules K V S → Offers K V S K → (K → K → Bool) → (H → K → ℕ) → K → V
     → State K V S H → State K V S H → Type 0
 Remembers rules offers eq hash_of key value old new = (kept : Result Bool AllocError)
@@ -31,8 +31,8 @@ module _ {K V : Type 0} (eq : K → K → Bool) (post : K → V → Type 0) wher
 abbrev pub loads : {K V E : Type 0} → (K → Result V E → Type 0) → K → V → Type 0
 loads post key value = post key (Ok value)
 
--- Either the function returned a value, and `reads` relates the value to the result. Or the function failed, and the
--- result is its error.
+-- If the function returned a value, `reads` relates the value to the result. If the function failed, the result is its
+-- error.
 pub data ReadsLoaded {V E R : Type 0} (gives : Result V E → Type 0) (reads : V → R → Type 0) (result : Result R E)
     : Type 0 where
   loaded : (value : V) (given : R) → gives (Ok value) → reads value given → result ≡ Ok given →

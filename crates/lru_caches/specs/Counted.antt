@@ -9,7 +9,6 @@ pub record Counted (K V S H : Type 0) : Type 0 where
   pub map : State K V S H
   pub counts : Counts
 
--- a count that stops at u64::MAX
 abbrev pub count_up : ℕ → ℕ → ℕ
 count_up n more = min (n + more) (2 ^ 64 - 1)
 
@@ -18,7 +17,7 @@ abbrev pub looked_up : Bool → Counts → Counts
 looked_up found counts = if found then record counts { hits = count_up counts.hits 1 }
     else record counts { misses = count_up counts.misses 1 }
 
--- the counts after an insert with this result, which evicted n entries
+-- the counts after an insert that evicted n entries
 abbrev pub inserted : {E : Type 0} → Result Bool E → ℕ → Counts → Counts
 inserted (Ok true) n counts = record counts {
   insertions = count_up counts.insertions 1;
@@ -30,7 +29,7 @@ inserted (Ok false) n counts = record counts {
 }
 inserted (Err error) n counts = record counts { evictions = count_up counts.evictions n }
 
--- how many pairs of other keys than the named key were evicted
+-- how many pairs of other keys were evicted
 abbrev pub evicted : {K V : Type 0} → (K → Bool) → List (K × V) → List (K × V) → ℕ
 evicted names old new = length (without names old) - length (without names new)
 

@@ -2,11 +2,11 @@
 -- bytes.
 use Rattle.std.specs.Prelude.{◌≡◌, ℕ, zero, suc, nat_eq, Bool, if◌then◌else◌, List, [], ◌∷◌, Option, Some, None, slice_index}
 
--- A call with its result: the kind, the number of the block, and the bytes that were read or written.
+-- A call: its kind, the number of the block, and the bytes that were read or written.
 abbrev pub Event : Type 0
 Event = ℕ × ℕ × List ℕ
 
--- The kinds of events: a read, a write or a sync, which failed or succeeded.
+-- A read, a write or a sync, which failed or succeeded.
 abbrev pub unread : ℕ → Event
 unread n = (0, n, [])
 
@@ -28,12 +28,11 @@ synced = (5, 0, [])
 abbrev pub event_of : List ℕ → List ℕ → Event
 event_of numbers bytes = (slice_index numbers 0, slice_index numbers 1, bytes)
 
--- what was known of a block, or else the bytes of this read
 abbrev pub or_else : Option (List ℕ) → List ℕ → Option (List ℕ)
 or_else None bytes = Some bytes
 or_else (Some known) bytes = Some known
 
--- What is known of a block after an event, if `old` was known before. `same` says whether the event is of this block. A
+-- What is known of a block after an event; `old` was known before. `same` says whether the event is of this block. A
 -- failed write may leave anything.
 abbrev pub known_after : ℕ → Bool → List ℕ → Option (List ℕ) → Option (List ℕ)
 known_after zero same bytes old = old
@@ -61,8 +60,7 @@ abbrev pub left : List Event → ℕ → Option (List ℕ)
 left [] n = None
 left (e ∷ earlier) n = left_after e.0 (nat_eq n e.1) (known earlier n) (left earlier n)
 
--- Whether a crash may leave a block that contracts see as `block`. If the events do not determine the block, any block
--- may be left. `seen` gives what contracts see of a block's bytes.
+-- A crash may leave a block that contracts see as `block`. `seen` gives what contracts see of a block's bytes.
 abbrev pub IsLeft : (List ℕ → List ℕ) → Option (List ℕ) → List ℕ → Type 0
 IsLeft seen None block = Unit {0}
 IsLeft seen (Some only) block = block ≡ seen only
@@ -79,7 +77,7 @@ abbrev pub failures : List Event → ℕ
 failures [] = 0
 failures (e ∷ earlier) = failures_after e.0 (failures earlier)
 
--- If the event is a read of a known block, it returned this block.
+-- A read of a known block returned this block.
 abbrev pub Agrees : ℕ → List ℕ → Option (List ℕ) → Type 0
 Agrees (suc zero) bytes (Some block) = bytes ≡ block
 Agrees kind bytes block = Unit {0}

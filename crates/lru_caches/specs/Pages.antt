@@ -18,7 +18,6 @@ pub record Cached (B D : Type 0) : Type 0 where
   -- the cached pages by their numbers, newest first
   pub pages : List (ℕ × Page B)
   pub capacity : ℕ
-  -- whether dirty pages stay until a flush
   pub keeps_dirty : Bool
   -- how many successful reads, writes and pins found their page cached, and how many did not
   pub counts : Counts
@@ -54,7 +53,7 @@ module _ {B : Type 0} where
   abbrev pub may_go : Bool → Page B → Bool
   may_go keeps_dirty page = not (page.is_pinned || keeps_dirty && page.is_dirty)
 
-  -- the number of the oldest page that may be evicted, if there is one
+  -- the number of the oldest page that may be evicted
   abbrev pub victim : Bool → List (ℕ × Page B) → Option ℕ
   victim keeps_dirty pages = option_map (λ p. p.0) (find (λ p. may_go keeps_dirty p.1) (reverse pages))
 
@@ -74,7 +73,6 @@ module _ {B : Type 0} where
   abbrev pub dirty_numbers : List (ℕ × Page B) → List ℕ
   dirty_numbers pages = keys_of (filter (λ p. p.1.is_dirty) pages)
 
--- One hit more. The count stops at `u64::MAX`.
 abbrev pub hit : Counts → Counts
 hit counts = record counts { hits = min (counts.hits + 1) (2 ^ 64 - 1) }
 
@@ -91,8 +89,7 @@ module _ {B D : Type 0} where
   abbrev pub pinned : Cached B D → ℕ → Bool
   pinned cache n = is_pinned (lookup (nat_eq n) cache.pages)
 
-  -- The pages after a use of page n: this page, and then the others. If the others fill the cache, the oldest of them
-  -- that may be evicted is evicted.
+  -- The pages after a use of page n: this page, and then the others.
   abbrev pub pages_after : ℕ → Page B → Cached B D → List (ℕ × Page B)
   pages_after n page cache =
       (n, page) ∷ with_room cache.capacity cache.keeps_dirty (without (nat_eq n) cache.pages)
@@ -118,7 +115,6 @@ module _ {B D : Type 0} where
       × (victim cache.keeps_dirty cache.pages ≡ None)
 
 module _ {B D E S : Type 0} (d : device.Ghosts D B E S) where
-  -- If there is a page, its block. Otherwise the device's block, if it is known.
   abbrev pub block_or : Option (Page B) → Option S → Option S
   block_or None block = block
   block_or (Some page) block = Some (d.seen page.block)
@@ -126,11 +122,10 @@ module _ {B D E S : Type 0} (d : device.Ghosts D B E S) where
   abbrev pub block_at : List (ℕ × Page B) → D → ℕ → Option S
   block_at pages device n = block_or (lookup (nat_eq n) pages) (d.blocks device n)
 
-  -- the block that a cache shows at each number, if it is known
+  -- the block that a cache shows at each number
   abbrev pub shown : Cached B D → ℕ → Option S
   shown cache n = block_at cache.pages cache.device n
 
-  -- the device is usable and honest (`IsHonest`)
   abbrev pub IsGood : D → Type 0
   IsGood device = IsTrue (d.is_usable device) × d.IsHonest device
 
@@ -164,7 +159,7 @@ module _ {B D E S : Type 0} (d : device.Ghosts D B E S) where
     pub usable : d.is_usable new ≡ d.is_usable old
     pub honest : d.IsHonest new → d.IsHonest old
 
-  -- The pages of these numbers were written to the device, one after another, and the device got no other call.
+  -- The pages of these numbers were written, one after another, and the device got no other call.
   abbrev pub AreWritten : List ℕ → List (ℕ × Page B) → D → D → Type 0
   AreWritten [] pages old new = new ≡ old
   AreWritten (n ∷ numbers) pages old new = (page : Page B) × (between : D) × (lookup (nat_eq n) pages ≡ Some page)
@@ -199,7 +194,7 @@ module _ {B D E S : Type 0} (d : device.Ghosts D B E S) where
   abbrev pub IsFlushCause : D → D → PageError E → Type 0
   IsFlushCause old new e = IsFault old new e ⊎ ((e ≡ Broken) × (d.is_usable old ≡ false))
 
-  -- After a call that failed, the pages are the same, or memory ran out after an eviction.
+  -- After a failed call, the pages are the same, or memory ran out after an eviction.
   abbrev pub Leaves : Cached B D → Cached B D → PageError E → Type 0
   Leaves old new e = (new.pages ≡ old.pages)
       ⊎ ((e ≡ Memory) × (new.pages ≡ with_room old.capacity old.keeps_dirty old.pages))
@@ -212,8 +207,6 @@ module _ {B D E S : Type 0} (d : device.Ghosts D B E S) where
   -- what each call that reads, writes or pins page n does
   pub record UsesPage {A : Type 0} (n : ℕ) (old : Cached B D) (result : Result A (PageError E)) (new : Cached B D)
       : Type 0 where
-    -- A crash may leave more only for pages that were dirty. If the cache keeps dirty pages or contains page n, nothing
-    -- is written.
     pub crash : CrashAdds old.pages old.device new.device
     pub unwritten : IsTrue old.keeps_dirty → CrashKeeps old.device new.device
     pub untouched : IsCached n old → new.device ≡ old.device
@@ -226,7 +219,7 @@ module _ {B D E S : Type 0} (d : device.Ghosts D B E S) where
     pub counted : OnOk result (new.counts ≡ counted n old)
     pub uncounted : OnErr result (new.counts ≡ old.counts)
 
-  -- What a successful read of page n does. If the device is not usable, the page is cached.
+  -- What a successful read of page n does.
   pub record ReadsPage (n : ℕ) (old new : Cached B D) : Type 0 where
     pub block : B
     pub shows : d.IsHonest new.device → shown new n ≡ Some (d.seen block)
@@ -234,13 +227,13 @@ module _ {B D E S : Type 0} (d : device.Ghosts D B E S) where
     pub usable : d.is_usable old.device ≡ false → IsCached n old
     pub uses : UsesPage {A = Unit {0}} n old (Ok tt) new
 
-  -- What a failed read of page n does. The page is not cached. If the device is not usable, the error is `Broken`.
+  -- What a failed read of page n does.
   pub record ReadFails (n : ℕ) (old : Cached B D) (e : PageError E) (new : Cached B D) : Type 0 where
     pub absent : IsCached n old → ⊥
     pub broken : d.is_usable old.device ≡ false → e ≡ Broken
     pub uses : UsesPage {A = Unit {0}} n old (Err e) new
 
-  -- `count` pages were read, one after another, from page `start` on
+  -- from page `start` on, `count` pages were read, one after another
   abbrev pub ReadsPages : ℕ → ℕ → Cached B D → Cached B D → Type 0
   ReadsPages start zero old new = new ≡ old
   ReadsPages start (suc count) old new =

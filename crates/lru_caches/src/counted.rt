@@ -27,10 +27,10 @@ pub struct Counts {
     pub misses: u64,
     /// How many inserts left their key in the cache.
     pub insertions: u64,
-    /// How many inserts did not, although memory did not run out: the limiter rejected the entry, or no table could
-    /// hold it.
+    /// How many inserts did not leave their key in the cache, although memory did not run out: the limiter rejected the
+    /// entry, or no table could hold the entry.
     pub rejections: u64,
-    /// How many entries inserts evicted.
+    /// How many entries were evicted by inserts.
     pub evictions: u64,
 }
 
@@ -173,8 +173,8 @@ impl<K: Eq + Hash, V, L: Limiter<K, V>, S: KeyHasher<K>> CountedMap<K, V, L, S> 
         map
     }
 
-    /// Makes the entry of a key the newest, and counts a hit. If the key is not there, counts a miss. Returns whether the
-    /// key is there. If it is, `map().peek_newest()` is its entry.
+    /// Makes the entry of a key the newest, and counts a hit. If the key is not there, counts a miss. Returns whether
+    /// the key is there. If the key is there, `map().peek_newest()` returns its entry.
     ///
     /// ```
     /// assert!(rt; counted.promote(&1) && !counted.promote(&9));
@@ -227,7 +227,7 @@ impl<K: Eq + Hash + Drop, V: Drop, L: Limiter<K, V>, S: KeyHasher<K>> CountedMap
     ///
     /// # Errors
     ///
-    /// Fails as `LruMap::insert` does. Counts the entries that were evicted.
+    /// As `LruMap::insert`. The evicted entries are counted.
     pub fn insert<I: LookupKey<K>>(&mut self, key: I, value: V) -> Result<bool, AllocError>
     where
         L: Insertion<K, V, I>,

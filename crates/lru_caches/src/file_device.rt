@@ -33,7 +33,7 @@ pub enum FileError {
 /// A device of the blocks of a file, of `N` bytes each.
 ///
 /// Nothing is proved about the bytes that an operating system returns or keeps. So contracts see a record of the calls
-/// on the file (`specs/Files`), which takes no memory.
+/// on the file (`specs/Files`). The record takes no memory.
 ///
 /// [`HashedFileDevice`] also detects torn and damaged blocks.
 ///

@@ -84,11 +84,9 @@ module _ {K V S H : Type 0} {one : Contents K V S → Contents K V S} {gives : C
       )
 
 module _ {K V S : Type 0} (rules : Rules K V S) where
-  -- what a pop of the newest pair returns
   abbrev pub newest_pair : Contents K V S → List (K × V)
   newest_pair c = option_to_list (left_of rules c.limiter (first c.pairs))
 
-  -- what a pop of the oldest pair returns
   abbrev pub oldest_pair : Contents K V S → List (K × V)
   oldest_pair c = option_to_list (left_of rules c.limiter (last c.pairs))
 

@@ -10,7 +10,7 @@ use Rattle.lru_replay.specs.declared.calls.Call.TheVariants as calls
 use Rattle.lru_replay.specs.Replies.{Reply, no_memory, cost_differs}
 use Rattle.lru_replay.specs.Steps.{Named, nothing, a_key, the_newest, does, ReplyStep, ListStep}
 
--- Steps one after another, with one call and one reply for each step. `Holds` is true for the state after each step.
+-- Steps one after another, each with a call and a reply. `Holds` is true after each step.
 module _ {S C R : Type 0} (IsStep : S → C → R → S → Type 0) (Holds : S → Type 0) where
   abbrev pub IsRun : S → List C → List R → S → Type 0
   IsRun old [] [] new = new ≡ old
@@ -27,7 +27,7 @@ module _ {K V S : Type 0} where
   StoresPairs (calls.Drain front back) = Unit {0}
   StoresPairs call = ⊥
 
-  -- Either the call makes its step, or there is no memory for the returned pairs, and nothing changes.
+  -- The call makes its step, or there is no memory for the returned pairs, and nothing changes.
   abbrev pub StepIfMemory : {A : Type 0} → (A → Call K V S → Reply K V → A → Type 0) → A → Call K V S → Reply K V → A
       → Type 0
   StepIfMemory IsStep old call reply new = IsStep old call reply new
@@ -38,15 +38,13 @@ module _ {K V S : Type 0} where
   SetsNoLimiter call = Unit {0}
 
 module _ {K V S : Type 0} (eq : K → K → Bool) (cost : K → V → ℕ) (account : S → ℕ) where
-  -- If the call is a write, the cost of its pair stays the same. If the call sets a limiter, the new limiter has the
-  -- same running total.
+  -- A write keeps the cost of its pair. A new limiter has the same running total.
   abbrev pub KeepsCost : Contents K V S → Call K V S → Type 0
   KeepsCost old (calls.Write key v) =
       MatchOption (lookup_entry (eq key) old.pairs) (Unit {0}) (λ there. cost there.0 v ≡ cost there.0 there.1)
   KeepsCost old (calls.SetLimiter s) = account s ≡ account old.limiter
   KeepsCost old call = Unit {0}
 
--- If a key is named, it passes the test. The newest pair is not named.
 abbrev pub IsAmong : {K : Type 0} → (K → K → Bool) → (K → Bool) → Named K → Type 0
 IsAmong eq test nothing = Unit {0}
 IsAmong eq test (a_key key) = AreAmong (eq key) test
@@ -65,7 +63,7 @@ module _ {K V S H : Type 0} (rules : Rules K V S) (offers : Offers K V S K) (eq 
   CallStep = StepIfMemory (ReplyStep rules offers eq hash_of)
 
   module _ (cost : K → V → ℕ) (account : S → ℕ) where
-    -- Either the call makes a step that keeps the cost, or the reply is `cost_differs`, and nothing changes.
+    -- If the call keeps the cost, it makes its step. Otherwise nothing changes.
     abbrev pub SummingStep : State K V S H → Call K V S → Reply K V → State K V S H → Type 0
     SummingStep old call reply new = (KeepsCost eq cost account (contents old) call × CallStep old call reply new)
         ⊎ ((KeepsCost eq cost account (contents old) call → ⊥) × (reply ≡ cost_differs) × (new ≡ old))

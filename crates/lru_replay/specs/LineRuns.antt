@@ -15,24 +15,23 @@ use Rattle.lru_replay.specs.Output.{reply_text, bad_text, Writes, Begins}
 use Rattle.lru_replay.specs.Replies.{Reply, no_memory}
 use Rattle.lru_replay.specs.Steps.{ReplyStep}
 
--- The call returns a list of the pairs that its insert passes to a callback, and the list takes memory.
+-- The call returns a list of the pairs that its insert passes to a callback. The list takes memory.
 abbrev pub StoresFirst : {S : Type 0} → Call ℕ ℕ S → Type 0
 StoresFirst (calls.InsertWith k v) = Unit {0}
 StoresFirst call = ⊥
 
 module _ {S : Type 0} (rules : Rules ℕ ℕ S) (offers : Offers ℕ ℕ S ℕ) where
-  -- Either the call is carried out, or there is no memory for the list of pairs, and nothing changes.
+  -- The call is carried out, or there is no memory for the list of pairs, and nothing changes.
   abbrev pub AnswersCall : Map S → Call ℕ ℕ S → Reply ℕ ℕ → Map S → Type 0
   AnswersCall old call reply new = ReplyStep rules offers nat_eq hash_of old call reply new
       ⊎ (StoresFirst call × (reply ≡ no_memory) × (new ≡ old))
 
 module _ {S : Type 0} (rules : Rules ℕ ℕ S) (offers : Offers ℕ ℕ S ℕ) (reported : S → Option ℕ) where
-  -- the call is answered, and the text is the text of the reply
   abbrev pub TextStep : Map S → Call ℕ ℕ S → List ℕ → Map S → Type 0
   TextStep old call text new = (reply : Reply ℕ ℕ) × AnswersCall rules offers old call reply new
       × (text ≡ reply_text (reported old.limiter) reply)
 
-  -- If the line spells a call, the call is answered. Otherwise the text is `bad`, and the map does not change.
+  -- If the line spells a call, the call is answered. Otherwise the text is `bad`.
   abbrev pub LineStep : Map S → List ℕ → List ℕ → Map S → Type 0
   LineStep old line text new = ((call : Call ℕ ℕ S) × SpellsCall line call × TextStep old call text new)
       ⊎ (((call : Call ℕ ℕ S) → SpellsCall line call → ⊥) × (text ≡ bad_text) × (new ≡ old))
@@ -49,14 +48,12 @@ module _ {S : Type 0} (rules : Rules ℕ ℕ S) (offers : Offers ℕ ℕ S ℕ) 
   IsLineRun old lines text new =
       (texts : List (List ℕ)) × IsRun LineStep (IsMap nat_eq) old lines texts new × (text ≡ flat_map fed texts)
 
-  -- some run over the lines from this map has this text
   abbrev pub IsTextOf : Map S → List (List ℕ) → List ℕ → Type 0
   IsTextOf old lines text = (new : Map S) × IsLineRun old lines text new
 
 -- Below, `IsText` says which texts lines have, and `Wrote` how much of a text was written. A reader had the bytes
 -- `from` left, if they are known, and has `to` left now. A writer's bytes were `old` and are `new`.
 module _ (IsText : List (List ℕ) → List ℕ → Type 0) (from : Option (List ℕ)) where
-  -- `Wrote` holds for a text of all lines
   abbrev pub OfAll : (List ℕ → Type 0) → Type 0
   OfAll Wrote = IfSome from (λ input. (text : List ℕ) × IsText (lines_of input) text × Wrote text)
 
@@ -71,7 +68,7 @@ module _ (IsText IsTextSoFar : List (List ℕ) → List ℕ → Type 0) (from to
   BeginsText = (OfAll IsText from (Begins old new) × OnSome from (IsAtEnd to))
       ⊎ OfRead IsTextSoFar from to (Begins old new)
 
--- what was read and written, depending on how the answers to the lines ended
+-- what was read and written, depending on how the answers ended
 abbrev pub Answers : (List (List ℕ) → List ℕ → Type 0) → Option (List ℕ) → Option (List ℕ) → Option (List ℕ)
     → Option (List ℕ) → Result (Unit {0}) ReplayError → Type 0
 Answers IsText from to old new (Ok _) = OfAll IsText from (Appends old new) × OnSome from (IsAtEnd to)

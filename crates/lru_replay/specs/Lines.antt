@@ -29,27 +29,23 @@ module _ (old new : Option (List ℕ)) where
   abbrev pub TakesPart : List ℕ → Type 0
   TakesPart bytes = Lacks 10 bytes × Consumes old new bytes
 
-  -- a line and its line feed were read
   abbrev pub TakesFed : List ℕ → Type 0
   TakesFed line = Lacks 10 line × Consumes old new (fed line)
 
-  -- the bytes after the last line feed were read, and nothing is left
   abbrev pub TakesRest : List ℕ → Type 0
   TakesRest bytes = Lacks 10 bytes × Consumes old new bytes × OnSome old (IsAtEnd new)
 
-  -- what one look at the reader's buffer took of a line
+  -- what one look at the reader's buffer took
   abbrev pub TakesPiece : Piece → List ℕ → Type 0
   TakesPiece pieces.Part bytes = TakesPart bytes
   TakesPiece pieces.Last bytes = TakesFed bytes
   TakesPiece pieces.End bytes = TakesRest bytes
 
-  -- a line was read, and ended as `Ending` says
   abbrev pub TakesLine : Ending → List ℕ → Type 0
   TakesLine endings.Feed line = TakesFed line
   TakesLine endings.InputEnd line = TakesRest line × (0 < length line)
   TakesLine endings.Nothing line = TakesRest line × (line ≡ [])
 
-  -- only the first line was read
   abbrev pub TakesFirst : Type 0
   TakesFirst = (line : List ℕ) × (TakesFed line ⊎ TakesRest line)
 

@@ -18,31 +18,29 @@ use Rattle.lru_replay.specs.Replies.{no_memory, cost_differs}
 abbrev pub Begins : Option (List ℕ) → Option (List ℕ) → List ℕ → Type 0
 Begins old new text = (part : List ℕ) × IsFront part text × Appends old new part
 
--- a beginning of the text was written, and then a write failed
 abbrev pub Fails : ReplayError → Option (List ℕ) → Option (List ℕ) → List ℕ → Type 0
 Fails e old new text = (e ≡ errors.Write) × Begins old new text
 
--- Either the text was written, or a write failed after a beginning of the text.
+-- The text was written, or a write failed after a beginning of the text.
 abbrev pub Writes : {A : Type 0} → Option (List ℕ) → Option (List ℕ) → Result A ReplayError → List ℕ → Type 0
 Writes old new (Ok _) text = Appends old new text
 Writes old new (Err e) text = Fails e old new text
 
--- a pair, such as `3:30`
+-- such as `3:30`
 abbrev pub pair_text : ℕ × ℕ → List ℕ
 pair_text p = decimal p.0 ++ 58 ∷ decimal p.1
 
--- pairs, each with a space before it
 abbrev pub rest_text : List (ℕ × ℕ) → List ℕ
 rest_text [] = []
 rest_text (p ∷ pairs) = 32 ∷ pair_text p ++ rest_text pairs
 
--- the text of the next pair, if there is one; a space comes first if a pair was written before
+-- the text of the next pair; a space comes first if a pair was written before
 abbrev pub taken_text : Bool → Option (ℕ × ℕ) → List ℕ
 taken_text any None = []
 taken_text false (Some p) = pair_text p
 taken_text true (Some p) = 32 ∷ pair_text p
 
--- pairs, such as `3:30 2:20 1:10`, or `-` if there are none
+-- such as `3:30 2:20 1:10`, or `-`
 abbrev pub pairs_text : List (ℕ × ℕ) → List ℕ
 pairs_text [] = codes "-"
 pairs_text (p ∷ pairs) = pair_text p ++ rest_text pairs
@@ -51,7 +49,7 @@ abbrev pub value_text : Option ℕ → List ℕ
 value_text None = codes "none"
 value_text (Some v) = decimal v
 
--- a pair, such as `3:30`, or `none` if there is no pair
+-- such as `3:30`, or `none`
 abbrev pub left_text : Option (ℕ × ℕ) → List ℕ
 left_text None = codes "none"
 left_text (Some p) = pair_text p
@@ -83,7 +81,7 @@ shrink_text (Err e) = codes "no memory"
 abbrev pub named_text : List ℕ → ℕ → List ℕ
 named_text name n = name ++ decimal n
 
--- the running total after the figures, such as ` cost 3`, or nothing if the limiter keeps no total
+-- such as ` cost 3`, or nothing if the limiter keeps no total
 abbrev pub cost_text : Option ℕ → List ℕ
 cost_text None = []
 cost_text (Some cost) = named_text (codes " cost ") cost

@@ -15,9 +15,7 @@ use Rattle.lru_theory.specs.Traces.{AreEqual, fault, refer}
 
 -- A kind of cache that a map may be.
 pub record Cache (K V S H : Type 0) : Type 1 where
-  -- when two keys are equal
   pub eq : K → K → Bool
-  -- the limit, as a number
   pub limit : S → ℕ
   -- the keys after a reference to the key, with this limit
   pub refer : ℕ → K → List K → List K
@@ -31,9 +29,8 @@ pub record CostsAlike {K V : Type 0} (eq : K → K → Bool) (weight : K → V �
   pub keys : (key other : K) → eq key other ≡ true → cost key ≡ cost other
   pub pairs : (key other : K) (value : V) → eq key other ≡ true → weight key value ≡ weight other value
 
--- Each pair costs what its key costs. The total is the sum of the costs, and at most the limit. If keys together cost
--- at most the limit, there are at most `most` of them, even if some are equal. There is a table for 8 * (most + 1)
--- pairs.
+-- Each pair costs what its key costs. If keys together cost at most the limit, there are at most `most` of them, even
+-- if some are equal. There is a table for 8 * (most + 1) pairs.
 pub record KeepsToCost {K V H : Type 0} (weight : K → V → ℕ) (cost : K → ℕ) (st : State K V Budget H) : Type 0 where
   pub each : AllByRecursion (λ pair. weight pair.0 pair.1 ≡ cost pair.0) st.pairs
   pub summed : IsSummed weight (λ budget. budget.cost) st
@@ -60,27 +57,25 @@ module _ {K V H : Type 0} (eq : K → K → Bool) where
   }
 
 module _ {K V S H : Type 0} (cache : Cache K V S H) where
-  -- The map has the keys `left` now, and its limit did not change.
   pub record LeavesKeys (left : List K) (old new : State K V S H) : Type 0 where
     pub keys : AreEqual cache.eq (keys_of new.pairs) left
     pub limit : cache.limit new.limiter ≡ cache.limit old.limiter
     pub keeps : cache.Keeps old → cache.Keeps new
 
-  -- A reference to a key. Afterwards the key is the newest, and the other keys follow in their order, as far as the
-  -- limit permits (`does`). If the limit permits an entry, and the key was not in the map, an entry was stored
-  -- (`stored`).
+  -- Afterwards the key is the newest, and the other keys follow in their order, as far as the limit permits (`does`).
+  -- If the limit permits an entry, and the key was not in the map, an entry was stored (`stored`).
   pub record Reference (key : K) (old new : State K V S H) : Type 0 where
     pub does : LeavesKeys (cache.refer (cache.limit old.limiter) key (keys_of old.pairs)) old new
     pub stored : cache.Stores (cache.limit old.limiter)
         → new.counts.placed ≡ count_up old.counts.placed (fault cache.eq key (keys_of old.pairs))
 
-  -- The program read the map, or wrote values. The keys did not change, and no entry was stored.
+  -- The program read the map, or wrote values.
   pub record Reads (old new : State K V S H) : Type 0 where
     pub does : LeavesKeys (keys_of old.pairs) old new
     pub stored : new.counts.placed ≡ old.counts.placed
 
-  -- The program made the references of a trace on the map `old`, one after another, and left the map `new`. `missed`
-  -- references did not find their key. Between references the program may have read.
+  -- The program made the references of a trace on the map `old`, and left the map `new`. `missed` references did not
+  -- find their key. Between references the program may have read.
   pub data Referenced (old : State K V S H) : (trace : List K) (missed : ℕ) (new : State K V S H) → Type 0 where
     begins : Referenced old [] 0 old
     refers : (key : K) (trace : List K) (missed : ℕ) (mid new : State K V S H) → Referenced old trace missed mid →
@@ -89,7 +84,7 @@ module _ {K V S H : Type 0} (cache : Cache K V S H) where
     reads : (trace : List K) (missed : ℕ) (mid new : State K V S H) → Referenced old trace missed mid →
         Reads mid new → Referenced old trace missed new
 
-  -- A loop made the references of the first i keys of a trace, and missed `missed` times.
+  -- A loop made the references of the first i keys of a trace.
   pub record Loops (old : State K V S H) (trace : List K) (i missed : ℕ) (new : State K V S H) : Type 0 where
     pub run : Referenced old (take i trace) missed new
     pub limit : cache.limit new.limiter ≡ cache.limit old.limiter
@@ -97,11 +92,9 @@ module _ {K V S H : Type 0} (cache : Cache K V S H) where
     pub few : missed ≤ i
 
 module _ {K V H : Type 0} (eq : K → K → Bool) where
-  -- what this call does to the keys of a map with a maximum length
   abbrev pub Does : KeyCall K → State K V ℕ H → State K V ℕ H → Type 0
   Does call old = LeavesKeys (of_length eq) (after_call eq old.limiter call (keys_of old.pairs)) old
 
-  -- The program made these calls on the map `old`, one after another, and left the map `new`.
   pub data Did (old : State K V ℕ H) : (calls : List (KeyCall K)) (new : State K V ℕ H) → Type 0 where
     nothing : Did old [] old
     does_more : (call : KeyCall K) (calls : List (KeyCall K)) (mid new : State K V ℕ H) → Did old calls mid →

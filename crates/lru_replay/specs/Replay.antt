@@ -17,11 +17,11 @@ use Rattle.lru_replay.specs.Maps.{empty}
 use Rattle.lru_replay.specs.Output.{no_limiter_text, Begins}
 use Rattle.lru_replay.specs.LineRuns.{IsTextOf, OfAll, OfRead, BeginsText}
 
--- the bytes that the map counts for an entry, if the first line names no number of bytes
+-- the bytes of an entry, if the first line names no number of bytes
 abbrev pub plain_entry_bytes : ℕ
 plain_entry_bytes = 32
 
--- The text answers the lines, which are carried out on an empty map under the limit.
+-- The text answers the lines, carried out on an empty map under the limit.
 abbrev pub IsTextUnder : Limit → List (List ℕ) → List ℕ → Type 0
 IsTextUnder (limits.Length most) =
     IsTextOf length_rules length_offers no_cost (empty most plain_entry_bytes max_of_32_bits)
@@ -33,7 +33,6 @@ IsTextUnder (limits.Cost most) =
 IsTextUnder limits.Compact =
     IsTextOf {S = UnlimitedCompact} no_rules all_offers no_cost (empty (record {}) plain_entry_bytes max_of_32_bits)
 
--- The first line names a limit, and the text answers the other lines under this limit.
 abbrev pub IsReplay : List (List ℕ) → List ℕ → Type 0
 IsReplay lines text = (limit : Limit) × (first : List ℕ) × (others : List (List ℕ))
     × (lines ≡ first ∷ others) × SpellsLimit first limit × IsTextUnder limit others text
@@ -47,34 +46,31 @@ NamesNoLimit lines = (limit : Limit) (first : List ℕ) (others : List (List ℕ
 abbrev pub IsOutput : List (List ℕ) → List ℕ → Type 0
 IsOutput lines text = IsReplay lines text ⊎ (NamesNoLimit lines × (text ≡ no_limiter_text))
 
--- What is written for the lines that were read. If no line was read, nothing is written. Otherwise `IsText` gives the
--- text.
+-- What is written for the lines that were read. If no line was read, nothing is written.
 abbrev pub SoFar : (List (List ℕ) → List ℕ → Type 0) → List (List ℕ) → List ℕ → Type 0
 SoFar IsText [] text = text ≡ []
 SoFar IsText (first ∷ others) text = IsText (first ∷ others) text
 
--- What a replay read and wrote, depending on how it ended. The reader had the bytes `from` left, and has `to` left now.
--- The writer's bytes were `old` and are `new`.
+-- How a replay ended. The reader had the bytes `from` left, and has `to` left now. The writer's bytes were `old` and
+-- are `new`.
 module _ (from to old new : Option (List ℕ)) where
-  -- The first line names a limit, a replay of all the lines was written, and nothing is left to read.
   pub record Finished : Type 0 where
     pub named : IfSome from (λ input. NamesNoLimit (lines_of input) → ⊥)
     pub replay : OfAll IsReplay from (Appends old new)
     pub at_end : OnSome from (IsAtEnd to)
 
-  -- The first line names no limit, or there is no line. Nothing after the first line was read, and `no limiter` was
-  -- written.
+  -- Nothing after the first line was read, and `no limiter` was written.
   pub record HasNoLimit : Type 0 where
     pub unnamed : IfSome from (λ input. NamesNoLimit (lines_of input))
     pub reads : TakesFirst from to
     pub writes : Appends old new no_limiter_text
 
-  -- A read failed. The text of the lines that were read whole was written, and nothing else.
+  -- The text of the lines that were read whole was written, and nothing else.
   abbrev pub ReadFailed : Type 0
   ReadFailed = OfRead (SoFar IsReplay) from to (Appends old new)
 
-  -- A write failed. A beginning of the output for all lines was written, and it is also a beginning of the output for
-  -- the lines that were read.
+  -- A beginning of the output for all lines was written. It is also a beginning of the output for the lines that were
+  -- read.
   pub record WriteFailed : Type 0 where
     pub cut : OfAll IsOutput from (Begins old new)
     pub reads : BeginsText IsOutput (SoFar IsOutput) from to old new

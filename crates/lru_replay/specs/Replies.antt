@@ -10,21 +10,20 @@ use Rattle.lru_replay.specs.declared.calls.Answer.TheVariants as answers
 use Rattle.lru_replay.specs.declared.lines.figures.Figures.{Figures}
 
 pub data Reply (K V : Type 0) : Type 0 where
-  -- whether the key is in the map after an insert, a write, a promotion, a demotion or a `Contains`
+  -- whether the key is in the map after the call
   flag : Bool → Reply K V
   -- what an insert returned, and the pairs that it passed to its callback, in order
   given : Result Bool AllocError → List (K × V) → Reply K V
   updated : Updated V → Reply K V
-  -- the value of a key, if it is there
   value : Option V → Reply K V
   pair : Option (K × V) → Reply K V
-  -- pairs, in the order in which they were returned
+  -- pairs, in order
   listed : List (K × V) → Reply K V
   reserved : Result (Unit {0}) ReserveError → Reply K V
   -- whether the table has fewer buckets
   shrunk : Result Bool AllocError → Reply K V
   stats : Figures → Reply K V
-  -- the call is done, and returns nothing
+  -- the call returned nothing
   done : Reply K V
   no_memory : Reply K V
   -- the running total would be wrong after the call, so the call was not made

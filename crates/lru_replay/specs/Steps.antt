@@ -28,8 +28,8 @@ use Rattle.lru_replay.specs.Replies.{Reply, flag, given, updated, value, pair, l
 use Rattle.lru_replay.specs.Replies.{insert_reply, made_reply}
 
 module _ {K V : Type 0} (eq : K → K → Bool) (hash_of : K → ℕ) where
-  -- What a search by a hash finds for a key. If the stored key's hash has the same tag as this hash, the search may
-  -- find the pair. If no equal key is stored, or the stored key has another hash, the search may find nothing.
+  -- What a search by a hash finds for a key. If the stored key's hash has the tag of this hash, the search may find the
+  -- pair. If no equal key is stored, or the stored key has another hash, the search may find nothing.
   pub data FindsByHash (hash : ℕ) (key : K) (pairs : List (K × V)) (result : Option V) : Type 0 where
     found : (there : K × V) → lookup_entry (eq key) pairs ≡ Some there → hash_tag (hash_of there.0) ≡ hash_tag hash
         → result ≡ Some there.1 → FindsByHash hash key pairs result
@@ -42,12 +42,10 @@ pub data Named (K : Type 0) : Type 0 where
   a_key : K → Named K
   the_newest : Named K
 
--- what one call does
 pub record Does (K V S H : Type 0) : Type 1 where
   pub names : Named K
-  -- the call may turn the map `old` into `new` and give this reply
   pub on_map : (old : State K V S H) (reply : Reply K V) (new : State K V S H) → Type 0
-  -- the call may turn the contents c into d and give this reply, if the hasher is h
+  -- the same on the contents c, which become d, if the hasher is h
   pub on_list : (h : H) (c : Contents K V S) (reply : Reply K V) (d : Contents K V S) → Type 0
 
 module _ {K V S H : Type 0} where
@@ -63,7 +61,6 @@ module _ {K V S H : Type 0} where
     on_list = λ h c reply d. (reply ≡ says c) × (d ≡ contents (after (bare h c)));
   }
 
-  -- The contents determine the reply, and nothing changes.
   abbrev pub reads : (Contents K V S → Reply K V) → Does K V S H
   reads says = turns nothing says (λ old. old)
 
@@ -75,7 +72,7 @@ module _ {K V S H : Type 0} where
     on_list = λ h c reply d. (reply ≡ says c) × (d ≡ after c);
   }
 
-  -- The reply is `says` of the call's result. The two steps say which results, maps and contents are permitted.
+  -- The two steps say which results, maps and contents are permitted.
   abbrev pub gives : {R : Type 0} → Named K → (R → Reply K V) → (State K V S H → R → State K V S H → Type 0)
       → (H → Contents K V S → R → Contents K V S → Type 0) → Does K V S H
   gives {R} names says IsStep IsListStep = record {
@@ -95,7 +92,6 @@ module _ {K V S : Type 0} (rules : Rules K V S) (offers : Offers K V S K) (eq : 
   abbrev pub updated_in_list : Updated V × Contents K V S
   updated_in_list = unwrap_or (option_map updates_pair (lookup_entry (eq key) c.pairs)) (Absent v, c)
 
--- the contents, with the list added to the limiter's state
 abbrev pub beside : {K V S : Type 0} → List (K × V) → Contents K V S → Contents K V (S × List (K × V))
 beside list c = record { pairs = c.pairs; limiter = (c.limiter, list) }
 
@@ -107,8 +103,8 @@ module _ {K V S H : Type 0} (rules : Rules K V S) (offers : Offers K V S K) (eq 
       (λ old result new. FindsByHash eq (hash_of old.hasher) hash key old.pairs result × (new ≡ after result old))
       (λ h c result d. FindsByHash eq (hash_of h) hash key c.pairs result × (d ≡ contents (after result (bare h c))))
 
-  -- What each call does. The table determines the results of a reservation and of a shrink, and all figures except the
-  -- number of pairs. So the step on a list permits any of them.
+  -- The table determines the results of a reservation and of a shrink, and all figures except the number of pairs. So
+  -- the step on a list permits any of them.
   abbrev pub does : Call K V S → Does K V S H
   does (calls.Insert key v) = gives (a_key key) insert_reply (Insert rules offers eq hash_of key v)
       (λ h. InsertsInList rules offers eq key v)
@@ -161,7 +157,7 @@ module _ {K V S H : Type 0} (rules : Rules K V S) (offers : Offers K V S K) (eq 
   abbrev pub ReplyStep : State K V S H → Call K V S → Reply K V → State K V S H → Type 0
   ReplyStep old call reply new = (does call).on_map old reply new
 
--- the step of a call on a list, if the hash of a key k is `hash_of k`
+-- the step of a call on a list
 abbrev pub ListStep : {K V S : Type 0} → Rules K V S → Offers K V S K → (K → K → Bool) → (K → ℕ) → Contents K V S
     → Call K V S → Reply K V → Contents K V S → Type 0
 ListStep rules offers eq hash_of c call reply d =

@@ -93,7 +93,7 @@ pub fn gets_that_insert_if_made_make_references<
     laws::calls_keep_the_length::<K, V, ByLength, S>();
 }
 
-/// What other calls do to the keys. `promotes` covers gets and promotions, even if the key is not in the map, and
+/// Says what other calls do to the keys. `promotes` covers gets and promotions, even if the key is not in the map, and
 /// `looks` covers each call that changes nothing.
 pub fn calls_change_the_keys<K: Eq + Hash + Drop, V: Drop, S: KeyHasher<K>>()
     ensures promotes { (names : K → Bool) (key : K) (old new : State K V ByLength S) →
@@ -116,8 +116,8 @@ pub fn calls_change_the_keys<K: Eq + Hash + Drop, V: Drop, S: KeyHasher<K>>()
     laws::calls_keep_the_length::<K, V, ByLength, S>();
 }
 
-/// A program made the references of a trace, and makes one more, which hits (`hits`) or misses (`misses`). The map
-/// still keeps to its length (`keeps`).
+/// A program made the references of a trace, and makes one more reference, which hits (`hits`) or misses (`misses`).
+/// The map still keeps to its length (`keeps`).
 pub fn programs_make_references<K: Eq + Hash + Drop, V: Drop, S: KeyHasher<K>>()
     ensures hits { (trace : List K) (missed : ℕ) (key : K) (value : V) (old mid new : State K V ByLength S) →
         Referenced (of_length K.eq) old trace missed mid → lookup (K.eq key) mid.pairs ≡ Some value →
@@ -180,12 +180,12 @@ pub fn a_smaller_map_is_included<K: Eq + Hash + Drop, V: Drop, S: KeyHasher<K>>(
         is_in K.eq key (keys_of small.pairs) ≡ true → is_in K.eq key (keys_of large.pairs) ≡ true }
 {}
 
-/// LRU is competitive, whichever calls make the references. Take any policy with h places, which may know the trace in
-/// advance. The policy begins with the keys `first`, and pays `paid` times for the same references. A map with
-/// `ByLength(k)`, h ≤ k, may contain any keys before. If the policy stores each referenced key, ahead (`loads`) or on
-/// demand (`demands`, for at most h keys `first`), the map misses at most `k / (k + 1 - h) * paid + length first`
-/// times. If the policy need not store the key, and h < k, the map misses at most `k / (k - h) * paid + length first`
-/// times (`bypasses`).
+/// LRU is competitive, whichever calls make the references. Compare a map with `ByLength(k)`, which may contain any
+/// keys before, with any policy with h ≤ k places. The policy may know the trace in advance, begins with the keys
+/// `first`, and pays `paid` times for the same references. If the policy stores each referenced key, the map misses at
+/// most `k / (k + 1 - h) * paid + length first` times. The policy may load keys ahead (`loads`), or load on demand and
+/// begin with at most h keys (`demands`). If the policy need not store the key, and h < k, the map misses at most
+/// `k / (k - h) * paid + length first` times (`bypasses`).
 pub fn maps_are_competitive<K: Eq + Hash + Drop, V: Drop, S: KeyHasher<K>>()
     ensures loads { (trace : List K) (missed : ℕ) (old new : State K V ByLength S) (h paid : ℕ) (first left : List K) →
         IsDistinct K.eq (keys_of old.pairs) → length old.pairs ≤ old.limiter →

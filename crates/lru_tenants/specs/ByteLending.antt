@@ -26,7 +26,6 @@ module _ (K V S H : RattleType) (key : HashMembers K.Denot) (of_key : K.Denot �
 module _ (N K V S H : RattleType) (name : HashMembers N.Denot) (key : HashMembers K.Denot)
     (of_name : N.Denot → ℕ) (of_key : K.Denot → ℕ) (of_value : V.Denot → ℕ)
     (hashed : HasherMembers S.Denot K.Denot H.Denot) (hash : hasher.Ghosts H.Denot) where
-  -- the cache's type in the logic
   abbrev pub cache_row : RattleType
   cache_row = the_row N K V S H (record {}) (record { eq = name.eq }) (record { hash_input = name.hash_input })
       (record { owned = of_name }) (record {}) (record { eq = key.eq }) (record { hash_input = key.hash_input })

@@ -13,9 +13,7 @@ pub record ByteCache (N K V S : Type 0) : Type 0 where
   pub tenants : List (N × State K V Bytes S)
   -- the bytes of the table of tenants
   pub table : ℕ
-  -- the limit of all bytes
   pub limit : ℕ
-  -- the hasher of names and keys
   pub hasher : S
 
 -- the bytes of the table; `usage` is `Some` for every map
@@ -31,15 +29,13 @@ fresh entry_bytes hasher own =
     empty_map (record { limit = own; owned = 0; table = 0 }) hasher entry_bytes max_of_32_bits
 
 module _ {N K V S : Type 0} where
-  -- the map of the named tenant, if it is open
   abbrev pub tenant : (N → Bool) → ByteCache N K V S → Option (State K V Bytes S)
   tenant named cache = lookup named cache.tenants
 
-  -- what a tenant takes: the bytes that its name owns, the bytes of its table, and the bytes that its entries own
+  -- the bytes that a tenant's name owns, the bytes of its table, and the bytes that its entries own
   abbrev pub taken : (N → ℕ) → (K → V → ℕ) → N × State K V Bytes S → ℕ
   taken of_name of_pair t = of_name t.0 + table_bytes t.1 + sum_by (λ pair. of_pair pair.0 pair.1) t.1.pairs
 
-  -- the table of tenants and all tenants take at most the limit
   abbrev pub IsWithin : (N → ℕ) → (K → V → ℕ) → ByteCache N K V S → Type 0
   IsWithin of_name of_pair cache = cache.table + sum_by (taken of_name of_pair) cache.tenants ≤ cache.limit
 
@@ -51,14 +47,12 @@ module _ {N K V S : Type 0} where
   abbrev pub is_over : (N → ℕ) → N → ℕ → ByteCache N K V S → Bool
   is_over of_name name own cache = nat_lt cache.limit (reserved of_name cache + in_word (of_name name + own))
 
-  -- the named tenant is `left` afterwards, and nothing else changes
   pub record Leaves (eq : N → N → Bool) (names : N → Bool) (left : Option (State K V Bytes S))
       (old new : ByteCache N K V S) : Type 0 where
     pub own : tenant names new ≡ left
     pub others : (other : N) → names other ≡ false → tenant (eq other) new ≡ tenant (eq other) old
     pub is : new ≡ record old { tenants = new.tenants }
 
-  -- a call changes the named tenant as `Does` says, and nothing else
   abbrev pub On : {R : Type 0} → (N → N → Bool) → (N → Bool)
       → (Option (State K V Bytes S) → R → Option (State K V Bytes S) → Type 0) → ByteCache N K V S → R
       → ByteCache N K V S → Type 0

@@ -26,13 +26,11 @@ is_above (Some limit) sum = nat_lt limit sum
 pub record Cache (N K V L S : Type 0) : Type 0 where
   -- the open tenants by their names, in no particular order
   pub tenants : List (N × State K V L S)
-  -- the hasher of names and keys
   pub hasher : S
   -- if there is one, the limit of the sum of all budgets
   pub total_limit : Option ℕ
 
 module _ {N K V L S : Type 0} where
-  -- the map of the named tenant, if it is open
   abbrev pub tenant : (N → Bool) → Cache N K V L S → Option (State K V L S)
   tenant named cache = lookup named cache.tenants
 
@@ -40,7 +38,6 @@ module _ {N K V L S : Type 0} where
   abbrev pub fresh : (ℕ → L) → ℕ → ℕ → Cache N K V L S → ℕ → State K V L S
   fresh made entry_bytes max cache budget = empty_map (made budget) cache.hasher entry_bytes max
 
-  -- the named tenant is `left` afterwards, and the other tenants do not change
   pub record Leaves (eq : N → N → Bool) (names : N → Bool) (left : Option (State K V L S)) (old new : Cache N K V L S)
       : Type 0 where
     -- if the call names x, it names exactly the names equal to x
@@ -50,7 +47,7 @@ module _ {N K V L S : Type 0} where
     pub hasher : new.hasher ≡ old.hasher
     pub total_limit : new.total_limit ≡ old.total_limit
 
-  -- a call changes the named tenant as `Does` says, and changes no other tenant
+  -- a call changes the named tenant as `Does` says, and no other tenant
   abbrev pub On : {R : Type 0} → (N → N → Bool) → (N → Bool)
       → (Option (State K V L S) → R → Option (State K V L S) → Type 0) → Cache N K V L S → R → Cache N K V L S → Type 0
   On eq names Does old answer new =

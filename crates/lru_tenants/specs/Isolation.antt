@@ -13,7 +13,7 @@ pub record Did (N K V L S : Type 0) : Type 0 where
   pub left : Option (State K V L S)
 
 module _ {N K V L S : Type 0} where
-  -- The calls take the cache from old to new. Each call changes only the tenant that it names.
+  -- Each call changes only the tenant that it names.
   abbrev pub CacheRun : (N → N → Bool) → Cache N K V L S → List (Did N K V L S) → Cache N K V L S → Type 0
   CacheRun eq old [] new = new ≡ old
   CacheRun eq old (did ∷ more) new = (mid : Cache N K V L S) × (did.found ≡ tenant did.names old)

@@ -29,7 +29,6 @@ module _ (N K V L S M H : RattleType) (name : HashMembers N.Denot) (key : HashMe
     (limits : BudgetMembers K.Denot V.Denot L.Denot)
     (links : link_type.Ghosts M.Denot)
     (hashed : HasherMembers S.Denot K.Denot H.Denot) (hash : hasher.Ghosts H.Denot) where
-  -- the type of the cache, as a `RattleType`
   abbrev pub cache_row : RattleType
   cache_row = the_row N K V L S M H (record {}) (record { eq = name.eq }) (record { hash_input = name.hash_input })
       (record { eq = key.eq }) (record { hash_input = key.hash_input })
@@ -46,7 +45,6 @@ module _ (N K V L S M H : RattleType) (name : HashMembers N.Denot) (key : HashMe
       → (Cache N.Denot K.Denot V.Denot L.Denot S.Denot → Type 0) → Fml
   ends_so m Ends = follows_so cache_row cache_row m.ghost_name none (λ _ _. ⊤) Ends
 
--- the answer, with the lent value instead of the reference
 abbrev pub read : {V E : Type 0} → Result (Option (Bor V)) E → Result (Option V) E
 read (Ok lent) = Ok (option_copied lent)
 read (Err e) = Err e

@@ -31,7 +31,6 @@ module _ {K V L S : Type 0} (account : L → ℕ) where
   abbrev pub cost : Part K V L S → ℕ
   cost own = account own.1.limiter
 
-  -- how far a tenant is above its share
   abbrev pub excess : Part K V L S → ℕ
   excess own = cost own - own.0
 
@@ -48,7 +47,6 @@ module _ {K V L S : Type 0} (account : L → ℕ) where
   abbrev pub total_cost : {N : Type 0} → List (N × Part K V L S) → ℕ
   total_cost tenants = sum_by cost (values_of tenants)
 
-  -- the map's budget is the limit
   pub record IsPart (eq : K → K → Bool) (costs : K → V → ℕ) (budget : L → ℕ) (limit : ℕ) (own : Part K V L S)
       : Type 0 where
     pub tenant : IsTenant eq costs account budget own.1
@@ -74,7 +72,7 @@ module _ {N K V L S : Type 0} (rules : Rules K V L) (account : L → ℕ) (eq : 
     pub pops : PopOldest rules own.1 (Some gone) left
     pub is : new ≡ set_value (eq name) old (with_map left own)
 
-  -- evictions, one after another, while the total is above the limit
+  -- evictions while the total is above the limit
   pub data Evictions (limit : ℕ) (new : List (N × Part K V L S)) : List (N × Part K V L S) → Type 0 where
     ends : total_cost account new ≤ limit → Evictions limit new new
     evicts : {old : List (N × Part K V L S)} (mid : List (N × Part K V L S)) → limit < total_cost account old
@@ -107,7 +105,6 @@ put_answer (Ok kept) there = Ok there
 put_answer (Err e) there = Err Memory
 
 module _ {N K V L S : Type 0} where
-  -- the named tenant, if it is open
   abbrev pub part : (N → Bool) → Pool N K V L S → Option (Part K V L S)
   part named pool = lookup named pool.tenants
 
@@ -130,7 +127,6 @@ module _ {N K V L S : Type 0} where
     pub others : (other : N) → names other ≡ false → part (eq other) new ≡ part (eq other) old
     pub is : new ≡ record old { tenants = new.tenants }
 
-  -- a call changes the named tenant as `Does` says, and no other tenant
   abbrev pub On : {R : Type 0} → (N → N → Bool) → (N → Bool)
       → (Option (Part K V L S) → R → Option (Part K V L S) → Type 0) → Pool N K V L S → R → Pool N K V L S → Type 0
   On eq names Does old answer new =
@@ -146,8 +142,7 @@ module _ {N K V L S : Type 0} where
   PoolRun account eq old (names ∷ more) new =
       (mid : Pool N K V L S) × SparesOthers account eq names old mid × PoolRun account eq mid more new
 
-  -- A put inserts into the map of the named tenant. Unless the insert fails, entries are evicted while the total is
-  -- above the limit.
+  -- Unless the insert into the tenant's map fails, entries are evicted while the total is above the limit.
   pub record Puts (rules : Rules K V L) (offers : Offers K V L K) (account : L → ℕ) (eq : N → N → Bool)
       (same : K → K → Bool) (hash_of : S → K → ℕ) (names : N → Bool) (key : K) (value : V) (own : Part K V L S)
       (old : Pool N K V L S) (answer : Result Bool TenantError) (new : Pool N K V L S) : Type 0 where
@@ -157,12 +152,10 @@ module _ {N K V L S : Type 0} where
     pub evictions : Evictions rules account eq old.limit new.tenants
         (set_value names old.tenants (with_map left own))
     pub failed : OnErr result (new.tenants ≡ set_value names old.tenants (with_map left own))
-    -- the evictions spare the named tenant, too
     pub spared : Spared account (Some (with_map left own)) (part names new)
     pub said : answer ≡ put_answer result (has_key (same key) (part names new))
     pub is : new ≡ record old { tenants = new.tenants }
 
-  -- If the tenant is open, the call does what `does` says. Otherwise nothing changes.
   abbrev pub PutsIfOpen : (Part K V L S → Pool N K V L S → Result Bool TenantError → Pool N K V L S → Type 0)
       → Option (Part K V L S) → Pool N K V L S → Result Bool TenantError → Pool N K V L S → Type 0
   PutsIfOpen does None old answer new = (answer ≡ Err NotOpen) × (new ≡ old)

@@ -14,7 +14,6 @@ module _ (N K V L S M H : RattleType) (name : HashMembers N.Denot) (key : HashMe
     (limits : BudgetMembers K.Denot V.Denot L.Denot)
     (links : link_type.Ghosts M.Denot)
     (hashed : HasherMembers S.Denot K.Denot H.Denot) (hash : hasher.Ghosts H.Denot) where
-  -- the pool's type in the logic
   abbrev pub pool_row : RattleType
   pool_row = the_row N K V L S M H (record {}) (record { eq = name.eq }) (record { hash_input = name.hash_input })
       (record { eq = key.eq }) (record { hash_input = key.hash_input })

@@ -33,14 +33,13 @@ put_answer (Err e) = Err Memory
 
 -- Below: what each call may return, and how it leaves the tenant that it names. `None` is a tenant that is not open.
 
--- A tenant that is not open opens with `fresh`. If the sum would be over the limit, or memory runs out, the tenant stays
--- closed.
+-- If the sum would be over the limit, or memory runs out, the tenant stays closed.
 abbrev pub Opens : {X : Type 0} → Bool → X → Option X → Result (Unit {0}) TenantError → Option X → Type 0
 Opens over fresh (Some map) answer new = (answer ≡ Err AlreadyOpen) × (new ≡ Some map)
 Opens true fresh None answer new = (answer ≡ Err OverTotal) × (new ≡ None)
 Opens false fresh None answer new = ((answer ≡ Ok tt) × (new ≡ Some fresh)) ⊎ ((answer ≡ Err Memory) × (new ≡ None))
 
--- If the tenant is open, the call does what `does` says. Otherwise it returns `NotOpen`, and the tenant stays closed.
+-- If the tenant is open, the call does what `does` says. Otherwise it returns `NotOpen`.
 abbrev pub OfOpen : {X R : Type 0} → (X → Result R TenantError → Option X → Type 0) → Option X
     → Result R TenantError → Option X → Type 0
 OfOpen does None answer new = (answer ≡ Err NotOpen) × (new ≡ None)
@@ -64,7 +63,6 @@ module _ {K V L S : Type 0} where
   SetsBudget rules rebudgeted false map answer new = (left : State K V L S)
       × Trims rules (with_limiter (rebudgeted map.limiter) map) left × (answer ≡ Ok tt) × (new ≡ Some left)
 
-  -- what a call passes to its callback: if the tenant is not open, nothing
   abbrev pub PassesOn : (State K V L S → List (K × V) → Option (State K V L S) → Type 0) → Option (State K V L S)
       → List (K × V) → Option (State K V L S) → Type 0
   PassesOn does None passed new = (passed ≡ []) × (new ≡ None)
@@ -87,7 +85,7 @@ module _ {K V L S : Type 0} where
   abbrev pub Closes : State K V L S → Result ℕ TenantError → Option (State K V L S) → Type 0
   Closes map answer new = (answer ≡ Ok (length map.pairs)) × (new ≡ None)
 
-  -- a put inserts into the map of the tenant; the budget stays
+  -- a put, which keeps the budget
   module _ (rules : Rules K V L) (offers : Offers K V L K) (budget_of : L → ℕ) (eq : K → K → Bool)
       (hash_of : S → K → ℕ) (key : K) (value : V) where
     pub record Puts (old : State K V L S) (answer : Result Bool TenantError) (new : Option (State K V L S))
@@ -123,7 +121,6 @@ module _ {N K V L S : Type 0} (rules : Rules K V L) (offers : Offers K V L K) (c
   TenantStep (calls.Close name) old answer new = (result : Result ℕ TenantError)
       × OfOpen Closes old result new × (answer ≡ answers.Closed result)
 
-  -- a step that leaves a tenant within its budget
   abbrev pub KeptStep : TenantCall N K V → Option (State K V L S) → TenantAnswer V → Option (State K V L S) → Type 0
   KeptStep call old answer new = TenantStep call old answer new × IfSome new (IsTenant eq cost account budget_of)
 

@@ -1,7 +1,7 @@
 use std::alloc::Global;
 use std::fmt::{Debug, Write};
 
-/// A text. If memory runs out, the text lacks a part, and so its row fails.
+/// A text. If memory runs out, a part of the text is missing, so its row fails.
 #[derive(Drop)]
 pub struct Text(String);
 

@@ -58,7 +58,7 @@ fn touch(map: &mut LruMap<u64, u64>, key: u64) -> bool
     map.promote(&key)
 }
 
-/// If the key is there, writes a value under it. Returns whether the key is there. If so, a look-up returns the value.
+/// If the key is there, writes a value under it. Returns whether the key is there.
 fn overwrite(map: &mut LruMap<u64, u64>, key: u64, value: u64) -> bool
     ensures { result ≡ true → lookup (nat_eq key) map.new.pairs ≡ Some value }
 {

@@ -1,6 +1,6 @@
 //! Tests of `schnellru` through its public calls, for what no contract says.
 //!
-//! `examples` also contains the examples of `lru_model` and `ordered_table`.
+//! `examples` includes the examples of `lru_model` and `ordered_table`.
 #![tactic(auto)]
 
 #[cfg(test)]

@@ -23,7 +23,7 @@ fn weight_of(key: usize, value: usize) -> u64
         .saturating_add(OVERHEAD)
 }
 
-// What the entry of a key weighs, or 0 if it is not there.
+// Returns the weight of the entry of a key, or 0 if the key is not there.
 #[tactic(auto, using(crate::proofs::RoomyPuts::weight_split))]
 fn weight_in(map: &BytesMap, key: &[u8]) -> u64
     requires within { IsWithinBudget map.now }
@@ -41,7 +41,7 @@ fn must_evict(map: &BytesMap, key: &[u8], value_len: usize) -> bool
 {
     let limit = map.limiter().limit();
     let added = weight_of(key.len(), value_len);
-    // An entry that is over the budget is rejected. Its key is not read here.
+    // A put rejects an entry that is over the budget. Its key is not read here.
     if added > limit {
         return false;
     }

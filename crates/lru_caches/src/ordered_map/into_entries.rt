@@ -9,8 +9,8 @@ use std::hash::Hash;
 use std::iter::FusedIterator;
 use std::marker::Model;
 
-/// A double-ended iterator that owns an ordered map and takes its entries out, oldest first. A drop of the iterator
-/// drops the remaining entries.
+/// A double-ended iterator that takes the entries of an ordered map out, oldest first. A drop of the iterator drops the
+/// remaining entries.
 ///
 /// ```
 /// let mut entries = map.into_iter();

@@ -3,7 +3,7 @@ ghost use Rattle.std.specs.Prelude.{◌≡◌, ℕ, Option, Some, None};
 
 use lru_limits::{ByCost, ByLength, ByMemoryUsage, UnlimitedCompact};
 
-/// A limiter of a replay. It may have a running total of costs.
+/// A limiter of a replay.
 pub trait ReportsCost {
     ghost reported: { Self → Option ℕ };
 

@@ -1,4 +1,4 @@
-//! Writes the pairs that the line `drain` takes out, one at a time.
+//! Writes the pairs that `drain` takes out, one at a time.
 ghost use Rattle.std.specs.Prelude.{ℕ, List, [], ◌++◌, Option, if◌then◌else◌, codes};
 ghost use Rattle.lru_replay.specs.Output.{Writes, taken_text};
 

@@ -97,7 +97,7 @@ fn number(word: &[u8]) -> Option<u64>
 }
 
 /// Returns false if the word is empty, begins with a plus, or begins with a zero and has more bytes. `parse` rejects
-/// each other word that is no number.
+/// all other words that are no numbers.
 fn starts_as_number(word: &[u8]) -> bool
     ensures yes { result ≡ true → StartsAsNumber word.now }
     ensures no { result ≡ false → StartsAsNumber word.now → ⊥ }

@@ -50,7 +50,7 @@ impl<
         self.tenants.limiter().limit()
     }
 
-    /// Returns how many bytes are left for a further tenant: for its limit and its name, in the present table.
+    /// Returns how many bytes the limit and the name of one more tenant may take in the present table.
     ///
     /// ```
     /// assert!(rt; bytes.left() < 3500);

@@ -66,7 +66,7 @@ impl<
     /// callback gets nothing, and the key is dropped.
     ///
     /// If the key was there and is not kept, the callback got its entry. If the limiter rejected the new value, this
-    /// entry has the old value, else the new value.
+    /// entry has the old value. Otherwise the entry has the new value.
     ///
     /// ```
     /// let replaced = cache.put_full(&1, 7, 3, &mut |_, _| {})?;

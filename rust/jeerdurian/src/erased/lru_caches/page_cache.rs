@@ -56,11 +56,11 @@ where
 /// The cache contains at most `capacity` pages. If it is full, it evicts the oldest page that may be evicted. A write
 /// makes the cached page dirty. The cache writes a dirty page to the device when it evicts or flushes the page.
 ///
-/// After a `flush` that returned `Ok`, a crash leaves each block as the cache showed it then, unless a later call wrote
-/// the block. `docs/CACHES.md` names the premises.
+/// After a `flush` that returned `Ok`, a crash leaves each block as the cache showed it at the flush, unless a later
+/// call wrote the block. `docs/CACHES.md` names the premises.
 ///
-/// Call `close` or `discard` in the end. Code that drops or forgets a cache does not compile, because its dirty pages
-/// would be lost.
+/// Call `close` or `discard` at the end. Code that drops or forgets a cache does not compile, because dirty pages would
+/// be lost.
 ///
 /// ```text
 /// let mut cache = PageCache::new(alloc, disk, 2);
@@ -71,7 +71,7 @@ where
 /// ```
 pub struct PageCache<B: Copy, D: BlockDevice<B>, S = RandomState> {
     map: Pages<B, S>,
-    // reserved memory for the number of each page, for flushes
+    // reserved memory for the numbers of the pages, for flushes
     numbers: Vec<u64>,
     capacity: usize,
     keeps_dirty: bool,

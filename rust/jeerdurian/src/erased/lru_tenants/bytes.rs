@@ -14,11 +14,10 @@ mod tenant;
 
 use tenant::ByteTenant;
 
-/// A cache for many tenants within one limit of bytes: for the table of tenants, their names, their tables, and what
-/// their entries own.
+/// A cache for many tenants within one limit of bytes. The limit covers the table of tenants, their names, their
+/// tables, and what their entries own.
 ///
-/// Each tenant has its own limit, which its map keeps as under [`ByBytes`]. While a table grows, the old table is not
-/// counted.
+/// Each tenant's map has its own limit, as under [`ByBytes`]. While a table grows, the old table is not counted.
 ///
 /// In the examples of the calls, `bytes` has a limit of 4,000 bytes, and tenant 1 with a limit of 500 bytes and the
 /// entry (7, 2).
@@ -83,7 +82,7 @@ impl<N: Eq + Hash + OwnedBytes, K: Eq + Hash + OwnedBytes, V: OwnedBytes, S: Key
     /// # Errors
     ///
     /// The tenants are unchanged. `AlreadyOpen`, or `OverTotal`: the limit and the bytes of the name are above `left`.
-    /// `Memory`: memory or the limit does not permit the larger table of tenants that is needed.
+    /// `Memory`: a larger table of tenants is needed, and memory or the limit does not permit it.
     pub fn open(&mut self, name: N, limit: u64) -> Result<(), TenantError> {
         laws::runs_keep_the_bytes::<N, ByteTenant<K, V, S>, S>();
         let _len = self.tenants.len();

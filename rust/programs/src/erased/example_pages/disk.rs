@@ -13,7 +13,7 @@ use crate::rattle_std::io::{self, ErrorKind, Read, Seek, SeekFrom, Write};
 /// A disk writes a sector whole. A crash may tear a page between two sectors.
 const SECTOR: usize = 2048;
 
-/// The power of a machine. It fails after `calls_left` calls, and then each call fails.
+/// The power of a machine. After `calls_left` calls, each call fails.
 
 pub struct Power {
     calls_left: Cell<u64>,

@@ -12,14 +12,14 @@ use crate::rattle_std::alloc::Global;
 /// With these sizes the cache evicts, and the log is full after a few transactions.
 const SIZES: Sizes = Sizes { pages: 4, log: 8, cache: 2 };
 
-/// How many records the trial changes: three of each page. One of the three lies across two sectors.
+/// How many records the trial changes: three of each page, one of which lies across two sectors.
 const USED: u64 = 12;
 
 fn id_of(n: u64) -> u64 {
     (n / 3).wrapping_mul(RECORDS).wrapping_add((n % 3).wrapping_mul(31))
 }
 
-/// The work between two crashes makes fewer calls.
+/// More calls than the work between two crashes makes.
 const CALLS: u64 = 150;
 
 type Files<'a> = (Disk<'a>, Disk<'a>);
@@ -131,8 +131,8 @@ fn check(store: &mut Store, model: &mut Model, counts: &mut Counts) {
     }
 }
 
-/// Crashes a store `count` times: crash n after n % `CALLS` calls of its files, or after all its work. Half of the
-/// time, crashes the store again in the recovery.
+/// Crashes a store `count` times: crash n comes after n % `CALLS` calls of the files, or after all the work. Half of
+/// the time, crashes the store again in the recovery.
 pub fn crashes(alloc: Global, count: u64) -> Result<Counts, StoreError> {
     let power = Power::new();
     let mut random = Random::new(1);

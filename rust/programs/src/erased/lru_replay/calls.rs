@@ -87,7 +87,7 @@ pub enum Answer<K, V> {
     /// To `List` and `Drain`: the pairs.
     Pairs(Vec<(K, V)>),
     Done,
-    /// To `Reserve`: `Ok` if enough growth is left, or the reason why not.
+    /// To `Reserve`: `Ok` if enough growth is left, else the reason why not.
     Reserved(Result<(), ReserveError>),
     /// To `Shrink`: whether the table has fewer buckets now. After an `Err`, out of memory, nothing has changed.
     Shrunk(Result<bool, AllocError>),
@@ -106,8 +106,6 @@ pub enum Answer<K, V> {
 }
 
 /// Carries out the calls on the map, one after another, and returns one answer for each.
-///
-/// Each answer is what the call on the map returns.
 ///
 /// ```text
 /// let mut map: LruMap<u64, u64> = LruMap::new(alloc, ByLength::new(3), [1, 2, 3, 4], 16);

@@ -22,7 +22,7 @@ impl<'a> Row<'a> {
         Row { name, input: Vec::new(alloc), text: Vec::new(alloc), status: 0, alloc }
     }
 
-    /// Reads a row. If the row is malformed, it expects a text that no replay writes, so it fails.
+    /// Reads a row. A malformed row expects a text that no replay writes, so the row fails.
     pub fn of(alloc: Global, lines: &'a str) -> Row<'a> {
         let mut row = Row::new(alloc, "");
         let mut is_good = true;

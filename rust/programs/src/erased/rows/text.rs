@@ -5,7 +5,7 @@ use crate::rattle_std::prelude::*;
 use crate::rattle_std::alloc::Global;
 use crate::rattle_std::fmt::{Debug, Write};
 
-/// A text. If memory runs out, the text lacks a part, and so its row fails.
+/// A text. If memory runs out, a part of the text is missing, so its row fails.
 
 pub struct Text(String);
 

@@ -1,7 +1,7 @@
 // Erased from crates/schnellru_tests/src/lib.rt: do not edit.
 //! Tests of `schnellru` through its public calls, for what no contract says.
 //!
-//! `examples` also contains the examples of `lru_model` and `ordered_table`.
+//! `examples` includes the examples of `lru_model` and `ordered_table`.
 
 #[allow(unused_imports)]
 use crate::rattle_std::prelude::*;

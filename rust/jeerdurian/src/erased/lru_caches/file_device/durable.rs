@@ -13,7 +13,7 @@ use crate::rattle_std::io::Cursor;
 /// assert!(rt; Cursor::new([0u8; 4]).make_durable().is_ok());
 /// ```
 pub trait Durable {
-    /// Makes durable all bytes that were written and flushed before. Returns when they are.
+    /// Makes all bytes durable that were written and flushed before, and then returns.
     ///
     /// # Errors
     ///

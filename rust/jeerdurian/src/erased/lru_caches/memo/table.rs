@@ -115,8 +115,8 @@ impl<K: Eq + Hash, V, Q: Question<K, V>, L: Insertion<K, V, K>, S: KeyHasher<K>>
         Some(read(&*value))
     }
 
-    /// Stores an answer at a key as the newest, and returns true. If memory runs out, or a limit prevents this, returns
-    /// false, and no answer is stored at the key.
+    /// Stores an answer at a key as the newest, and returns true. If memory runs out, or a limit prevents storing the
+    /// answer, returns false, and no answer is stored at the key.
     ///
     /// ```text
     /// squares.store(3, 9);

@@ -7,8 +7,8 @@ use crate::erased::schnellru::KeyHasher;
 use crate::rattle_std::hash::Hash;
 use crate::rattle_std::iter::FusedIterator;
 
-/// A double-ended iterator that owns an ordered map and takes its entries out, oldest first. A drop of the iterator
-/// drops the remaining entries.
+/// A double-ended iterator that takes the entries of an ordered map out, oldest first. A drop of the iterator drops the
+/// remaining entries.
 ///
 /// ```text
 /// let mut entries = map.into_iter();

@@ -34,7 +34,7 @@ impl<N: Eq + Hash + OwnedBytes, K: Eq + Hash + OwnedBytes, V: OwnedBytes, S: Key
         self.tenants.limiter().limit()
     }
 
-    /// Returns how many bytes are left for a further tenant: for its limit and its name, in the present table.
+    /// Returns how many bytes the limit and the name of one more tenant may take in the present table.
     ///
     /// ```text
     /// assert!(rt; bytes.left() < 3500);

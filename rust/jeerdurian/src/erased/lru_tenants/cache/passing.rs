@@ -45,7 +45,7 @@ impl<N: Eq + Hash, K: Eq + Hash, V, L: Budgeted<K, V>, S: KeyHasher<K> + Copy> T
     /// callback gets nothing, and the key is dropped.
     ///
     /// If the key was there and is not kept, the callback got its entry. If the limiter rejected the new value, this
-    /// entry has the old value, else the new value.
+    /// entry has the old value. Otherwise the entry has the new value.
     ///
     /// ```text
     /// let replaced = cache.put_full(&1, 7, 3, &mut |_, _| {})?;

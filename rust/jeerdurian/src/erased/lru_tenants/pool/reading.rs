@@ -1,6 +1,4 @@
 // Erased from crates/lru_tenants/src/pool/reading.rt: do not edit.
-//! Calls that never evict.
-
 #[allow(unused_imports)]
 use crate::rattle_std::prelude::*;
 

@@ -6,7 +6,7 @@ use crate::rattle_std::prelude::*;
 
 use crate::erased::lru_limits::{ByCost, ByLength, ByMemoryUsage, UnlimitedCompact};
 
-/// A limiter of a replay. It may have a running total of costs.
+/// A limiter of a replay.
 pub trait ReportsCost {
     /// Returns the running total of costs, if there is one.
     fn reported_cost(&self) -> Option<u64>;

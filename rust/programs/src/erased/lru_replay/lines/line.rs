@@ -55,7 +55,7 @@ impl Line {
     }
 }
 
-/// Which part of a line one look at the reader's buffer gave.
+/// What one look at the reader's buffer gave.
 #[derive(Clone, Copy)]
 pub enum Piece {
     Part,
@@ -98,7 +98,7 @@ pub enum Ending {
 ///
 /// # Errors
 ///
-/// `ReplayError::Read` if the reader fails, or after `u64::MAX` looks without an end.
+/// `ReplayError::Read`: the reader failed, or `u64::MAX` looks found no end.
 pub fn read_line<R: BufRead>(reader: &mut R, line: &mut Line) -> Result<Ending, ReplayError> {
     line.clear();
     for _ in 0..u64::MAX {

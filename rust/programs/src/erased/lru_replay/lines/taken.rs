@@ -1,5 +1,5 @@
 // Erased from crates/lru_replay/src/lines/taken.rt: do not edit.
-//! Writes the pairs that the line `drain` takes out, one at a time.
+//! Writes the pairs that `drain` takes out, one at a time.
 
 #[allow(unused_imports)]
 use crate::rattle_std::prelude::*;
