@@ -1,8 +1,10 @@
 use Rattle.std.proofs.Common.{◌≡◌, Bool, true, false, cond, List, [], ◌∷◌, Option, Some, None, refl, sym, ap, ◌∙◌}
-use Rattle.std.proofs.Common.{subst, unwrap_or, option_map, is_some}
+use Rattle.std.proofs.Common.{subst, unwrap_or, option_map, is_some, arith}
 use Rattle.std.specs.Cmp.{IsEquivalence}
 use Rattle.std.specs.Map.{lookup}
+use Rattle.std.proofs.lemmas.List.{get_or_append_left, length-append}
 use Rattle.std.proofs.lemmas.List.Elements.{All-head, All-tail}
+use Rattle.std.specs.List.{All}
 use Rattle.std.proofs.lemmas.Option.{none-some}
 use Rattle.std.specs.declared.alloc.AllocError.{AllocError}
 use Rattle.lru_limits.specs.Rules.{Rules, Offers}
@@ -10,7 +12,7 @@ use Rattle.lru_model.proofs.CallerLemmas.{lookup-entry, read-all, read_back, ins
 use Rattle.lru_model.specs.Calls.{Remove, left_of, promoted, written}
 use Rattle.lru_model.specs.GetOrInserts.{got, inserted}
 use Rattle.lru_model.specs.Inserts.{Insert}
-use Rattle.lru_model.specs.Lists.{lookup_entry}
+use Rattle.lru_model.specs.Lists.{IsFront, lookup_entry}
 use Rattle.lru_model.specs.State.{State}
 use Rattle.lru_model.specs.Theorems.{EvictsOldest, InsertEnds, KeepsValues}
 use Rattle.std.specs.Prelude.{ℕ, Result, Ok, Err, IfOk}
@@ -86,3 +88,7 @@ pub loaded_as_read : {V E : Type 0} {gives : Result V E → Type 0} {reads : V �
 loaded_as_read {gives = gives} (loaded value given gave read is) same =
     subst gives (sym is) (subst (λ v. gives (Ok v)) (sym (same value given read)) gave)
 loaded_as_read {gives = gives} (failed error gave is) same = subst gives (sym is) gave
+
+pub all_front : {X : Type 0} (P : X → Type 0) (xs ys : List X) → IsFront xs ys → All P ys → All P xs
+all_front P xs ys (rest, is) all k d few = subst P (get_or_append_left xs rest d k few)
+    (subst (All P) is all k d (omega (arith, few, length-append xs rest)))

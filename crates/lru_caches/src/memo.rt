@@ -3,7 +3,7 @@ ghost use Rattle.std.specs.Fn.{FnReturnsAt, FnOnceReturnsAt};
 ghost use Rattle.std.specs.Map.{lookup};
 ghost use Rattle.lru_model.specs.Calls.{Remove, cleared};
 ghost use Rattle.lru_model.specs.Lists.{is_empty};
-ghost use Rattle.lru_model.specs.State.{IsMap, empty_map};
+ghost use Rattle.lru_model.specs.State.{IsMap, IsWithin, Trims, contents, empty_map};
 ghost use Rattle.lru_model.specs.Theorems.{KeepsValues};
 ghost use Rattle.ordered_table.specs.EntrySize.{entry_size};
 ghost use Rattle.lru_caches.specs.Answers.{IsAnswer, AreAnswers, Remembers};
@@ -201,6 +201,27 @@ impl<K: Eq + Hash + Drop, V: Drop, F: Fn(&K) -> V, L: Insertion<K, V, K>, S: Key
         ensures function { self.new.function ≡ self.old.function }
     {
         self.map.remove(key).is_some()
+    }
+
+    /// Sets another limiter, and drops the oldest results while the new limiter is over its limit. Returns the old
+    /// limiter. `LruMap::set_limiter` says with which running total a limiter must begin.
+    ///
+    /// ```
+    /// assert_eq!(rt; (squares.answer(3), squares.answer(4)), (9, 16));
+    /// assert!(rt; squares.set_limiter(ByLength::new(1)).max_length() == 9 && squares.len() == 1);
+    /// ```
+    ///
+    /// Cost: as `LruMap::set_limiter`.
+    pub fn set_limiter(&mut self, limiter: L) -> L
+        requires known { AreAnswers K.eq (FnReturnsAt F.Fn self.old.function) self.old.map.pairs }
+        ensures limiter { result ≡ self.old.map.limiter }
+        ensures step { Trims L.rules (record self.old.map { limiter = limiter }) self.new.map }
+        ensures within { IsWithin L.rules (contents self.new.map) }
+        ensures map { IsMap K.eq self.new.map }
+        ensures known { AreAnswers K.eq (FnReturnsAt F.Fn self.new.function) self.new.map.pairs }
+        ensures function { self.new.function ≡ self.old.function }
+    {
+        self.map.set_limiter(limiter)
     }
 
     /// Drops all stored results.

@@ -368,7 +368,9 @@ fn of_memo(rt: HostRuntime) {
     let held = held
         & all!(
             (blocks.answer_with(3, |block| block.is_some()), blocks.len()) == (true, 1),
-            squares.answer(3) == 9 && squares.remove(&3) && squares.is_empty()
+            squares.answer(3) == 9 && squares.remove(&3) && squares.is_empty(),
+            (squares.answer(3), squares.answer(4)) == (9, 16),
+            squares.set_limiter(ByLength::new(1)).max_length() == 9 && squares.len() == 1
         );
     squares.clear();
     check!(rt; held);

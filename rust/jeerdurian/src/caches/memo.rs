@@ -107,6 +107,30 @@ impl<K: Eq + Hash, V, F: Fn(&K) -> V, L: Admission<K, V>, S: BuildHasher> Memo<K
     pub fn answer_with<R>(&mut self, key: K, read: impl FnOnce(&V) -> R) -> R {
         self.memo.answer_with(key, read)
     }
+
+    /// Removes the stored result of a key, and returns whether there was one.
+    pub fn remove(&mut self, key: &K) -> bool {
+        self.memo.remove(key)
+    }
+
+    /// Drops all stored results.
+    pub fn clear(&mut self) {
+        self.memo.clear();
+    }
+
+    /// Sets another limiter, and drops the oldest results while the new limiter is over its limit. Returns the old
+    /// limiter.
+    ///
+    /// ```
+    /// # use jeerdurian::{ByLength, caches::Memo};
+    /// let mut squares = Memo::new(ByLength::new(9), |n: &u64| n * n);
+    /// assert_eq!((squares.answer(3), squares.answer(4)), (9, 16));
+    /// squares.set_limiter(ByLength::new(1));
+    /// assert!(squares.len() == 1 && !squares.remove(&3) && squares.remove(&4));
+    /// ```
+    pub fn set_limiter(&mut self, limiter: L) -> L {
+        self.memo.set_limiter(Calls(limiter)).0
+    }
 }
 
 /// A memo of a function that may fail, such as a read of a file. It stores no failure.

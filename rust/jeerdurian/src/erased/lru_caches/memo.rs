@@ -121,6 +121,19 @@ impl<K: Eq + Hash, V, F: Fn(&K) -> V, L: Insertion<K, V, K>, S: KeyHasher<K>> Me
         self.map.remove(key).is_some()
     }
 
+    /// Sets another limiter, and drops the oldest results while the new limiter is over its limit. Returns the old
+    /// limiter. `LruMap::set_limiter` says with which running total a limiter must begin.
+    ///
+    /// ```text
+    /// assert_eq!(rt; (squares.answer(3), squares.answer(4)), (9, 16));
+    /// assert!(rt; squares.set_limiter(ByLength::new(1)).max_length() == 9 && squares.len() == 1);
+    /// ```
+    ///
+    /// Cost: as `LruMap::set_limiter`.
+    pub fn set_limiter(&mut self, limiter: L) -> L {
+        self.map.set_limiter(limiter)
+    }
+
     /// Drops all stored results.
     ///
     /// ```text
