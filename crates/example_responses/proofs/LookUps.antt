@@ -241,9 +241,9 @@ module _ {N K S : Type 0} {eq : N → N → Bool} (names : K → Bool) (now : �
       some-copied None own there is found = absurd (true≢false there)
       some-copied (Some stored) own there is found = elim (subst (λ o. Copies o answer) found
           (subst (λ t. CopiesFrom names t answer) is copied)) [
-        | inl (copy, same, e) ↦ subst (λ a. IfOk a (λ found. is_some found ≡ true)) (sym e) refl
-        | inr e ↦ subst (λ a. IfOk a (λ found. is_some found ≡ true)) (sym e) tt
-      ]
+            | inl (copy, same, e) ↦ subst (λ a. IfOk a (λ found. is_some found ≡ true)) (sym e) refl
+            | inr e ↦ subst (λ a. IfOk a (λ found. is_some found ≡ true)) (sym e) tt
+          ]
 
       go : (was : Option (State K Response Budget S)) → OfOpen (LooksUp names now) was (Ok true) left
           → IfOk answer (λ found. is_some found ≡ true)

@@ -1,14 +1,14 @@
-ghost use Rattle.std.specs.Prelude.{◌≡◌, [], length, IfSome, Option, is_some};
+ghost use Rattle.std.specs.Prelude.{◌≡◌, [], length, IfSome, MatchOption, Option, Some, None, is_some};
 ghost use Rattle.std.specs.Fn.{FnReturnsAt, FnOnceReturnsAt};
 ghost use Rattle.std.specs.Map.{lookup};
-ghost use Rattle.lru_model.specs.Calls.{Remove, cleared};
+ghost use Rattle.lru_model.specs.Calls.{Remove, cleared, promoted};
 ghost use Rattle.lru_model.specs.Lists.{is_empty};
 ghost use Rattle.lru_model.specs.State.{IsMap, IsWithin, Trims, contents, empty_map};
 ghost use Rattle.lru_model.specs.Theorems.{KeepsValues};
 ghost use Rattle.ordered_table.specs.EntrySize.{entry_size};
 ghost use Rattle.lru_caches.specs.Answers.{IsAnswer, AreAnswers, Remembers};
 
-use schnellru::{Insertion, KeyHasher, LruMap, RandomState, laws};
+use schnellru::{Insertion, KeyHasher, LookupKey, LruMap, RandomState, laws};
 use std::alloc::Global;
 use std::hash::Hash;
 use std::marker::Model;
@@ -183,6 +183,57 @@ impl<K: Eq + Hash + Drop, V: Drop, F: Fn(&K) -> V, L: Insertion<K, V, K>, S: Key
         let result = read(&value);
         let _ = self.map.insert(key, value);
         result
+    }
+
+    /// Returns the stored result of a key, and makes it the newest. Does not call the function. So a caller who has a
+    /// `&str` copies it into a `String` only if nothing is stored.
+    ///
+    /// ```
+    /// let mut lengths = Memo::new(alloc, ByLength::new(9), |text: &String| text.as_bytes().len());
+    /// assert_eq!(rt; (lengths.get(&"word"), lengths.answer(String::from_str(alloc, "word")?)), (None, 4));
+    /// assert_eq!(rt; lengths.get(&"word"), Some(4));
+    /// ```
+    ///
+    /// Cost: as `LruMap::get`.
+    pub fn get<Q: LookupKey<K>>(&mut self, key: &Q) -> Option<V>
+    where
+        V: Copy,
+        requires known { AreAnswers K.eq (FnReturnsAt F.Fn self.old.function) self.old.map.pairs }
+        ensures stored { result ≡ lookup (Q.names key.now) self.old.map.pairs }
+        ensures step { self.new.map ≡ promoted (Q.names key.now) self.old.map }
+        ensures map { IsMap K.eq self.new.map }
+        ensures known { AreAnswers K.eq (FnReturnsAt F.Fn self.new.function) self.new.map.pairs }
+        ensures function { self.new.function ≡ self.old.function }
+    {
+        self.get_with(key, |value| *value)
+    }
+
+    /// Does what `get` does, but lends the result to a closure, and returns what the closure returns. The results need
+    /// not be `Copy`.
+    ///
+    /// ```
+    /// let mut blocks = Memo::new(alloc, ByLength::new(9), |n: &usize| vec![in alloc; 7u8; *n].ok());
+    /// assert_eq!(rt; (blocks.get_with(&3, |_| 1), blocks.answer_with(3, |_| 2)), (None, 2));
+    /// assert_eq!(rt; blocks.get_with(&3, |block| block.is_some()), Some(true));
+    /// ```
+    ///
+    /// Cost: as `get`, and a call of the closure.
+    pub fn get_with<Q: LookupKey<K>, R, U: FnOnce(&V) -> R>(
+        &mut self,
+        key: &Q,
+        read: U,
+    ) -> Option<R>
+        requires readable { U.IsAlwaysCallable read }
+        requires known { AreAnswers K.eq (FnReturnsAt F.Fn self.old.function) self.old.map.pairs }
+        ensures stored { MatchOption (lookup (Q.names key.now) self.old.map.pairs) (result ≡ None)
+            (λ value. (given : R) × (result ≡ Some given) × FnOnceReturnsAt U.FnOnce read value given) }
+        ensures step { self.new.map ≡ promoted (Q.names key.now) self.old.map }
+        ensures map { IsMap K.eq self.new.map }
+        ensures known { AreAnswers K.eq (FnReturnsAt F.Fn self.new.function) self.new.map.pairs }
+        ensures function { self.new.function ≡ self.old.function }
+    {
+        let value = self.map.get(key)?;
+        Some(read(&*value))
     }
 
     /// Removes the stored result of a key, and returns whether there was one.

@@ -353,7 +353,7 @@ fn of_memo_table(rt: HostRuntime) {
 }
 
 #[test]
-fn of_memo(rt: HostRuntime) {
+fn of_memo(rt: HostRuntime) -> Result<(), Fail> {
     let alloc = rt.alloc();
     let mut squares = Memo::new(alloc, ByLength::new(9), |n: &u64| n.wrapping_mul(*n));
     let held = (squares.answer(3), squares.len()) == (9, 1);
@@ -366,12 +366,39 @@ fn of_memo(rt: HostRuntime) {
         |n: &usize| vec![in alloc; 7u8; *n].ok(),
     );
     let held = held
+        & all!((blocks.answer_with(3, |block| block.is_some()), blocks.len()) == (true, 1));
+    let mut lengths = Memo::new(
+        alloc,
+        ByLength::new(9),
+        |text: &String| text.as_bytes().len(),
+    );
+    let held = held
         & all!(
-            (blocks.answer_with(3, |block| block.is_some()), blocks.len()) == (true, 1),
-            squares.answer(3) == 9 && squares.remove(&3) && squares.is_empty(),
-            (squares.answer(3), squares.answer(4)) == (9, 16),
-            squares.set_limiter(ByLength::new(1)).max_length() == 9 && squares.len() == 1
+            (
+                lengths.get(&"word"),
+                lengths.answer(String::from_str(alloc, "word")?)
+            ) == (None, 4),
+            lengths.get(&"word") == Some(4)
         );
+    check!(rt; held);
+    Ok(())
+}
+
+#[test]
+fn of_memo_2(rt: HostRuntime) {
+    let alloc = rt.alloc();
+    let mut blocks = Memo::new(
+        alloc,
+        ByLength::new(9),
+        |n: &usize| vec![in alloc; 7u8; *n].ok(),
+    );
+    let held = all!(
+        (blocks.get_with(&3, |_| 1), blocks.answer_with(3, |_| 2)) == (None, 2),
+        blocks.get_with(&3, |block| block.is_some()) == Some(true),
+        squares.answer(3) == 9 && squares.remove(&3) && squares.is_empty(),
+        (squares.answer(3), squares.answer(4)) == (9, 16),
+        squares.set_limiter(ByLength::new(1)).max_length() == 9 && squares.len() == 1
+    );
     squares.clear();
     check!(rt; held);
 }

@@ -1,6 +1,7 @@
 //! Functions that remember their newest results.
 
 use crate::erased::lru_caches as proved;
+use crate::keys::Named;
 use crate::limiter::{Admission, Calls};
 use crate::rattle_std::alloc::Global;
 use crate::{ByLength, RandomState};
@@ -106,6 +107,30 @@ impl<K: Eq + Hash, V, F: Fn(&K) -> V, L: Admission<K, V>, S: BuildHasher> Memo<K
     /// ```
     pub fn answer_with<R>(&mut self, key: K, read: impl FnOnce(&V) -> R) -> R {
         self.memo.answer_with(key, read)
+    }
+
+    /// Returns the stored result of a key, and makes it the newest. Does not call the function.
+    ///
+    /// ```
+    /// # use jeerdurian::{ByLength, caches::Memo};
+    /// let mut lengths = Memo::new(ByLength::new(9), |text: &String| text.len());
+    /// assert_eq!((lengths.get("word"), lengths.answer("word".to_string()), lengths.get("word")), (None, 4, Some(4)));
+    /// ```
+    pub fn get(&mut self, key: &(impl Hash + PartialEq<K> + ?Sized)) -> Option<V>
+    where
+        V: Copy,
+    {
+        self.memo.get(&Named(key))
+    }
+
+    /// Lends a closure what [`get`](Self::get) would return, and returns what the closure returns. The values need not be
+    /// `Copy`.
+    pub fn get_with<R>(
+        &mut self,
+        key: &(impl Hash + PartialEq<K> + ?Sized),
+        read: impl FnOnce(&V) -> R,
+    ) -> Option<R> {
+        self.memo.get_with(&Named(key), read)
     }
 
     /// Removes the stored result of a key, and returns whether there was one.

@@ -2,7 +2,7 @@
 #[allow(unused_imports)]
 use crate::rattle_std::prelude::*;
 
-use crate::erased::schnellru::{Insertion, KeyHasher, LruMap, RandomState, laws};
+use crate::erased::schnellru::{Insertion, KeyHasher, LookupKey, LruMap, RandomState, laws};
 use crate::rattle_std::alloc::Global;
 use crate::rattle_std::hash::Hash;
 
@@ -108,6 +108,38 @@ impl<K: Eq + Hash, V, F: Fn(&K) -> V, L: Insertion<K, V, K>, S: KeyHasher<K>> Me
         let result = read(&value);
         let _ = self.map.insert(key, value);
         result
+    }
+
+    /// Returns the stored result of a key, and makes it the newest. Does not call the function. So a caller who has a
+    /// `&str` copies it into a `String` only if nothing is stored.
+    ///
+    /// ```text
+    /// let mut lengths = Memo::new(alloc, ByLength::new(9), |text: &String| text.as_bytes().len());
+    /// assert_eq!(rt; (lengths.get(&"word"), lengths.answer(String::from_str(alloc, "word")?)), (None, 4));
+    /// assert_eq!(rt; lengths.get(&"word"), Some(4));
+    /// ```
+    ///
+    /// Cost: as `LruMap::get`.
+    pub fn get<Q: LookupKey<K>>(&mut self, key: &Q) -> Option<V>
+    where
+        V: Copy,
+    {
+        self.get_with(key, |value| *value)
+    }
+
+    /// Does what `get` does, but lends the result to a closure, and returns what the closure returns. The results need
+    /// not be `Copy`.
+    ///
+    /// ```text
+    /// let mut blocks = Memo::new(alloc, ByLength::new(9), |n: &usize| vec![in alloc; 7u8; *n].ok());
+    /// assert_eq!(rt; (blocks.get_with(&3, |_| 1), blocks.answer_with(3, |_| 2)), (None, 2));
+    /// assert_eq!(rt; blocks.get_with(&3, |block| block.is_some()), Some(true));
+    /// ```
+    ///
+    /// Cost: as `get`, and a call of the closure.
+    pub fn get_with<Q: LookupKey<K>, R, U: FnOnce(&V) -> R>(&mut self, key: &Q, read: U) -> Option<R> {
+        let value = self.map.get(key)?;
+        Some(read(&*value))
     }
 
     /// Removes the stored result of a key, and returns whether there was one.
