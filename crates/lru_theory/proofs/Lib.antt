@@ -2,6 +2,7 @@ pub mod Affordable
 pub mod BestMisses
 pub mod BestRuns
 pub mod Bounds
+pub mod Budgets
 pub mod EqualKeys
 pub mod Inclusions
 pub mod LateLoads

@@ -1,9 +1,10 @@
 -- LRU caches with a limit of cost.
 --     eq        when two keys are equal
 --     cost      what each key costs
-use Rattle.std.specs.Prelude.{ℕ, ◌-◌, Bool, nat_le, if◌then◌else◌, List, [], ◌∷◌}
+use Rattle.std.specs.Prelude.{◌≡◌, ℕ, ◌+◌, ◌-◌, Bool, true, not, ◌||◌, nat_le, nat_lt, if◌then◌else◌, List, [], ◌∷◌}
+use Rattle.std.specs.Prelude.{sum_by}
 use Rattle.std.specs.Set.{remove_key}
-use Rattle.lru_theory.specs.Traces.{cached_by, faults_by}
+use Rattle.lru_theory.specs.Traces.{is_in, recency, since, cached_by, faults_by}
 
 module _ {K : Type 0} (cost : K → ℕ) where
   -- the longest beginning of the list that costs at most n
@@ -24,3 +25,21 @@ module _ {K : Type 0} (eq : K → K → Bool) (cost : K → ℕ) where
   -- how many references of the trace miss
   abbrev pub faults_within : ℕ → List K → List K → ℕ
   faults_within n = faults_by eq (refer_within n)
+
+  abbrev pub EqualCosts : Type 0
+  EqualCosts = (x y : K) → eq x y ≡ true → cost x ≡ cost y
+
+  -- what the key, and the different keys that were referenced after its last reference, cost together
+  abbrev pub needs : K → List K → ℕ
+  needs key past = cost key + sum_by cost (recency eq (since eq key past))
+
+  -- whether a reference to the key misses in a cache with the limit n: it is the first reference to the key, or the key
+  -- needs more than n
+  abbrev pub is_far_within : ℕ → K → List K → Bool
+  is_far_within n key past = not (is_in eq key past) || nat_lt n (needs key past)
+
+  -- how many references of the trace miss with the limit n, after this past
+  abbrev pub misses_within : ℕ → List K → List K → ℕ
+  misses_within n past [] = 0
+  misses_within n past (key ∷ trace) =
+      (if is_far_within n key past then 1 else 0) + misses_within n (key ∷ past) trace

@@ -4,7 +4,7 @@
 #![tactic(auto)]
 
 ghost use Rattle.std.specs.Prelude.{◌≡◌, ℕ, ◌+◌, ◌-◌, ◌*◌, ◌≤◌, ◌<◌, List, [], length, take, true};
-ghost use Rattle.lru_theory.specs.Budgets.{cached_within, faults_within};
+ghost use Rattle.lru_theory.specs.Budgets.{affordable, cached_within, faults_within, misses_within, EqualCosts};
 ghost use Rattle.lru_theory.specs.Traces.{is_in, recency, misses, cached, faults, past_after, AreEqual};
 ghost use Rattle.lru_theory.specs.Policies.{Loads, Demands, Bypasses, Served};
 ghost use Rattle.lru_theory.specs.Best.{min_misses, bypass_misses};
@@ -75,6 +75,18 @@ pub fn a_larger_budget_never_misses_more<K: Eq>()
         small ≡ take (length small) (cached_within K.eq cost m keys trace) }
     ensures misses { (cost : K → ℕ) (n m some : ℕ) (keys trace : List K) → n ≤ m →
         faults_within K.eq cost m keys trace ≤ faults_within K.eq cost n (take some keys) trace }
+{}
+
+/// Suppose that equal keys cost the same. If a cache with the limit n contains the longest beginning of the recency list
+/// that costs at most n, it still does after any trace, even if a key alone costs more than n (`keys`). It misses
+/// exactly at the references that need more than n, and at the first reference to each key (`misses`).
+pub fn a_budget_keeps_the_newest<K: Eq>()
+    ensures keys { (cost : K → ℕ) (n : ℕ) (past trace : List K) → EqualCosts K.eq cost →
+        cached_within K.eq cost n (affordable cost n (recency K.eq past)) trace
+        ≡ affordable cost n (recency K.eq (past_after past trace)) }
+    ensures misses { (cost : K → ℕ) (n : ℕ) (past trace : List K) → EqualCosts K.eq cost →
+        faults_within K.eq cost n (affordable cost n (recency K.eq past)) trace
+        ≡ misses_within K.eq cost n past trace }
 {}
 
 /// A policy that stores each referenced key pays at least as often as MIN misses, whether it loads keys ahead (`loads`)

@@ -4,25 +4,53 @@ use Rattle.std.proofs.Common.{take, map, ◌++◌}
 use Rattle.std.specs.Option.{option_map}
 use Rattle.std.specs.Prelude.{Option, IfSome, is_some, Vec}
 use Rattle.std.proofs.Common.{set, sum, get_or, Some, None, refl, sym, subst, ap, ◌∙◌, arith}
-use Rattle.std.specs.Prelude.{not, ◌||◌, nat_eq, nat_le, String}
+use Rattle.std.specs.Prelude.{◌^◌, ◌-◌, not, ◌||◌, nat_eq, nat_le, String, sum_by}
 use Rattle.std.specs.Global.{Global}
 use Rattle.std.specs.Prelude.{Result, Ok, Err, OnOk, OnErr}
 use Rattle.std.specs.Set.{remove_key}
 use Rattle.std.proofs.lemmas.Bool.{lt-leb}
 use Rattle.std.proofs.lemmas.Cmp.{nat_eq_equiv}
-use Rattle.std.proofs.lemmas.List.{take_all, length-set, length-append, map-append}
+use Rattle.std.proofs.lemmas.List.{take_all, get_or_past, length-set, length-append, map-append}
 use Rattle.std.proofs.lemmas.List.Sums.{sum_by-cons}
 use Rattle.std.proofs.lemmas.Map.Made.{length-remove_key}
 use Rattle.lru_theory.specs.Traces.{is_in, since, recency, distance, misses, past_after}
 use Rattle.lru_theory.proofs.LongerTraces.{past_more, misses_more}
 use Rattle.lru_theory.proofs.Lists.{is_in_recency, since_recency}
 use Rattle.lru_trace.specs.Counted.{Counted, IsOf, number_in}
-use Rattle.lru_trace.specs.Slots.{position}
+use Rattle.lru_trace.specs.Slots.{position, weight_in}
 use Rattle.lru_trace.proofs.Logs.{without_none}
 use Rattle.std.proofs.lemmas.Option.{same_Some}
 use Rattle.lru_trace.proofs.Numbered.{Named, named_from, named_on, counted, position_within}
 
-pub position_some : (key d : ℕ) (xs : List ℕ) → position key xs ≡ Some d
+-- the place of a key in the recency list, if it is there
+abbrev pub place : ℕ → List ℕ → Option ℕ
+place key xs = cond (is_in nat_eq key xs) (Some (length (since nat_eq key xs))) None
+
+-- If no key has a weight of its own, each weighs 1.
+plain_sum : (xs : List ℕ) → sum_by (weight_in []) xs ≡ length xs
+plain_sum [] = refl
+plain_sum (x ∷ xs) = omega (arith, plain_sum xs, sum_by-cons (weight_in []) x xs, one x)
+  where
+    one : (k : ℕ) → weight_in [] k ≡ 1
+    one k = get_or_past [] k 1 (omega arith)
+
+pub plain_place : (weights : List ℕ) (key : ℕ) (xs : List ℕ) → weights ≡ []
+    → position (weight_in weights) key xs ≡ place key xs
+plain_place weights key xs none =
+    ap (λ ws. position (weight_in ws) key xs) none
+    ∙ ap (λ n. cond (is_in nat_eq key xs) (Some n) None) (plain_sum (since nat_eq key xs))
+
+pub plain_fits : (weights : List ℕ) (key : ℕ) (xs : List ℕ) → weights ≡ [] → length xs < 2 ^ 64 - 1
+    → sum_by (weight_in weights) (key ∷ remove_key (nat_eq key) xs) < 2 ^ 64
+plain_fits weights key xs none few =
+    rw none (go (is_in nat_eq key xs) refl)
+  where
+    go : (b : Bool) → is_in nat_eq key xs ≡ b → sum_by (weight_in []) (key ∷ remove_key (nat_eq key) xs) < 2 ^ 64
+    go true e = omega (arith, plain_sum (key ∷ remove_key (nat_eq key) xs), length-remove_key (nat_eq key) xs e, few)
+    go false e =
+        omega (arith, plain_sum (key ∷ remove_key (nat_eq key) xs), ap length (without_none key xs e), few)
+
+pub position_some : (key d : ℕ) (xs : List ℕ) → place key xs ≡ Some d
     → (is_in nat_eq key xs ≡ true) × (length (since nat_eq key xs) ≡ d)
 position_some key d xs e = go (is_in nat_eq key xs) refl e
   where
@@ -31,7 +59,7 @@ position_some key d xs e = go (is_in nat_eq key xs) refl e
     go true is e = (is, same_Some (length (since nat_eq key xs)) d e)
     go false is e = absurd cc
 
-pub position_none : (key : ℕ) (xs : List ℕ) → position key xs ≡ None → is_in nat_eq key xs ≡ false
+pub position_none : (key : ℕ) (xs : List ℕ) → place key xs ≡ None → is_in nat_eq key xs ≡ false
 position_none key xs e = go (is_in nat_eq key xs) refl e
   where
     go : (b : Bool) → is_in nat_eq key xs ≡ b → cond b (Some (length (since nat_eq key xs))) None ≡ None
@@ -39,7 +67,7 @@ position_none key xs e = go (is_in nat_eq key xs) refl e
     go true is e = absurd cc
     go false is e = is
 
-pub found_length : (key d : ℕ) (xs : List ℕ) → position key xs ≡ Some d
+pub found_length : (key d : ℕ) (xs : List ℕ) → place key xs ≡ Some d
     → (length (key ∷ remove_key (nat_eq key) xs) ≡ length xs) × (d < length xs)
 found_length key d xs e =
     let is = position_some key d xs e in (
@@ -47,7 +75,7 @@ found_length key d xs e =
       omega (arith, is.1, position_within key xs is.0),
     )
 
-pub first_length : (key : ℕ) (xs : List ℕ) → position key xs ≡ None
+pub first_length : (key : ℕ) (xs : List ℕ) → place key xs ≡ None
     → length (key ∷ remove_key (nat_eq key) xs) ≡ length xs + 1
 first_length key xs e =
     let same = ap length (without_none key xs (position_none key xs e)) in
@@ -151,7 +179,7 @@ module _ {warm trace : List (List ℕ)} {v : Counted} (of : IsOf warm trace v) w
     kept_more None kept is e = rw is tt
     kept_more (Some ns) kept is e = rw is (ap (λ them. them ++ number ∷ []) e)
 
-    pub of_found : (d : ℕ) → position number v.recency ≡ Some d → d < length v.counts
+    pub of_found : (d : ℕ) → place number v.recency ≡ Some d → d < length v.counts
         → (kept : Option (List ℕ)) → kept ≡ option_map (λ ns. ns ++ number ∷ []) v.kept
         → IsOf warm (trace ++ key ∷ []) (record v {
           recency = number ∷ remove_key (nat_eq number) v.recency;
@@ -184,7 +212,7 @@ module _ {warm trace : List (List ℕ)} {v : Counted} (of : IsOf warm trace v) w
         split true = omega arith
         split false = omega arith
 
-    pub of_first : position number v.recency ≡ None
+    pub of_first : place number v.recency ≡ None
         → (kept : Option (List ℕ)) → kept ≡ option_map (λ ns. ns ++ number ∷ []) v.kept
         → IsOf warm (trace ++ key ∷ []) (record v {
           recency = number ∷ remove_key (nat_eq number) v.recency;

@@ -13,7 +13,12 @@ use Rattle.lru_trace.specs.declared.lines.Others.{Others}
 use Rattle.lru_trace.specs.Sizes.{sizes_from}
 use Rattle.lru_trace.specs.Report.{output, written}
 use Rattle.lru_trace.specs.declared.options.Options.{Options}
-use Rattle.lru_trace.specs.Outcome.{KeysRead, TraceRead, NoSizesRead, Reported, Begins}
+use Rattle.std.specs.Prelude.{Result, Ok, Err}
+use Rattle.std.specs.Result.{IsErr, IsErrAnd}
+use Rattle.lru_trace.specs.declared.outcome.TraceEnd.{TraceEnd}
+use Rattle.lru_trace.specs.declared.outcome.TraceError.{TraceError}
+use Rattle.lru_trace.specs.declared.outcome.TraceError.TheVariants as errors
+use Rattle.lru_trace.specs.Outcome.{KeysRead, TraceRead, NoSizesRead, Reported, Begins, SomeRead, Ends}
 use Rattle.lru_trace.specs.declared.lines.Ending.{Ending}
 use Rattle.lru_trace.specs.declared.lines.Ending.TheVariants as endings
 use Rattle.lru_trace.proofs.ReadLines.{lines_of-fed, lines_of-last, ended_before, nothing_read, none_left_out}
@@ -110,3 +115,10 @@ module _ {from to : Option (List ℕ)} (options : Options) {sizes : List ℕ} {c
         → Reported from to options (Begins old new)
     all_begun old mid new put kept =
         reported (Begins old new) (report, [], sym (append-nil report), Appends-kept old mid new report put kept)
+
+pub out_of_memory : (options : Options) (from to old : Option (List ℕ)) (end : Result TraceEnd TraceError)
+    → IsErr end × IsErrAnd end (λ e. e ≡ errors.Memory) → SomeRead from to → Keeps old old
+    → Ends options from to old old end
+out_of_memory options from to old (Ok x) (h, _) some kept = absurd cc
+out_of_memory options from to old (Err e) h some kept =
+    subst (λ e. Ends options from to old old (Err e)) (sym h.1) (some, kept)

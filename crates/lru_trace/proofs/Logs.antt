@@ -1,8 +1,8 @@
 -- The log of a trace: the keys in its slots, and what one reference changes.
-use Rattle.std.proofs.Common.{◌≡◌, ℕ, suc, ◌+◌, ◌≤◌, ◌<◌, Bool, true, false, cond, List, [], ◌∷◌, ◌++◌}
+use Rattle.std.proofs.Common.{◌≡◌, ℕ, zero, suc, ◌+◌, ◌≤◌, ◌<◌, Bool, true, false, cond, List, [], ◌∷◌, ◌++◌}
 use Rattle.std.proofs.Common.{length, get_or, set, take, drop, sum, Option, Some, None, refl, sym, ap, ◌∙◌, arith}
 use Rattle.std.proofs.Common.{inl, inr}
-use Rattle.std.specs.Prelude.{is_some, nat_eq, ◌||◌, Vec}
+use Rattle.std.specs.Prelude.{◌^◌, nat_eq, ◌||◌, Vec, sum_by}
 use Rattle.std.specs.Option.{option_to_list}
 use Rattle.std.specs.Set.{remove_key}
 use Rattle.std.proofs.lemmas.Bool.{cases_lt, cases_eq, cases_order, eq-eqb, eqb-true, or_parts}
@@ -11,16 +11,23 @@ use Rattle.std.proofs.lemmas.List.{append_assoc, append-nil, length-append, take
 use Rattle.std.proofs.lemmas.List.{take_more, length-take, get_or-take, length_push, get_or-drop, get_or_past}
 use Rattle.std.proofs.lemmas.List.{get_or-set_other, get_or_push, get_or_append_left, length-set}
 use Rattle.std.proofs.lemmas.List.Folds.{list_any-append}
-use Rattle.std.proofs.lemmas.List.Sums.{sum_by-cons}
+use Rattle.std.proofs.lemmas.List.Sums.{sum_by-cons, sum_by-append, sum_by-set}
+use Rattle.std.proofs.lemmas.Map.Made.{length-remove_key}
 use Rattle.std.proofs.lemmas.Option.{same_Some}
 use Rattle.lru_theory.specs.Traces.{is_in, since}
-use Rattle.lru_trace.specs.Slots.{position, newest, IsLog}
+use Rattle.lru_trace.specs.Slots.{position, newest, IsLog, weight_in, weight_of}
 
 clash : {b : Bool} {A : Type 0} → b ≡ false → b ≡ true → A
 clash e h = absurd cc
 
 not_none : {A B : Type 0} (x : A) → None ≡ Some x → B
 not_none x e = absurd cc
+
+pub free_more : (xs : List (Option ℕ)) (i : ℕ) → get_or (xs ++ None ∷ []) i None ≡ get_or xs i None
+free_more [] zero = refl
+free_more [] (suc i) = refl
+free_more (x ∷ xs) zero = refl
+free_more (x ∷ xs) (suc i) = free_more xs i
 
 pub newest_append : (xs ys : List (Option ℕ)) → newest (xs ++ ys) ≡ newest ys ++ newest xs
 newest_append [] ys = sym (append-nil (newest ys))
@@ -94,31 +101,26 @@ module _ (key : ℕ) where
       let parts = or_parts (nat_eq key x) (is_in nat_eq key xs) e in
       rw parts.0 (ap (λ zs. x ∷ zs) (without_none xs parts.1))
 
-pub count_marks : (marks : List ℕ) (log : List (Option ℕ))
-    → ((i : ℕ) → get_or marks i 0 ≡ cond (is_some (get_or log i None)) 1 0) → sum marks ≡ length (newest log)
-count_marks [] [] h = refl
-count_marks [] (x ∷ xs) h =
-    let ih = count_marks [] xs (λ i. h (suc i)) in
-    let joined = length-append (newest xs) (option_to_list x) in
-    omega (arith, ih, joined, go x (h 0))
-  where
-    go : (o : Option ℕ) → 0 ≡ cond {A = ℕ} (is_some o) 1 0 → 0 ≡ length (option_to_list o)
-    go None e = refl
-    go (Some k) e = e
-count_marks (m ∷ ms) [] h =
-    let ih = count_marks ms [] (λ i. h (suc i)) in
+one_weight : (weight : ℕ → ℕ) (o : Option ℕ) → weight_of weight o ≡ sum_by weight (option_to_list o)
+one_weight weight None = refl
+one_weight weight (Some key) = omega arith
+
+pub count_weights : (weight : ℕ → ℕ) (tree : List ℕ) (log : List (Option ℕ))
+    → ((i : ℕ) → get_or tree i 0 ≡ weight_of weight (get_or log i None)) → sum tree ≡ sum_by weight (newest log)
+count_weights weight [] [] h = refl
+count_weights weight [] (x ∷ xs) h =
+    let ih = count_weights weight [] xs (λ i. h (suc i)) in
+    let joined = sum_by-append weight (newest xs) (option_to_list x) in
+    omega (arith, ih, joined, one_weight weight x, h 0)
+count_weights weight (m ∷ ms) [] h =
+    let ih = count_weights weight ms [] (λ i. h (suc i)) in
     let whole = sum_by-cons (λ x. x) m ms in
     omega (arith, whole, ih, h 0)
-count_marks (m ∷ ms) (x ∷ xs) h =
-    let ih = count_marks ms xs (λ i. h (suc i)) in
-    let one = go x in
-    let joined = length-append (newest xs) (option_to_list x) in
+count_weights weight (m ∷ ms) (x ∷ xs) h =
+    let ih = count_weights weight ms xs (λ i. h (suc i)) in
+    let joined = sum_by-append weight (newest xs) (option_to_list x) in
     let whole = sum_by-cons (λ x. x) m ms in
-    omega (arith, whole, ih, one, joined, h 0)
-  where
-    go : (o : Option ℕ) → cond (is_some o) 1 0 ≡ length (option_to_list o)
-    go None = refl
-    go (Some k) = refl
+    omega (arith, whole, ih, one_weight weight x, joined, h 0)
 
 erased : (xs : List (Option ℕ)) (i j : ℕ) → j ≡ i → get_or (set xs i None) j None ≡ None
 erased xs i j same = elim (cases_lt i (length xs)) [
@@ -146,15 +148,21 @@ newest_few (x ∷ xs) = omega (arith, newest_few xs, length-append (newest xs) (
     go None = omega arith
     go (Some k) = omega arith
 
-module _ {Z : Type 0} {levels : ℕ} {log : Vec (Option ℕ) Z} {slots : List (Option ℕ)} {marks : List ℕ}
-    (is : IsLog levels log slots marks) where
+module _ {Z : Type 0} {levels : ℕ} {log : Vec (Option ℕ) Z} {slots : List (Option ℕ)}
+    {weights tree : List ℕ} {used : ℕ} (is : IsLog levels log slots weights tree used) where
+  abbrev pub weight : ℕ → ℕ
+  weight = weight_in weights
+
   abbrev pub xs : List (Option ℕ)
   xs = log.items
 
-  pub behind_slot : (slot : ℕ) → sum (drop (slot + 1) marks) ≡ length (newest (drop (slot + 1) log.items))
-  behind_slot slot = count_marks (drop (slot + 1) marks) (drop (slot + 1) log.items)
-      (λ i. get_or-drop (slot + 1) marks i 0 ∙ is.marked (slot + 1 + i)
-      ∙ ap (λ o. cond (is_some o) 1 0) (sym (get_or-drop (slot + 1) log.items i None)))
+  pub behind_slot : (slot : ℕ) → sum (drop (slot + 1) tree) ≡ sum_by weight (newest (drop (slot + 1) log.items))
+  behind_slot slot = count_weights weight (drop (slot + 1) tree) (drop (slot + 1) log.items)
+      (λ i. get_or-drop (slot + 1) tree i 0 ∙ is.weighed (slot + 1 + i)
+      ∙ ap (weight_of weight) (sym (get_or-drop (slot + 1) log.items i None)))
+
+  pub all_weights : sum tree ≡ sum_by weight (newest log.items)
+  all_weights = count_weights weight tree log.items is.weighed
 
   pub slot_within : (slot key : ℕ) → get_or log.items slot None ≡ Some key → slot < length log.items
   slot_within slot key e = elim (cases_lt slot (length log.items)) [
@@ -181,7 +189,7 @@ module _ {Z : Type 0} {levels : ℕ} {log : Vec (Option ℕ) Z} {slots : List (O
     whole : newest log.items ≡ behind ++ key ∷ newest (take slot log.items)
     whole = newest_split log.items slot key slot_in (is.found key slot at_slot)
 
-    pub position_is : Some (sum (drop (slot + 1) marks)) ≡ position key (newest log.items)
+    pub position_is : Some (sum (drop (slot + 1) tree)) ≡ position weight key (newest log.items)
     position_is = rw (
       whole,
       is_in_middle key behind (newest (take slot log.items)),
@@ -191,6 +199,9 @@ module _ {Z : Type 0} {levels : ℕ} {log : Vec (Option ℕ) Z} {slots : List (O
     pub taken_out : newest (set log.items slot None) ≡ remove_key (nat_eq key) (newest log.items)
     taken_out = newest_freed log.items slot slot_in
         ∙ sym (ap (remove_key (nat_eq key)) whole ∙ without_middle key behind (newest (take slot log.items)) not_behind)
+
+    referenced : is_in nat_eq key (newest log.items) ≡ true
+    referenced = rw whole (is_in_middle key behind (newest (take slot log.items)))
 
     pub freed_found : (k s : ℕ) → get_or (set slots key None) k None ≡ Some s → get_or (set log.items slot None) s
         None ≡ Some k
@@ -214,23 +225,27 @@ module _ {Z : Type 0} {levels : ℕ} {log : Vec (Option ℕ) Z} {slots : List (O
           ∙ there
     ]
 
-    pub freed_marked : (s : ℕ) → get_or (set marks slot 0) s 0 ≡ cond
-        (is_some (get_or (set log.items slot None) s None)) 1 0
-    freed_marked s = elim (cases_eq s slot) [
-      | inl same ↦ erased_mark marks slot s same ∙ ap (λ o. cond (is_some o) 1 0) (sym (erased log.items slot s same))
-      | inr other ↦ get_or-set_other marks slot s 0 0 other ∙ is.marked s
-          ∙ ap (λ o. cond (is_some o) 1 0) (sym (get_or-set_other log.items slot s None None other))
+    pub freed_weighed : (s : ℕ) → get_or (set tree slot 0) s 0
+        ≡ weight_of weight (get_or (set log.items slot None) s None)
+    freed_weighed s = elim (cases_eq s slot) [
+      | inl same ↦ erased_mark tree slot s same ∙ ap (weight_of weight) (sym (erased log.items slot s same))
+      | inr other ↦ get_or-set_other tree slot s 0 0 other ∙ is.weighed s
+          ∙ ap (weight_of weight) (sym (get_or-set_other log.items slot s None None other))
     ]
+
+    pub freed_fits : sum (set tree slot 0) < 2 ^ 64
+    freed_fits = omega (arith, sum_by-set (λ x. x) tree slot 0 0 (omega (arith, slot_in, is.few, log.ok.0)), is.fits)
+
+    pub freed_counted : used ≡ length (newest (set log.items slot None)) + 1
+    freed_counted =
+        omega (arith, is.counted, ap length taken_out, length-remove_key (nat_eq key) (newest log.items) referenced)
 
     pub freed_absent : is_in nat_eq key (newest (set log.items slot None)) ≡ false
     freed_absent = newest_absent key (set log.items slot None) (λ i e.
         not_none i (sym (erased slots key key refl) ∙ freed_back key i e))
 
-    pub is_marked : get_or marks slot 0 ≡ 1
-    is_marked = is.marked slot ∙ ap (λ o. cond (is_some o) 1 0) (is.found key slot at_slot)
-
-    referenced : is_in nat_eq key (newest log.items) ≡ true
-    referenced = rw whole (is_in_middle key behind (newest (take slot log.items)))
+    pub is_weighed : get_or tree slot 0 ≡ weight key
+    is_weighed = is.weighed slot ∙ ap (weight_of weight) (is.found key slot at_slot)
 
   pub no_slot : (key : ℕ) → is_in nat_eq key (newest log.items) ≡ false → get_or slots key None ≡ None
   no_slot key absent = go (get_or slots key None) refl
@@ -274,22 +289,28 @@ module _ {Z : Type 0} {levels : ℕ} {log : Vec (Option ℕ) Z} {slots : List (O
       | inr (inr past) ↦ not_none k (sym (past_end s past) ∙ e)
     ]
 
-    pub added_marked : length log.items < length marks → (s : ℕ)
-        → get_or (set marks (length log.items) 1) s 0 ≡ cond (is_some (get_or more s None)) 1 0
-    added_marked fits s = elim (cases_order s (length log.items)) [
-      | inl here ↦ get_or-set_at marks (length log.items) s 1 0 here fits ∙ ap (λ o. cond (is_some o) 1 0)
-          (sym (at_end s here))
+    pub is_free : get_or tree (length log.items) 0 ≡ 0
+    is_free = is.weighed (length log.items)
+        ∙ ap (weight_of weight) (get_or_past log.items (length log.items) None (omega arith))
+
+    pub added_weighed : length log.items < length tree → (s : ℕ)
+        → get_or (set tree (length log.items) (weight key)) s 0 ≡ weight_of weight (get_or more s None)
+    added_weighed fits s = elim (cases_order s (length log.items)) [
+      | inl here ↦ get_or-set_at tree (length log.items) s (weight key) 0 here fits
+          ∙ ap (weight_of weight) (sym (at_end s here))
       | inr (inl before) ↦
-          get_or-set_other marks (length log.items) s 1 0 (λ same. omega (arith, same, before)) ∙ is.marked s
-          ∙ ap (λ o. cond (is_some o) 1 0) (sym (get_or_append_left log.items (Some key ∷ []) None s before))
+          get_or-set_other tree (length log.items) s (weight key) 0 (λ same. omega (arith, same, before)) ∙ is.weighed s
+          ∙ ap (weight_of weight) (sym (get_or_append_left log.items (Some key ∷ []) None s before))
       | inr (inr past) ↦
-          get_or-set_other marks (length log.items) s 1 0 (λ same. omega (arith, same, past)) ∙ is.marked s
-          ∙ ap (λ o. cond (is_some o) 1 0) (get_or_past log.items s None (omega (arith, past)) ∙ sym (past_end s past))
+          get_or-set_other tree (length log.items) s (weight key) 0 (λ same. omega (arith, same, past)) ∙ is.weighed s
+          ∙ ap (weight_of weight)
+          (get_or_past log.items s None (omega (arith, past)) ∙ sym (past_end s past))
     ]
 
-    pub is_free : get_or marks (length log.items) 0 ≡ 0
-    is_free = is.marked (length log.items)
-        ∙ ap (λ o. cond (is_some o) 1 0) (get_or_past log.items (length log.items) None (omega arith))
+    pub added_fits : length log.items < length tree → weight key + sum_by weight (newest log.items) < 2 ^ 64
+        → sum (set tree (length log.items) (weight key)) < 2 ^ 64
+    added_fits within few =
+        omega (arith, sum_by-set (λ x. x) tree (length log.items) (weight key) 0 within, all_weights, few)
 
   pub absent_before : (key slot : ℕ) → get_or log.items slot None ≡ Some key
       → is_in nat_eq key (newest (take slot log.items)) ≡ false
@@ -305,15 +326,27 @@ module _ {Z : Type 0} {levels : ℕ} {log : Vec (Option ℕ) Z} {slots : List (O
     | inr h ↦ not_none slot (sym (get_or_past slots key None h) ∙ is.back key slot there)
   ]
 
-  pub mark_few : (slot : ℕ) → get_or marks slot 0 ≤ 1
-  mark_few slot = rw (is.marked slot) (go (is_some (get_or log.items slot None)))
-    where
-      go : (b : Bool) → cond {A = ℕ} b 1 0 ≤ 1
-      go true = omega arith
-      go false = omega arith
+  -- the keys of the first slots weigh less than 2 ^ 64 together
+  pub first_fit : (n : ℕ) → sum_by weight (newest (take n log.items)) < 2 ^ 64
+  first_fit n =
+      let parts = ap newest (sym (take-append-drop n log.items)) ∙ newest_append (take n log.items) (drop n log.items) in
+      omega (
+        arith,
+        is.fits,
+        all_weights,
+        ap (sum_by weight) parts,
+        sum_by-append weight (newest (drop n log.items)) (newest (take n log.items)),
+      )
 
-  pub all_marks : sum marks ≡ length (newest log.items)
-  all_marks = count_marks marks log.items is.marked
+  pub weighed_more : (more : ℕ) → length weights ≡ length slots → (slot : ℕ)
+      → get_or tree slot 0 ≡ weight_of (weight_in (weights ++ more ∷ [])) (get_or log.items slot None)
+  weighed_more more same slot = is.weighed slot ∙ go (get_or log.items slot None) refl
+    where
+      go : (o : Option ℕ) → get_or log.items slot None ≡ o
+          → weight_of weight o ≡ weight_of (weight_in (weights ++ more ∷ [])) o
+      go None e = refl
+      go (Some key) e =
+          sym (get_or_append_left weights (more ∷ []) 1 key (omega (arith, same, key_within key slot e)))
 
 pub newest_more : (xs : List (Option ℕ)) (i : ℕ) (o : Option ℕ) → i < length xs → get_or xs i None ≡ o
     → newest (take (i + 1) xs) ≡ option_to_list o ++ newest (take i xs)

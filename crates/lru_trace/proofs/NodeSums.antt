@@ -1,15 +1,16 @@
 -- A tree of sums: the sum of the nodes behind a node, and how a change of one leaf changes the tree.
 use Rattle.std.proofs.Common.{◌≡◌, ◌≢◌, ℕ, zero, suc, ◌+◌, ◌-◌, ◌*◌, ◌/◌, ◌%◌, ◌^◌, ◌≤◌, ◌<◌, List, length}
-use Rattle.std.proofs.Common.{get_or, set, drop, sum, replicate, refl, sym, ap, ◌∙◌, subst, arith, inl, inr}
+use Rattle.std.proofs.Common.{get_or, set, drop, sum, replicate, [], ◌∷◌, refl, sym, ap, ◌∙◌, subst, arith, inl, inr}
 use Rattle.std.proofs.Math.Nat.{mod-eq_of_lt, pow-suc, mul-le-mul_right, le-mul_of_pos_right}
 use Rattle.std.proofs.Math.Pow.{pow_mono}
 use Rattle.std.proofs.lemmas.Bool.{cases_lt, cases_eq}
 use Rattle.std.proofs.lemmas.Grind.{get_or-set_at}
 use Rattle.std.proofs.lemmas.List.{length-set, get_or-set_other, get_or_past, drop_all, drop-drop, get_or-replicate}
 use Rattle.std.proofs.lemmas.List.{drop-set-add, drop-set-lt}
-use Rattle.std.proofs.lemmas.List.{length-replicate}
-use Rattle.std.proofs.lemmas.List.Sums.{sum_by-drop_more}
-use Rattle.std.proofs.lemmas.Nat.{pow_below}
+use Rattle.std.proofs.lemmas.List.{length-replicate, drop-replicate}
+use Rattle.std.proofs.lemmas.List.Sums.{sum_by-drop_more, sum_by-cons}
+use Rattle.std.proofs.lemmas.List.Folds.{sum_by-replicate}
+use Rattle.std.proofs.lemmas.Nat.{pow_below, pow_pos}
 use Rattle.lru_trace.specs.Nodes.{IsTree}
 
 pub power_fits : (k : ℕ) → k < 60 → 1 * 2 ^ k % 18446744073709551616 ≡ 2 ^ k
@@ -31,6 +32,11 @@ span t a (suc n) = get_or t a 0 + span t (a + 1) n
 
 abbrev pub behind : List ℕ → ℕ → ℕ → ℕ
 behind t node w = span t (node + 1) (2 * w - 1 - node)
+
+dropped_few : (n : ℕ) (xs : List ℕ) → sum (drop n xs) ≤ sum xs
+dropped_few zero xs = omega arith
+dropped_few (suc n) [] = omega arith
+dropped_few (suc n) (x ∷ xs) = omega (arith, dropped_few n xs, sum_by-cons (λ y. y) x xs)
 
 pub span_all : (t : List ℕ) (n a : ℕ) → a + n ≡ length t → span t a n ≡ sum (drop a t)
 span_all t zero a e = sym (ap sum (drop_all a t (omega (arith, e))))
@@ -70,10 +76,6 @@ module _ {slots levels : ℕ} {t : List ℕ} (tree : IsTree slots levels t) wher
       ap (span t (node + 1)) count ∙ ap (λ b. span t b (2 * (2 * v - 1 - k))) on
       ∙ span_pairs (2 * v - 1 - k) (k + 1) (omega arith) (omega (arith, is, within, fits))
 
-  leaf_span : (n a : ℕ) → slots ≤ a → span t a n ≤ n
-  leaf_span zero a h = omega arith
-  leaf_span (suc n) a h = omega (arith, tree.leaves a h, leaf_span n (a + 1) (omega (arith, h)))
-
   pub behind_leaf : (slot : ℕ) → slot < slots
       → behind t (slots + slot) slots ≡ sum (drop (slot + 1) (drop slots t))
   behind_leaf slot h =
@@ -81,9 +83,50 @@ module _ {slots levels : ℕ} {t : List ℕ} (tree : IsTree slots levels t) wher
       ∙ ap (λ n. sum (drop n t)) (let e : slots + slot + 1 ≡ slots + (slot + 1) = omega arith in e)
       ∙ ap sum (sym (drop-drop (slot + 1) slots t))
 
-  pub few_behind : (slot : ℕ) → slot < slots → behind t (slots + slot) slots ≤ slots
-  few_behind slot h =
-      omega (arith, leaf_span (2 * slots - 1 - (slots + slot)) (slots + slot + 1) (omega arith))
+  pub few_behind : (slot : ℕ) → slot < slots → behind t (slots + slot) slots < 2 ^ 64
+  few_behind slot h = omega (arith, behind_leaf slot h, dropped_few (slot + 1) (drop slots t), tree.fits)
+
+  level_span : (k : ℕ) → k ≤ levels → span t (2 ^ (levels - k)) (2 ^ (levels - k)) ≡ sum (drop slots t)
+  level_span zero h =
+      let all : 2 ^ (levels - 0) ≡ slots = ap (λ n. 2 ^ n) (let e : levels - 0 ≡ levels = omega arith in e)
+      ∙ sym tree.power in
+      ap (λ n. span t n n) all ∙ span_all t slots slots (omega (arith, tree.len))
+  level_span (suc k) h =
+      let next : levels - suc k ≡ levels - (k + 1) = omega arith in
+      let w = 2 ^ (levels - (k + 1)) in
+      let half : 2 ^ (levels - k) ≡ 2 * w = power_down levels k (omega (arith, h)) in
+      let fits = width_fits levels k in
+      let some = pow_pos (levels - (k + 1)) in
+      ap (λ n. span t (2 ^ n) (2 ^ n)) next ∙ sym (span_pairs w w some (omega (arith, half, fits, tree.power)))
+      ∙ ap (λ n. span t n n) (sym half) ∙ level_span k (omega (arith, h))
+
+  root_is : get_or t 1 0 ≡ sum (drop slots t)
+  root_is =
+      let one : 2 ^ (levels - levels) ≡ 1 = ap (λ n. 2 ^ n) (let e : levels - levels ≡ 0 = omega arith in e) in
+      let whole : span t 1 1 ≡ sum (drop slots t) =
+      ap (λ n. span t n n) (sym one) ∙ level_span levels (omega arith) in
+      omega (arith, whole)
+
+  below_root : (n i : ℕ) → 0 < i → i ≤ n → get_or t i 0 ≤ get_or t 1 0
+  below_root zero i some few = absurd (omega (arith, some, few))
+  below_root (suc n) i some few = elim (cases_eq i 1) [
+    | inl e ↦ rw e (omega arith)
+    | inr other ↦ elim (cases_lt (i / 2) slots) [
+      | inl inner ↦
+          let parent = below_root n (i / 2) (omega (arith, some, other)) (omega (arith, few, some)) in
+          let whole = tree.sums (i / 2) (omega (arith, some, other)) inner in
+          elim (cases_eq (2 * (i / 2)) i) [
+            | inl e ↦ omega (arith, parent, whole, ap (λ j. get_or t j 0) e)
+            | inr e ↦
+                let odd : 2 * (i / 2) + 1 ≡ i = omega (arith, e) in
+                omega (arith, parent, whole, ap (λ j. get_or t j 0) odd)
+          ]
+      | inr past ↦ rw (get_or_past t i 0 (omega (arith, tree.len, past))) (omega arith)
+    ]
+  ]
+
+  pub node_few : (i : ℕ) → 0 < i → get_or t i 0 ≤ sum (drop slots t)
+  node_few i some = omega (arith, below_root i i some (omega arith), root_is)
 
 pub behind_root : (t : List ℕ) (node : ℕ) → 1 ≤ node → node < 2 * 1 → behind t node 1 ≡ 0
 behind_root t node low high = ap (span t (node + 1)) (let e : 2 * 1 - 1 - node ≡ 0 = omega (arith, low) in e)
@@ -93,19 +136,14 @@ pub record IsOff (slots up down : ℕ) (t : List ℕ) (node : ℕ) : Type 0 wher
   pub len : length t ≡ 2 * slots
   pub sums : (i : ℕ) → 0 < i → i < slots → i ≢ node → get_or t i 0 ≡ get_or t (2 * i) 0 + get_or t (2 * i + 1) 0
   pub here : 0 < node → node < slots → get_or t node 0 + up ≡ get_or t (2 * node) 0 + get_or t (2 * node + 1) 0 + down
-  pub leaves : (i : ℕ) → slots ≤ i → get_or t i 0 ≤ 1
 
 module _ {slots up down : ℕ} where
   pub corrected : (t : List ℕ) (node v : ℕ) → IsOff slots up down t node → 0 < node → node < 2 * slots
-      → v + down ≡ get_or t node 0 + up → (slots ≤ node → v ≤ 1) → IsOff slots up down (set t node v) (node / 2)
-  corrected t node v off some within is few = record {
+      → v + down ≡ get_or t node 0 + up → IsOff slots up down (set t node v) (node / 2)
+  corrected t node v off some within is = record {
     len = length-set t node v ∙ off.len;
     sums = sums;
     here = here;
-    leaves = λ i h. elim (cases_eq i node) [
-      | inl e ↦ rw (written i e) (few (omega (arith, h, e)))
-      | inr e ↦ rw (other i e) (off.leaves i h)
-    ];
   }
     where
       written : (i : ℕ) → i ≡ node → get_or (set t node v) i 0 ≡ v
@@ -150,59 +188,24 @@ module _ {slots up down : ℕ} where
     len = tree.len;
     sums = λ i pos low apart. tree.sums i pos low;
     here = λ pos low. absurd (omega (arith, leaf, low));
-    leaves = tree.leaves;
   }
 
   pub tree_again : {levels : ℕ} (t : List ℕ) (node : ℕ) → node ≡ 0 → slots ≡ 2 ^ levels → IsOff slots up down t node
-      → IsTree slots levels t
-  tree_again t node none power off = record {
+      → sum (drop slots t) < 2 ^ 64 → IsTree slots levels t
+  tree_again t node none power off fits = record {
     power = power;
     len = off.len;
     sums = λ i pos low. off.sums i pos low (λ e. omega (arith, e, none, pos));
-    leaves = off.leaves;
+    fits = fits;
   }
-
-leaf_in_node : (slots : ℕ) (t : List ℕ) → length t ≡ 2 * slots → ((i : ℕ) → slots ≤ i → get_or t i 0 ≤ 1)
-    → (i : ℕ) → slots ≤ i → get_or t i 0 * i ≤ 2 * slots
-leaf_in_node slots t len leaves i leaf = elim (cases_lt i (2 * slots)) [
-  | inl within ↦ small (get_or t i 0) (leaves i leaf) within
-  | inr past ↦ rw (get_or_past t i 0 (omega (arith, len, past))) (omega arith)
-]
-  where
-    small : (a : ℕ) → a ≤ 1 → i < 2 * slots → a * i ≤ 2 * slots
-    small zero h within = omega arith
-    small (suc zero) h within = omega (arith, within)
-    small (suc (suc a)) h within = absurd (omega (arith, h))
-
-halves : (slots i whole a b : ℕ) → whole ≤ a + b → a * (2 * i) ≤ 2 * slots → b * (2 * i + 1) ≤ 2 * slots
-    → whole * i ≤ 2 * slots
-halves slots i whole a b h left right =
-    let most : whole * i ≤ (a + b) * i = mul-le-mul_right i h in
-    let parts : (a + b) * i ≡ a * i + b * i = grind arith in
-    let first : a * (2 * i) ≡ 2 * (a * i) = grind arith in
-    let second : b * (2 * i + 1) ≡ 2 * (b * i) + b = grind arith in
-    omega (arith, most, parts, first, second, left, right)
-
-pub few_in_node : (slots : ℕ) (t : List ℕ) → length t ≡ 2 * slots
-    → ((i : ℕ) → 0 < i → i < slots → get_or t i 0 ≤ get_or t (2 * i) 0 + get_or t (2 * i + 1) 0)
-    → ((i : ℕ) → slots ≤ i → get_or t i 0 ≤ 1) → (n i : ℕ) → 0 < i → slots ≤ i + n
-    → get_or t i 0 * i ≤ 2 * slots
-few_in_node slots t len sums leaves zero i pos deep = leaf_in_node slots t len leaves i (omega (arith, deep))
-few_in_node slots t len sums leaves (suc n) i pos deep =
-    let left = few_in_node slots t len sums leaves n (2 * i) (omega (arith, pos)) (omega (arith, deep, pos)) in
-    let right = few_in_node slots t len sums leaves n (2 * i + 1) (omega arith) (omega (arith, deep, pos)) in
-    elim (cases_lt i slots) [
-      | inl inner ↦ halves slots i (get_or t i 0) (get_or t (2 * i) 0) (get_or t (2 * i + 1) 0)
-          (sums i pos inner) left right
-      | inr leaf ↦ leaf_in_node slots t len leaves i leaf
-    ]
 
 pub blank : (levels : ℕ) → IsTree (2 ^ levels) levels (replicate (2 * 2 ^ levels) 0)
 blank levels = record {
   power = refl;
   len = length-replicate (2 * 2 ^ levels) 0;
   sums = λ i pos low. rw (zeros i, zeros (2 * i), zeros (2 * i + 1)) refl;
-  leaves = λ i h. rw (zeros i) (omega arith);
+  fits = rw (drop-replicate {X = ℕ} (2 ^ levels) (2 * 2 ^ levels) 0)
+      (omega (arith, sum_by-replicate (λ x. x) (2 * 2 ^ levels - 2 ^ levels) 0));
 }
   where
     zeros : (i : ℕ) → get_or {A = ℕ} (replicate (2 * 2 ^ levels) 0) i 0 ≡ 0
@@ -212,44 +215,33 @@ blank levels = record {
           (omega (arith, h, length-replicate {A = ℕ} (2 * 2 ^ levels) 0))
     ]
 
-pub record Corrects (slots levels up down : ℕ) (marks : List ℕ) (t : List ℕ) (node : ℕ) : Type 0 where
+-- A leaf of a tree was changed, which gave `old`, and then the nodes above the leaf, but not yet those up to `node`.
+pub record Corrects (slots levels up down : ℕ) (old t : List ℕ) (node : ℕ) : Type 0 where
   pub power : slots ≡ 2 ^ levels
   pub off : IsOff slots up down t node
   pub inner : node < slots
-  pub leaves : drop slots t ≡ marks
+  pub leaves : drop slots t ≡ drop slots old
+  pub above : (i : ℕ) → i ≤ node → get_or t i 0 ≡ get_or old i 0
 
 pub corrects_begins : {slots levels : ℕ} (up down : ℕ) (t : List ℕ) (slot v : ℕ) → IsTree slots levels t → slot < slots
-    → v ≤ 1 → v + down ≡ get_or t (slots + slot) 0 + up
-    → Corrects slots levels up down (set (drop slots t) slot v) (set t (slots + slot) v) ((slots + slot) / 2)
-corrects_begins {slots} {levels} up down t slot v tree h small is = record {
+    → v + down ≡ get_or t (slots + slot) 0 + up
+    → Corrects slots levels up down (set t (slots + slot) v) (set t (slots + slot) v) ((slots + slot) / 2)
+corrects_begins {slots} {levels} up down t slot v tree h is = record {
   power = tree.power;
   off = corrected t (slots + slot) v (off_leaf t (slots + slot) (omega arith) tree) (omega (arith, h))
-      (omega (arith, h))
-      is (λ _. small);
+      (omega (arith, h)) is;
   inner = omega (arith, h);
-  leaves = drop-set-add slots t slot v;
+  leaves = refl;
+  above = λ i few. refl;
 }
 
-pub corrects_on : {slots levels up down : ℕ} {leaves : List ℕ} (t : List ℕ) (node v : ℕ)
-    → Corrects slots levels up down leaves t node → 0 < node → v + down ≡ get_or t node 0 + up
-    → Corrects slots levels up down leaves (set t node v) (node / 2)
+pub corrects_on : {slots levels up down : ℕ} {old : List ℕ} (t : List ℕ) (node v : ℕ)
+    → Corrects slots levels up down old t node → 0 < node → v + down ≡ get_or t node 0 + up
+    → Corrects slots levels up down old (set t node v) (node / 2)
 corrects_on {slots} t node v h some is = record {
   power = h.power;
-  off = corrected t node v h.off some (omega (arith, h.inner)) is (λ leaf. absurd (omega (arith, leaf, h.inner)));
+  off = corrected t node v h.off some (omega (arith, h.inner)) is;
   inner = omega (arith, h.inner);
   leaves = drop-set-lt slots t node v h.inner ∙ h.leaves;
+  above = λ i few. get_or-set_other t node i v 0 (λ e. omega (arith, e, few, some)) ∙ h.above i (omega (arith, few, some));
 }
-
-pub rising_fits : {slots levels : ℕ} {leaves : List ℕ} (t : List ℕ) (node : ℕ) → Corrects slots levels 1 0 leaves t node
-    → 0 < node → get_or t node 0 ≤ 2 * slots
-rising_fits {slots} t node h some =
-    let all = few_in_node slots t h.off.len sums h.off.leaves slots node some (omega arith) in
-    let more : get_or t node 0 ≤ get_or t node 0 * node = le-mul_of_pos_right (get_or t node 0) some in
-    omega (arith, all, more)
-  where
-    sums : (i : ℕ) → 0 < i → i < slots → get_or t i 0 ≤ get_or t (2 * i) 0 + get_or t (2 * i + 1) 0
-    sums i pos low = elim (cases_eq i node) [
-      | inl e ↦ subst (λ j. get_or t j 0 ≤ get_or t (2 * j) 0 + get_or t (2 * j + 1) 0) (sym e)
-          (omega (arith, h.off.here some h.inner))
-      | inr e ↦ omega (arith, h.off.sums i pos low e)
-    ]

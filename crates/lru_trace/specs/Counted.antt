@@ -48,3 +48,4 @@ pub record IsCounted (names : List (String Global × ℕ)) (recent : Recent) (co
   pub firsts : first ≡ length recent.recency
   pub few : first ≤ length counts
   pub total : sum counts ≤ references
+  pub plain : recent.weights ≡ []

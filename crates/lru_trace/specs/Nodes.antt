@@ -1,9 +1,9 @@
 -- A tree of sums is the list of its nodes. Node 0 is not used.
-use Rattle.std.specs.Prelude.{◌≡◌, ℕ, ◌+◌, ◌*◌, ◌^◌, ◌≤◌, ◌<◌, List, length, get_or}
+use Rattle.std.specs.Prelude.{◌≡◌, ℕ, ◌+◌, ◌*◌, ◌^◌, ◌<◌, List, length, get_or, drop, sum}
 
--- Each inner node contains the sum of its two children. Each leaf contains 0 or 1.
+-- Each inner node contains the sum of its two children. The leaves are the last half.
 pub record IsTree (slots levels : ℕ) (nodes : List ℕ) : Type 0 where
   pub power : slots ≡ 2 ^ levels
   pub len : length nodes ≡ 2 * slots
   pub sums : (i : ℕ) → 0 < i → i < slots → get_or nodes i 0 ≡ get_or nodes (2 * i) 0 + get_or nodes (2 * i + 1) 0
-  pub leaves : (i : ℕ) → slots ≤ i → get_or nodes i 0 ≤ 1
+  pub fits : sum (drop slots nodes) < 2 ^ 64

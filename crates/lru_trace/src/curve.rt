@@ -165,7 +165,7 @@ impl Curve {
         ensures references { self.new.references ≤ self.old.references + 1 }
     {
         match self.distances.refer(number)? {
-            Some(distance) => self.counts[distance] += 1,
+            Some(distance) => self.counts[distance as usize] += 1,
             None => self.firsts += 1,
         }
         self.references += 1;

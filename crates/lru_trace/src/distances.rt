@@ -1,8 +1,9 @@
 //! Reuse distances of a trace, one reference at a time.
-ghost use Rattle.std.specs.Prelude.{◌≡◌, ◌+◌, ◌^◌, ◌<◌, [], ◌∷◌, IfOk, OnErr, OnOk, false, nat_eq};
+ghost use Rattle.std.specs.Prelude.{◌≡◌, ◌+◌, ◌^◌, ◌<◌, [], ◌∷◌, ◌++◌, IfOk, OnErr, OnOk, is_ok, true, false, nat_eq};
+ghost use Rattle.std.specs.Prelude.{length, sum_by};
 ghost use Rattle.std.specs.Set.{remove_key};
 ghost use Rattle.lru_theory.specs.Traces.{is_in};
-ghost use Rattle.lru_trace.specs.Slots.{Recent, position};
+ghost use Rattle.lru_trace.specs.Slots.{Recent, position, weight_in};
 
 use crate::tree::Tree;
 use std::alloc::{AllocError, Global};
@@ -16,7 +17,8 @@ const MOST_LEVELS: u32 = 59;
 
 /// The keys of a trace, by the time of their last reference.
 ///
-/// Keys are the numbers that `add_key` returned. A contract sees the recency list.
+/// Keys are the numbers that `add_key` or `add_weighed_key` returned. A key has the weight with which it was added, or
+/// 1. A contract sees the recency list.
 ///
 /// Each reference takes the next slot of a log, and the slot that its key had before becomes free. If the log is full,
 /// the keys move to the front of a new log. If about half of the slots or more contain keys, the new log has twice as
@@ -25,7 +27,9 @@ const MOST_LEVELS: u32 = 59;
 pub struct Distances {
     log: Vec<Option<usize>>,
     slots: Vec<Option<usize>>,
-    marks: Tree,
+    weights: Vec<u64>,
+    tree: Tree,
+    used: usize,
     levels: u32,
     alloc: Global,
 }
@@ -39,31 +43,45 @@ impl Model for Distances {
     ghost view = { λ d. record {
       recency = newest d.log.items;
       keys = vec_len d.slots;
-      room = length d.marks - vec_len d.log;
+      weights = d.weights.items;
+      room = length d.tree - vec_len d.log;
     } };
 
-    ghost invariant = { λ d. IsLog d.levels d.log d.slots.items d.marks };
+    ghost invariant = { λ d. IsLog d.levels d.log d.slots.items d.weights.items d.tree d.used };
 }
 
 impl Distances {
     pub fn new(alloc: Global) -> Result<Self, AllocError>
         ensures recency { IfOk result (λ trace. trace.recency ≡ []) }
         ensures keys { IfOk result (λ trace. trace.keys ≡ 0) }
+        ensures weights { IfOk result (λ trace. trace.weights ≡ []) }
     {
-        Distances::with_levels(alloc, 0, FIRST_LEVELS)
+        Distances::with_levels(alloc, 0, Vec::new(alloc), FIRST_LEVELS)
     }
 
-    fn with_levels(alloc: Global, keys: usize, levels: u32) -> Result<Self, AllocError>
+    fn with_levels(
+        alloc: Global,
+        keys: usize,
+        weights: Vec<u64>,
+        levels: u32,
+    ) -> Result<Self, AllocError>
         requires { levels < 60 }
-        ensures { IfOk result (λ trace. trace ≡ record { recency = []; keys = keys; room = 2 ^ levels }) }
+        ensures { IfOk result (λ trace. trace ≡ record {
+          recency = [];
+          keys = keys;
+          weights = weights.items;
+          room = 2 ^ levels;
+        }) }
     {
-        let marks = Tree::new(alloc, levels)?;
-        let log = Vec::with_capacity(alloc, marks.len())?;
+        let tree = Tree::new(alloc, levels)?;
+        let log = Vec::with_capacity(alloc, tree.len())?;
         let slots = vec![in alloc; None; keys]?;
         Ok(Distances {
             log,
             slots,
-            marks,
+            weights,
+            tree,
+            used: 0,
             levels,
             alloc,
         })
@@ -73,6 +91,7 @@ impl Distances {
         ensures key { IfOk result (λ key. key ≡ self.old.keys) }
         ensures recency { self.new.recency ≡ self.old.recency }
         ensures keys { OnOk result (self.new.keys ≡ self.old.keys + 1) }
+        ensures weights { self.new.weights ≡ self.old.weights }
         ensures err { OnErr result (self.new.keys ≡ self.old.keys) }
     {
         let key = self.slots.len();
@@ -80,19 +99,47 @@ impl Distances {
         Ok(key)
     }
 
-    fn take_out(&mut self, key: usize) -> Option<usize>
+    pub fn add_weighed_key(&mut self, weight: u64) -> Result<usize, AllocError>
+        requires { length self.old.weights ≡ self.old.keys }
+        ensures key { IfOk result (λ key. key ≡ self.old.keys) }
+        ensures recency { self.new.recency ≡ self.old.recency }
+        ensures keys { OnOk result (self.new.keys ≡ self.old.keys + 1) }
+        ensures weights { OnOk result (self.new.weights ≡ self.old.weights ++ weight ∷ []) }
+        ensures room { self.new.room ≡ self.old.room }
+        ensures err { OnErr result (self.new ≡ self.old) }
+    {
+        let key = self.slots.len();
+        self.weights.reserve(1)?;
+        self.slots.push(None)?;
+        self.weights.push_reserved(weight);
+        Ok(key)
+    }
+
+    /// Returns the weight of a key.
+    pub fn weight(&self, key: usize) -> u64
+        ensures { result ≡ weight_in self.now.weights key }
+    {
+        match self.weights.get(key) {
+            Some(weight) => *weight,
+            None => 1,
+        }
+    }
+
+    fn take_out(&mut self, key: usize) -> Option<u64>
         requires { key < self.old.keys }
-        ensures result { result ≡ position key self.old.recency }
+        ensures result { result ≡ position (weight_in self.old.weights) key self.old.recency }
         ensures after { self.new ≡ record self.old { recency = remove_key (nat_eq key) self.old.recency } }
         ensures absent { is_in nat_eq key self.new.recency ≡ false }
     {
         let Some(slot) = self.slots[key] else {
             return None;
         };
-        let behind = self.marks.marks_behind(slot);
-        self.marks.unmark(slot);
+        let weight = self.weight(key);
+        let behind = self.tree.weight_behind(slot);
+        self.tree.clear(slot, weight);
         self.log[slot] = None;
         self.slots[key] = None;
+        self.used -= 1;
         Some(behind)
     }
 
@@ -100,30 +147,36 @@ impl Distances {
         requires key { key < self.old.keys }
         requires absent { is_in nat_eq key self.old.recency ≡ false }
         requires room { 0 < self.old.room }
+        requires fits { sum_by (weight_in self.old.weights) (key ∷ self.old.recency) < 2 ^ 64 }
         ensures recency { self.new.recency ≡ key ∷ self.old.recency }
         ensures keys { self.new.keys ≡ self.old.keys }
+        ensures weights { self.new.weights ≡ self.old.weights }
         ensures room { self.new.room + 1 ≡ self.old.room }
     {
         let slot = self.log.len();
+        let weight = self.weight(key);
         self.log.push_reserved(Some(key));
         self.slots[key] = Some(slot);
-        self.marks.mark(slot);
+        self.tree.put(slot, weight);
+        self.used += 1;
     }
 
     fn make_room(&mut self) -> Result<(), AllocError>
         requires { self.old.room ≡ 0 }
         ensures recency { self.new.recency ≡ self.old.recency }
         ensures keys { self.new.keys ≡ self.old.keys }
+        ensures weights { self.new.weights ≡ self.old.weights }
         ensures room { OnOk result (0 < self.new.room) }
     {
         let mut levels = self.levels;
-        if self.marks.len() / 2 <= self.marks.marks_behind(0) {
+        if self.tree.len() / 2 <= self.used {
             levels += 1;
         }
         if levels > MOST_LEVELS {
             return Err(AllocError);
         }
-        let mut packed = Distances::with_levels(self.alloc, self.slots.len(), levels)?;
+        let weights = Vec::from_slice(self.alloc, &self.weights)?;
+        let mut packed = Distances::with_levels(self.alloc, self.slots.len(), weights, levels)?;
         for slot in &self.log {
             if let Some(key) = *slot {
                 packed.append(key);
@@ -133,24 +186,44 @@ impl Distances {
         Ok(())
     }
 
-    /// References a key, and returns its reuse distance: how many other keys were referenced after its last reference.
-    /// `None` means that the key was not referenced before.
+    /// Makes room for one reference.
+    ///
+    /// # Errors
+    ///
+    /// Out of memory for a new log.
+    pub fn reserve(&mut self) -> Result<(), AllocError>
+        ensures recency { self.new.recency ≡ self.old.recency }
+        ensures keys { self.new.keys ≡ self.old.keys }
+        ensures weights { self.new.weights ≡ self.old.weights }
+        ensures room { OnOk result (0 < self.new.room) }
+        ensures enough { 0 < self.old.room → is_ok result ≡ true }
+    {
+        if self.log.len() == self.tree.len() {
+            self.make_room()?;
+        }
+        Ok(())
+    }
+
+    /// References a key, and returns the sum of the weights of the other keys that were referenced after its last
+    /// reference. If all weights are 1, this is the reuse distance. `None` means that the key was not referenced before.
     ///
     /// Cost: `O(log n)` for n keys, amortised over the references.
     ///
     /// # Errors
     ///
     /// Out of memory for a new log. The key was not referenced.
-    pub fn refer(&mut self, key: usize) -> Result<Option<usize>, AllocError>
-        requires { key < self.old.keys }
-        ensures distance { IfOk result (λ distance. distance ≡ position key self.old.recency) }
+    pub fn refer(&mut self, key: usize) -> Result<Option<u64>, AllocError>
+        requires key { key < self.old.keys }
+        requires fits { sum_by (weight_in self.old.weights) (key ∷ remove_key (nat_eq key) self.old.recency) < 2 ^ 64 }
+        ensures distance { IfOk result (λ distance.
+            distance ≡ position (weight_in self.old.weights) key self.old.recency) }
         ensures recency { OnOk result (self.new.recency ≡ key ∷ remove_key (nat_eq key) self.old.recency) }
         ensures keys { self.new.keys ≡ self.old.keys }
+        ensures weights { self.new.weights ≡ self.old.weights }
+        ensures enough { 0 < self.old.room → is_ok result ≡ true }
         ensures err { OnErr result (self.new.recency ≡ self.old.recency) }
     {
-        if self.log.len() == self.marks.len() {
-            self.make_room()?;
-        }
+        self.reserve()?;
         let distance = self.take_out(key);
         self.append(key);
         Ok(distance)

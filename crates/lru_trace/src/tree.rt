@@ -1,16 +1,16 @@
-//! Slots with marks, and the number of marked slots behind each slot.
+//! Slots with weights, and the sum of the weights behind each slot.
 ghost use Rattle.std.specs.Prelude.{◌≡◌, ◌+◌, ◌^◌, ◌<◌, IfOk, length, get_or, set, drop, replicate, sum};
 
 use std::alloc::{AllocError, Global};
 use std::marker::Model;
 
-/// Slots that may be marked. A contract sees a 1 for each marked slot and a 0 for each other slot.
+/// Slots with weights. A contract sees the weight of each slot, which is 0 if the slot is free.
 ///
 /// The slots are the leaves of a binary tree, and each inner node contains the sum of its two children. Node 1 is the
 /// root, and the children of node i are 2i and 2i + 1.
 #[derive(Drop)]
 pub struct Tree {
-    nodes: Vec<usize>,
+    nodes: Vec<u64>,
     slots: usize,
     levels: u32,
 }
@@ -46,46 +46,47 @@ impl Tree {
         self.slots
     }
 
-    pub fn mark(&mut self, slot: usize)
+    pub fn put(&mut self, slot: usize, weight: u64)
         requires within { slot < length self.old }
         requires free { get_or self.old slot 0 ≡ 0 }
-        ensures { self.new ≡ set self.old slot 1 }
+        requires fits { sum self.old + weight < 2 ^ 64 }
+        ensures { self.new ≡ set self.old slot weight }
     {
         let leaf = self.slots + slot;
-        self.nodes[leaf] = 1;
+        self.nodes[leaf] = weight;
         let mut node = leaf / 2;
         while node > 0 {
-            self.nodes[node] += 1;
+            self.nodes[node] += weight;
             node /= 2;
         }
     }
 
-    pub fn unmark(&mut self, slot: usize)
+    pub fn clear(&mut self, slot: usize, weight: u64)
         requires within { slot < length self.old }
-        requires marked { get_or self.old slot 0 ≡ 1 }
+        requires weight { get_or self.old slot 0 ≡ weight }
         ensures { self.new ≡ set self.old slot 0 }
     {
         let leaf = self.slots + slot;
         self.nodes[leaf] = 0;
         let mut node = leaf / 2;
         while node > 0 {
-            self.nodes[node] -= 1;
+            self.nodes[node] -= weight;
             node /= 2;
         }
     }
 
-    pub fn marks_behind(&self, slot: usize) -> usize
+    pub fn weight_behind(&self, slot: usize) -> u64
         requires { slot < length self.now }
         ensures { result ≡ sum (drop (slot + 1) self.now) }
     {
         let mut node = self.slots + slot;
-        let mut marks = 0;
+        let mut weight = 0;
         for _level in 0..self.levels {
             if node % 2 == 0 {
-                marks += self.nodes[node + 1];
+                weight += self.nodes[node + 1];
             }
             node /= 2;
         }
-        marks
+        weight
     }
 }

@@ -1,10 +1,10 @@
 use Rattle.std.proofs.Common.{ap, ◌∙◌, subst}
-use Rattle.std.proofs.KnownBytes.{Appends-kept}
+use Rattle.std.proofs.KnownBytes.{Appends-kept, Keeps-refl}
 use Rattle.std.specs.Io.KnownBytes.{Appends}
 use Rattle.lru_trace.specs.Report.{written}
 use Rattle.lru_trace.specs.References.{bits_of, wants_best}
 use Rattle.lru_trace.specs.Outcome.{Begins}
-use Rattle.lru_trace.proofs.Ended.{reported, all_begun}
+use Rattle.lru_trace.proofs.Ended.{reported, all_begun, out_of_memory}
 use Rattle.lru_trace.proofs.traces.trace.Goals as goal
 
 pub returns-then-not-write_bytes : goal.returns-then-not-write_bytes
@@ -40,3 +40,10 @@ returns g c =
     c.in-Some.read.others c.args.options.form (wants_best c.args.options.policies)) c.deref.ensures.value)
     old mid (g.W.Write.contents c.flush.new.self)
     (subst (Appends old mid) c.deref-2.ensures.value c.if-not-write_bytes.ensures) c.flush.ensures.bytes
+
+pub returns-in_err-report : goal.returns-in_err-report
+returns-in_err-report g c =
+    let read = rw c.in-Some.is at c.in_ok-read.ensures.ok in
+    out_of_memory c.args.options (g.R.Read.remaining c.args.reader.now) (g.R.Read.remaining c.read_trace.new.reader)
+    (g.W.Write.contents c.args.writer.now) c.from_residual-in_err-report.result c.from_residual-in_err-report.ensures
+    (read.input, read.reads) (Keeps-refl (g.W.Write.contents c.args.writer.now))

@@ -24,6 +24,7 @@ invariant_of-self-2 c =
       firsts = is.firsts ∙ ap length (sym c.add_key.ensures.recency);
       few = is.few;
       total = is.total;
+      plain = c.add_key.ensures.weights ∙ is.plain;
     }
 
 pub returns-clause-others : goal.returns-clause-others

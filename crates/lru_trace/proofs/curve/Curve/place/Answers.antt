@@ -1,16 +1,28 @@
 use Rattle.std.proofs.Common.{◌≡◌, ◌<◌, ℕ, Option, Some, None, true, false, length, refl, sym, ap, ◌∙◌, subst, arith}
 use Rattle.std.specs.Prelude.{is_some, not}
 use Rattle.lru_trace.specs.Counted.{AreNumbered}
-use Rattle.lru_trace.specs.Slots.{position}
-use Rattle.lru_trace.proofs.CurveSteps.{found_length, first_length}
+use Rattle.lru_trace.proofs.CurveSteps.{place, plain_fits, plain_place, found_length, first_length}
 use Rattle.lru_trace.proofs.curve.Curve.place.Goals as goal
+
+pub refer-requires-clause-fits : goal.refer-requires-clause-fits
+refer-requires-clause-fits c =
+    plain_fits c.self.inside.distances.weights c.args.number c.self.inside.distances.recency c.self.invariant.plain
+    (omega (
+      arith,
+      c.requires.spare,
+      ap (λ v. length v.recency) c.self.view_is,
+      ap (λ v. length v.counts) c.self.view_is,
+      c.self.inside.counts.ok.0,
+      c.self.inside.counts.small,
+    ))
 
 pub invariant_of-self-then-is_none : goal.invariant_of-self-then-is_none
 invariant_of-self-then-is_none c =
     let is = c.self.invariant in
     let recency = c.self.inside.distances.recency in
-    let none = without (position c.args.number recency)
-    (ap is_some (sym c.in_ok-refer.ensures.distance) ∙ c.is_none.ensures ∙ ap not c.if-is_none.true) in
+    let none = without (place c.args.number recency)
+    (ap is_some (sym (c.in_ok-refer.ensures.distance
+    ∙ plain_place c.self.inside.distances.weights c.args.number c.self.inside.distances.recency c.self.invariant.plain)) ∙ c.is_none.ensures ∙ ap not c.if-is_none.true) in
     let long = first_length c.args.number recency none in
     let spare : length recency < length c.self.inside.counts.items =
     omega (
@@ -25,6 +37,7 @@ invariant_of-self-then-is_none c =
       firsts = omega (arith, is.firsts, long, ap length c.in_ok-refer.ensures.recency);
       few = omega (arith, is.firsts, spare);
       total = is.total;
+      plain = c.in_ok-refer.ensures.weights ∙ is.plain;
     }
   where
     without : (o : Option ℕ) → is_some o ≡ false → o ≡ None
@@ -35,14 +48,16 @@ pub invariant_of-self-else-is_none : goal.invariant_of-self-else-is_none
 invariant_of-self-else-is_none c =
     let is = c.self.invariant in
     let recency = c.self.inside.distances.recency in
-    let (d, some) = within (position c.args.number recency)
-    (ap is_some (sym c.in_ok-refer.ensures.distance) ∙ c.is_none.ensures ∙ ap not c.if-is_none.false) in
+    let (d, some) = within (place c.args.number recency)
+    (ap is_some (sym (c.in_ok-refer.ensures.distance
+    ∙ plain_place c.self.inside.distances.weights c.args.number c.self.inside.distances.recency c.self.invariant.plain)) ∙ c.is_none.ensures ∙ ap not c.if-is_none.false) in
     let long = found_length c.args.number d recency some in
     record {
       numbered = subst (AreNumbered c.self.inside.numbers.entries) (sym c.in_ok-refer.ensures.keys) is.numbered;
       firsts = is.firsts ∙ sym long.0 ∙ ap length (sym c.in_ok-refer.ensures.recency);
       few = is.few;
       total = is.total;
+      plain = c.in_ok-refer.ensures.weights ∙ is.plain;
     }
   where
     within : (o : Option ℕ) → is_some o ≡ true → (d : ℕ) × (o ≡ Some d)

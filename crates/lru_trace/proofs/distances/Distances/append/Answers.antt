@@ -1,30 +1,45 @@
-use Rattle.std.proofs.Common.{◌≡◌, ◌<◌, false, ◌∷◌, length, get_or, set, ap, ◌∙◌, arith, nat_eq}
-use Rattle.std.specs.Prelude.{vec_len}
+use Rattle.std.proofs.Common.{◌≡◌, ◌+◌, ◌^◌, ◌<◌, sym, false, ◌∷◌, length, get_or, set, ap, ◌∙◌, arith, nat_eq}
+use Rattle.std.specs.Prelude.{vec_len, sum_by}
 use Rattle.std.proofs.lemmas.List.{length-set}
+use Rattle.std.proofs.lemmas.List.Sums.{sum_by-cons}
 use Rattle.lru_theory.specs.Traces.{is_in}
-use Rattle.lru_trace.specs.Slots.{newest}
-use Rattle.lru_trace.proofs.Logs.{added_found, added_back, added_marked, is_free, newest_push}
+use Rattle.lru_trace.specs.Slots.{newest, weight_in}
+use Rattle.lru_trace.proofs.Logs.{added_found, added_back, added_weighed, added_fits, all_weights}
+use Rattle.lru_trace.proofs.Logs.{is_free, newest_few, newest_push}
 use Rattle.lru_trace.proofs.distances.Distances.append.Goals as goal
 
-pub mark-requires-clause-within : goal.mark-requires-clause-within
-mark-requires-clause-within c =
-    let room : vec_len c.self.inside.log < length c.self.inside.marks =
+pub put-requires-clause-within : goal.put-requires-clause-within
+put-requires-clause-within c =
+    let room : vec_len c.self.inside.log < length c.self.inside.tree =
     omega (arith, ap (λ r. r.room) c.self.view_is, c.requires.room) in
     omega (arith, room, c.len-slot.ensures)
 
-pub mark-requires-clause-free : goal.mark-requires-clause-free
-mark-requires-clause-free c =
+pub put-requires-clause-fits : goal.put-requires-clause-fits
+put-requires-clause-fits c =
+    let one = sum_by-cons (weight_in c.self.inside.weights.items) c.args.key (newest c.self.inside.log.items) in
+    omega (
+      arith,
+      c.requires.fits,
+      ap (λ r. sum_by (weight_in r.weights) (c.args.key ∷ r.recency)) c.self.view_is,
+      one,
+      all_weights c.self.invariant,
+      c.weight-weight.ensures,
+      ap (λ r. weight_in r.weights c.args.key) c.self.view_is,
+    )
+
+pub put-requires-clause-free : goal.put-requires-clause-free
+put-requires-clause-free c =
     let slot_is : c.len-slot.result ≡ length c.self.inside.log.items =
     omega (arith, c.len-slot.ensures, c.self.inside.log.ok.0) in
     let within : c.args.key < length c.self.inside.slots.items =
     omega (arith, ap (λ r. r.keys) c.self.view_is, c.self.inside.slots.ok.0, c.requires.key) in
     let absent : is_in nat_eq c.args.key (newest c.self.inside.log.items) ≡ false =
     ap (λ r. is_in nat_eq c.args.key r.recency) c.self.view_is ∙ c.requires.absent in
-    ap (λ n. get_or c.self.inside.marks n 0) slot_is ∙ is_free c.self.invariant c.args.key within absent
+    ap (λ n. get_or c.self.inside.tree n 0) slot_is ∙ is_free c.self.invariant c.args.key within absent
 
 pub push_reserved-requires : goal.push_reserved-requires
 push_reserved-requires c =
-    let room : vec_len c.self.inside.log < length c.self.inside.marks =
+    let room : vec_len c.self.inside.log < length c.self.inside.tree =
     omega (arith, ap (λ r. r.room) c.self.view_is, c.requires.room) in
     omega (arith, room, c.self.invariant.room)
 
@@ -36,25 +51,41 @@ invariant_of-self c =
     omega (arith, ap (λ r. r.keys) c.self.view_is, c.self.inside.slots.ok.0, c.requires.key) in
     let absent : is_in nat_eq c.args.key (newest c.self.inside.log.items) ≡ false =
     ap (λ r. is_in nat_eq c.args.key r.recency) c.self.view_is ∙ c.requires.absent in
-    let room : vec_len c.self.inside.log < length c.self.inside.marks =
+    let room : vec_len c.self.inside.log < length c.self.inside.tree =
     omega (arith, ap (λ r. r.room) c.self.view_is, c.requires.room) in
     let is = c.self.invariant in
     let key = c.args.key in
-    let len = length-set c.self.inside.marks (length c.self.inside.log.items) 1 in
-    let marks : c.mark.new.self ≡ set c.self.inside.marks (length c.self.inside.log.items) 1 =
-    c.mark.ensures ∙ ap (λ n. set c.self.inside.marks n 1) slot_is in
+    let weight : c.weight-weight.result ≡ weight_in c.self.inside.weights.items key =
+    c.weight-weight.ensures ∙ ap (λ r. weight_in r.weights key) (sym c.self.view_is) in
+    let len = length-set c.self.inside.tree (length c.self.inside.log.items) (weight_in c.self.inside.weights.items key) in
+    let tree : c.put.new.self
+    ≡ set c.self.inside.tree (length c.self.inside.log.items) (weight_in c.self.inside.weights.items key) =
+    c.put.ensures ∙ (λ i. set c.self.inside.tree (slot_is i) (weight i)) in
+    let one = sum_by-cons (weight_in c.self.inside.weights.items) key (newest c.self.inside.log.items) in
+    let few : weight_in c.self.inside.weights.items key + sum_by (weight_in c.self.inside.weights.items)
+    (newest c.self.inside.log.items) < 2 ^ 64 = omega (
+      arith,
+      one,
+      c.requires.fits,
+      ap (λ r. sum_by (weight_in r.weights) (c.args.key ∷ r.recency)) c.self.view_is,
+    ) in
     let pushed = c.push_reserved.ensures.items in
-    rw (marks, slot_is) (record {
+    rw (tree, slot_is) (record {
       size = len ∙ is.size;
       small = is.small;
       room = omega (arith, len, is.room, c.push_reserved.ensures.capacity);
       few = omega (arith, len, room, c.push_reserved.ensures.len);
       found = rw pushed (added_found is key within absent);
       back = rw pushed (added_back is key within absent);
-      marked = rw pushed (added_marked is key within absent (omega (arith, room, c.self.inside.log.ok.0)));
+      weighed = rw pushed (added_weighed is key within absent (omega (arith, room, c.self.inside.log.ok.0)));
+      fits = added_fits is key within absent (omega (arith, room, c.self.inside.log.ok.0)) few;
+      counted = rw pushed (omega (arith, is.counted, ap length (newest_push c.self.inside.log.items key)));
     })
 
 pub returns-clause-recency : goal.returns-clause-recency
 returns-clause-recency c =
     ap newest c.push_reserved.ensures.items ∙ newest_push c.self.inside.log.items c.args.key
     ∙ ap (λ r. c.args.key ∷ r.recency) c.self.view_is
+
+pub overflow_add-self : goal.overflow_add-self
+overflow_add-self c = omega (arith, c.self.invariant.counted, newest_few c.self.inside.log.items, c.self.inside.log.ok.0, c.self.inside.log.small)

@@ -1,14 +1,14 @@
-use Rattle.std.proofs.Common.{◌≡◌, suc, ◌+◌, ◌*◌, ◌^◌, ◌≤◌, ◌<◌, Some, None, ◌∷◌, length, take, get_or, sum, drop}
-use Rattle.std.proofs.Common.{sym, ap, ◌∙◌, arith, nat_eq}
+use Rattle.std.proofs.Common.{◌≡◌, suc, ◌+◌, ◌*◌, ◌^◌, ◌≤◌, ◌<◌, Some, None, ◌∷◌, length, take, get_or}
+use Rattle.std.proofs.Common.{sym, ap, subst, ◌∙◌, arith, nat_eq}
 use Rattle.std.proofs.Math.Pow.{pow_mono}
 use Rattle.std.proofs.Math.Nat.{pow-suc}
 use Rattle.std.proofs.lemmas.Nat.{pow_pos}
 use Rattle.std.proofs.lemmas.List.{take_all}
-use Rattle.std.proofs.lemmas.List.Sums.{sum_by-drop_more}
 use Rattle.lru_theory.specs.Traces.{is_in}
-use Rattle.lru_trace.specs.Slots.{newest}
-use Rattle.lru_trace.proofs.Logs.{key_within, absent_before, newest_more, newest_taken, newest_few, all_marks, mark_few}
-use Rattle.lru_trace.proofs.distances.Distances.make_room.Goals.{then-len-marks_behind, else-len-marks_behind}
+use Rattle.std.specs.Prelude.{sum_by}
+use Rattle.lru_trace.specs.Slots.{newest, weight_in}
+use Rattle.lru_trace.proofs.Logs.{key_within, absent_before, newest_more, newest_taken, newest_few, first_fit}
+use Rattle.lru_trace.proofs.distances.Distances.make_room.Goals.{then-len-self, else-len-self}
 use Rattle.lru_trace.proofs.distances.Distances.make_room.Goals.{in-Some, in_default}
 use Rattle.lru_trace.proofs.distances.Distances.make_room.Goals as goal
 
@@ -27,17 +27,33 @@ append-requires-clause-absent c =
     ∙ ap (λ xs. is_in nat_eq c.in-Some.key (newest (take i xs))) c.deref-slot-items.ensures.value
     ∙ absent_before c.self.invariant c.in-Some.key i there
 
+pub append-requires-clause-fits : goal.append-requires-clause-fits
+append-requires-clause-fits c =
+    let i = c.loop-slot.slot-index in
+    let items = c.deref-slot-items.result.now in
+    let inv = c.loop-slot.invariant in
+    let on = newest_more items i (Some c.in-Some.key) c.loop-slot-test.true c.in-Some.is in
+    let first : sum_by (weight_in c.self.inside.weights.items) (newest (take (i + 1) items)) < 2 ^ 64 =
+    rw c.deref-slot-items.ensures.value (first_fit c.self.invariant (i + 1)) in
+    let same : c.loop-slot.packed.weights ≡ c.self.inside.weights.items =
+    inv.2 ∙ ap (λ r. r.weights) (sym c.self.view_is) in
+    let all : sum_by (weight_in c.loop-slot.packed.weights) (c.in-Some.key ∷ c.loop-slot.packed.recency)
+    ≡ sum_by (weight_in c.self.inside.weights.items) (newest (take (i + 1) items)) =
+    (λ j. sum_by (weight_in (same j)) (c.in-Some.key ∷ inv.0 j))
+    ∙ ap (sum_by (weight_in c.self.inside.weights.items)) (sym on) in
+    subst (λ n. n < 2 ^ 64) (sym all) first
+
 pub append-requires-clause-room : goal.append-requires-clause-room
 append-requires-clause-room c =
     let i = c.loop-slot.slot-index in
     let taken = newest_taken c.deref-slot-items.result.now i in
-    let more : c.self.inside.levels ≤ c.if-len-marks_behind.levels = elim c.if-len-marks_behind.branch [
-      | then-len-marks_behind w ↦ omega (arith, w.levels-is)
-      | else-len-marks_behind w ↦ omega (arith, w.levels-is)
+    let more : c.self.inside.levels ≤ c.if-len-self.levels = elim c.if-len-self.branch [
+      | then-len-self w ↦ omega (arith, w.levels-is)
+      | else-len-self w ↦ omega (arith, w.levels-is)
     ] in
-    let wide : 2 ^ c.self.inside.levels ≤ 2 ^ c.if-len-marks_behind.levels = pow_mono more in
+    let wide : 2 ^ c.self.inside.levels ≤ 2 ^ c.if-len-self.levels = pow_mono more in
     let is = c.self.invariant in
-    omega (arith, taken, wide, is.few, is.size, c.loop-slot.invariant.2, c.deref-slot-items.ensures.len)
+    omega (arith, taken, wide, is.few, is.size, c.loop-slot.invariant.3, c.deref-slot-items.ensures.len)
 
 pub loop-slot-preserved : goal.loop-slot-preserved
 loop-slot-preserved c =
@@ -50,7 +66,8 @@ loop-slot-preserved c =
           rw (w.packed-is, on) (
             w.append.ensures.recency ∙ ap (λ xs. w.in-Some.key ∷ xs) inv.0,
             w.append.ensures.keys ∙ inv.1,
-            omega (arith, w.append.ensures.room, inv.2),
+            w.append.ensures.weights ∙ inv.2,
+            omega (arith, w.append.ensures.room, inv.3),
           )
       | in_default w ↦
           let on = newest_more items i None c.loop-slot-test.true w.in_default.is in
@@ -67,23 +84,18 @@ returns-clause-room c =
     ap newest (take_all i items (omega arith) ∙ c.deref-slot-items.ensures.value) in
     let some = pow_pos c.self.inside.levels in
     let used = newest_few c.self.inside.log.items in
-    let first = sum_by-drop_more (λ x. x) c.self.inside.marks 0 0 (omega (arith, is.size, some)) in
     let room = ap (λ r. r.room) c.drop.view_is in
-    let left : length (newest c.self.inside.log.items) < 2 ^ c.if-len-marks_behind.levels =
-    elim c.if-len-marks_behind.branch [
-      | then-len-marks_behind w ↦
-          let twice : 2 ^ c.if-len-marks_behind.levels ≡ 2 * 2 ^ c.self.inside.levels =
-          ap (λ n. 2 ^ n) (let e : c.if-len-marks_behind.levels ≡ suc c.self.inside.levels = omega
+    let left : length (newest c.self.inside.log.items) < 2 ^ c.if-len-self.levels =
+    elim c.if-len-self.branch [
+      | then-len-self w ↦
+          let twice : 2 ^ c.if-len-self.levels ≡ 2 * 2 ^ c.self.inside.levels =
+          ap (λ n. 2 ^ n) (let e : c.if-len-self.levels ≡ suc c.self.inside.levels = omega
           (arith, w.levels-is) in e)
           ∙ omega (arith, pow-suc 2 c.self.inside.levels) in
           omega (arith, twice, some, used, is.few, is.size, c.self.inside.log.ok.0)
-      | else-len-marks_behind w ↦
-          let same : 2 ^ c.if-len-marks_behind.levels ≡ 2 ^ c.self.inside.levels = ap (λ n. 2 ^ n) w.levels-is in
-          let few_first : get_or c.self.inside.marks 0 0 ≤ 1 = mark_few is 0 in
-          let total : sum c.self.inside.marks ≡ length (newest c.self.inside.log.items) = all_marks is in
-          let parts : sum c.self.inside.marks ≡ get_or c.self.inside.marks 0 0 + sum
-          (drop (0 + 1) c.self.inside.marks) = first in
-          omega (arith, same, total, parts, few_first, c.marks_behind.ensures, c.len.ensures, is.size)
+      | else-len-self w ↦
+          let same : 2 ^ c.if-len-self.levels ≡ 2 ^ c.self.inside.levels = ap (λ n. 2 ^ n) w.levels-is in
+          omega (arith, same, is.counted, c.len.ensures, is.size, w.if-len-self.false)
     ] in
     let whole = ap length all in
-    omega (arith, room, inv.2, left, whole)
+    omega (arith, room, inv.3, left, whole)

@@ -5,4 +5,5 @@ use Rattle.lru_trace.proofs.distances.Distances.make_room.Given as goal
 abbrev pub invariant-loop-slot : goal.invariant-loop-slot
 invariant-loop-slot l = (l.packed.recency ≡ newest (take l.slot-index l.slot-items))
     × (l.packed.keys ≡ l.fn.self.keys)
+    × (l.packed.weights ≡ l.fn.self.weights)
     × (l.packed.room + length (newest (take l.slot-index l.slot-items)) ≡ 2 ^ l.levels)

@@ -3,9 +3,9 @@ use Rattle.std.specs.Prelude.{vec_len}
 use Rattle.std.proofs.lemmas.List.{length-set, get_or_read}
 use Rattle.std.specs.Set.{remove_key}
 use Rattle.lru_theory.specs.Traces.{is_in}
-use Rattle.lru_trace.specs.Slots.{position, newest}
+use Rattle.lru_trace.specs.Slots.{position, newest, weight_in}
 use Rattle.lru_trace.proofs.Logs.{unreferenced, without_none, slot_in, position_is, taken_out, freed_found, freed_back}
-use Rattle.lru_trace.proofs.Logs.{freed_marked, freed_absent, is_marked}
+use Rattle.lru_trace.proofs.Logs.{freed_weighed, freed_fits, freed_counted, freed_absent, is_weighed}
 use Rattle.lru_trace.proofs.distances.Distances.take_out.Goals as goal
 
 pub returns-in_default-clause-result : goal.returns-in_default-clause-result
@@ -13,8 +13,9 @@ returns-in_default-clause-result c =
     let read = get_or_read c.self.inside.slots.items c.args.key c.index.result.now
     (omega (arith, ap (λ r. r.keys) c.self.view_is, c.self.inside.slots.ok.0, c.requires)) c.index.ensures None in
     let none = unreferenced c.self.invariant c.args.key (sym read ∙ c.in_default.is) in
-    let here : None ≡ position c.args.key (newest c.self.inside.log.items) = rw none refl in
-    here ∙ ap (λ r. position c.args.key r.recency) c.self.view_is
+    let here : None ≡ position (weight_in c.self.inside.weights.items) c.args.key (newest c.self.inside.log.items) =
+    rw none refl in
+    here ∙ ap (λ r. position (weight_in r.weights) c.args.key r.recency) c.self.view_is
 
 pub returns-in_default-clause-after : goal.returns-in_default-clause-after
 returns-in_default-clause-after c =
@@ -25,30 +26,31 @@ returns-in_default-clause-after c =
     ap (λ r. r.recency) (sym c.self.view_is)
     ∙ sym (without_none c.args.key (newest c.self.inside.log.items) none)
     ∙ ap (λ r. remove_key (nat_eq c.args.key) r.recency) c.self.view_is in
-    ap (λ xs. record { recency = xs; keys = c.args.self.now.keys; room = c.args.self.now.room }) same
+    ap (λ xs. record { recency = xs; keys = c.args.self.now.keys; weights = c.args.self.now.weights; room = c.args.self.now.room }) same
 
-pub marks_behind-behind-requires : goal.marks_behind-behind-requires
-marks_behind-behind-requires c =
+pub weight_behind-behind-requires : goal.weight_behind-behind-requires
+weight_behind-behind-requires c =
     let read = get_or_read c.self.inside.slots.items c.args.key c.index.result.now
     (omega (arith, ap (λ r. r.keys) c.self.view_is, c.self.inside.slots.ok.0, c.requires)) c.index.ensures None in
     let at_slot : get_or c.self.inside.slots.items c.args.key None ≡ Some c.in-Some.slot = sym read ∙ c.in-Some.is in
     let within = slot_in c.self.invariant c.args.key c.in-Some.slot at_slot in
     omega (arith, within, c.self.invariant.few, c.self.inside.log.ok.0)
 
-pub unmark-requires-clause-within : goal.unmark-requires-clause-within
-unmark-requires-clause-within c =
+pub clear-requires-clause-within : goal.clear-requires-clause-within
+clear-requires-clause-within c =
     let read = get_or_read c.self.inside.slots.items c.args.key c.index.result.now
     (omega (arith, ap (λ r. r.keys) c.self.view_is, c.self.inside.slots.ok.0, c.requires)) c.index.ensures None in
     let at_slot : get_or c.self.inside.slots.items c.args.key None ≡ Some c.in-Some.slot = sym read ∙ c.in-Some.is in
     let within = slot_in c.self.invariant c.args.key c.in-Some.slot at_slot in
     omega (arith, within, c.self.invariant.few, c.self.inside.log.ok.0)
 
-pub unmark-requires-clause-marked : goal.unmark-requires-clause-marked
-unmark-requires-clause-marked c =
+pub clear-requires-clause-weight : goal.clear-requires-clause-weight
+clear-requires-clause-weight c =
     let read = get_or_read c.self.inside.slots.items c.args.key c.index.result.now
     (omega (arith, ap (λ r. r.keys) c.self.view_is, c.self.inside.slots.ok.0, c.requires)) c.index.ensures None in
     let at_slot : get_or c.self.inside.slots.items c.args.key None ≡ Some c.in-Some.slot = sym read ∙ c.in-Some.is in
-    is_marked c.self.invariant c.args.key c.in-Some.slot at_slot
+    is_weighed c.self.invariant c.args.key c.in-Some.slot at_slot
+    ∙ ap (λ r. weight_in r.weights c.args.key) c.self.view_is ∙ sym c.weight-weight.ensures
 
 pub index_mut-requires : goal.index_mut-requires
 index_mut-requires c =
@@ -58,6 +60,13 @@ index_mut-requires c =
     let within = slot_in c.self.invariant c.args.key c.in-Some.slot at_slot in
     omega (arith, within, c.self.inside.log.ok.0)
 
+pub overflow_sub-self : goal.overflow_sub-self
+overflow_sub-self c =
+    let read = get_or_read c.self.inside.slots.items c.args.key c.index.result.now
+    (omega (arith, ap (λ r. r.keys) c.self.view_is, c.self.inside.slots.ok.0, c.requires)) c.index.ensures None in
+    let at_slot : get_or c.self.inside.slots.items c.args.key None ≡ Some c.in-Some.slot = sym read ∙ c.in-Some.is in
+    omega (arith, freed_counted c.self.invariant c.args.key c.in-Some.slot at_slot)
+
 pub invariant_of-self : goal.invariant_of-self
 invariant_of-self c =
     let read = get_or_read c.self.inside.slots.items c.args.key c.index.result.now
@@ -66,15 +75,17 @@ invariant_of-self c =
     let is = c.self.invariant in
     let key = c.args.key in
     let slot = c.in-Some.slot in
-    let len = length-set c.self.inside.marks slot 0 in
-    rw (c.unmark.ensures) (record {
+    let len = length-set c.self.inside.tree slot 0 in
+    rw (c.clear.ensures) (record {
       size = len ∙ is.size;
       small = is.small;
       room = omega (arith, len, is.room);
       few = omega (arith, len, is.few);
       found = freed_found is key slot at_slot;
       back = freed_back is key slot at_slot;
-      marked = freed_marked is key slot at_slot;
+      weighed = freed_weighed is key slot at_slot;
+      fits = freed_fits is key slot at_slot;
+      counted = omega (arith, freed_counted is key slot at_slot);
     })
 
 pub returns-clause-result : goal.returns-clause-result
@@ -82,9 +93,9 @@ returns-clause-result c =
     let read = get_or_read c.self.inside.slots.items c.args.key c.index.result.now
     (omega (arith, ap (λ r. r.keys) c.self.view_is, c.self.inside.slots.ok.0, c.requires)) c.index.ensures None in
     let at_slot : get_or c.self.inside.slots.items c.args.key None ≡ Some c.in-Some.slot = sym read ∙ c.in-Some.is in
-    ap Some c.marks_behind-behind.ensures
+    ap Some c.weight_behind-behind.ensures
     ∙ position_is c.self.invariant c.args.key c.in-Some.slot at_slot
-    ∙ ap (λ r. position c.args.key r.recency) c.self.view_is
+    ∙ ap (λ r. position (weight_in r.weights) c.args.key r.recency) c.self.view_is
 
 pub returns-clause-after : goal.returns-clause-after
 returns-clause-after c =
@@ -94,11 +105,12 @@ returns-clause-after c =
     let inside = c.self.inside in
     let out = taken_out c.self.invariant c.args.key c.in-Some.slot at_slot
     ∙ ap (λ r. remove_key (nat_eq c.args.key) r.recency) c.self.view_is in
-    let len : length c.unmark.new.self ≡ length inside.marks = ap length c.unmark.ensures ∙ length-set inside.marks
+    let len : length c.clear.new.self ≡ length inside.tree = ap length c.clear.ensures ∙ length-set inside.tree
     c.in-Some.slot 0 in
     λ i. record {
       recency = out i;
       keys = ap (λ r. r.keys) c.self.view_is i;
+      weights = ap (λ r. r.weights) c.self.view_is i;
       room = (ap (λ n. n - vec_len inside.log) len ∙ ap (λ r. r.room) c.self.view_is) i;
     }
 
