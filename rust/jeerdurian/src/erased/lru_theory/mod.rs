@@ -38,6 +38,11 @@ pub fn a_smaller_cache_is_included<K: Eq>() {}
 /// cache, it still does after any trace (`front`), and misses at least as often (`misses`).
 pub fn a_larger_budget_never_misses_more<K: Eq>() {}
 
+/// Suppose that equal keys cost the same. If a cache with the limit n contains the longest beginning of the recency list
+/// that costs at most n, it still does after any trace, even if a key alone costs more than n (`keys`). It misses
+/// exactly at the references that need more than n, and at the first reference to each key (`misses`).
+pub fn a_budget_keeps_the_newest<K: Eq>() {}
+
 /// A policy that stores each referenced key pays at least as often as MIN misses, whether it loads keys ahead (`loads`)
 /// or only on demand (`demands`). A policy that need not store referenced keys pays at least as often as MIN with
 /// bypass misses (`bypasses`). All these policies have n places, and begin with no keys. If MIN has a place, it is

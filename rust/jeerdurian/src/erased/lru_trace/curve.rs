@@ -105,7 +105,7 @@ impl Curve {
 
     fn count(&mut self, key: &str, number: usize) -> Result<(), AllocError> {
         match self.distances.refer(number)? {
-            Some(distance) => (*at_mut!(self.counts, distance)) += 1,
+            Some(distance) => (*at_mut!(self.counts, distance as usize)) += 1,
             None => self.firsts += 1,
         }
         self.references += 1;

@@ -15,7 +15,8 @@ const MOST_LEVELS: u32 = 59;
 
 /// The keys of a trace, by the time of their last reference.
 ///
-/// Keys are the numbers that `add_key` returned. A contract sees the recency list.
+/// Keys are the numbers that `add_key` or `add_weighed_key` returned. A key has the weight with which it was added, or
+/// 1. A contract sees the recency list.
 ///
 /// Each reference takes the next slot of a log, and the slot that its key had before becomes free. If the log is full,
 /// the keys move to the front of a new log. If about half of the slots or more contain keys, the new log has twice as
@@ -24,21 +25,23 @@ const MOST_LEVELS: u32 = 59;
 pub struct Distances {
     log: Vec<Option<usize>>,
     slots: Vec<Option<usize>>,
-    marks: Tree,
+    weights: Vec<u64>,
+    tree: Tree,
+    used: usize,
     levels: u32,
     alloc: Global,
 }
 
 impl Distances {
     pub fn new(alloc: Global) -> Result<Self, AllocError> {
-        Distances::with_levels(alloc, 0, FIRST_LEVELS)
+        Distances::with_levels(alloc, 0, Vec::new(alloc), FIRST_LEVELS)
     }
 
-    fn with_levels(alloc: Global, keys: usize, levels: u32) -> Result<Self, AllocError> {
-        let marks = Tree::new(alloc, levels)?;
-        let log = Vec::with_capacity(alloc, marks.len())?;
+    fn with_levels(alloc: Global, keys: usize, weights: Vec<u64>, levels: u32) -> Result<Self, AllocError> {
+        let tree = Tree::new(alloc, levels)?;
+        let log = Vec::with_capacity(alloc, tree.len())?;
         let slots = vec![in alloc; None; keys]?;
-        Ok(Distances { log, slots, marks, levels, alloc })
+        Ok(Distances { log, slots, weights, tree, used: 0, levels, alloc })
     }
 
     pub fn add_key(&mut self) -> Result<usize, AllocError> {
@@ -47,33 +50,59 @@ impl Distances {
         Ok(key)
     }
 
-    fn take_out(&mut self, key: usize) -> Option<usize> {
+    pub fn add_weighed_key(&mut self, weight: u64) -> Result<usize, AllocError> {
+        let key = self.slots.len();
+        self.weights.reserve(1)?;
+        self.slots.push(None)?;
+        self.weights.push_reserved(weight);
+        Ok(key)
+    }
+
+    /// Returns how many keys were referenced.
+    pub fn referenced(&self) -> usize {
+        self.used
+    }
+
+    /// Returns the weight of a key.
+    pub fn weight(&self, key: usize) -> u64 {
+        match self.weights.get(key) {
+            Some(weight) => *weight,
+            None => 1,
+        }
+    }
+
+    fn take_out(&mut self, key: usize) -> Option<u64> {
         let Some(slot) = (*at!(self.slots, key)) else {
             return None;
         };
-        let behind = self.marks.marks_behind(slot);
-        self.marks.unmark(slot);
+        let weight = self.weight(key);
+        let behind = self.tree.weight_behind(slot);
+        self.tree.clear(slot, weight);
         (*at_mut!(self.log, slot)) = None;
         (*at_mut!(self.slots, key)) = None;
+        self.used -= 1;
         Some(behind)
     }
 
     fn append(&mut self, key: usize) {
         let slot = self.log.len();
+        let weight = self.weight(key);
         self.log.push_reserved(Some(key));
         (*at_mut!(self.slots, key)) = Some(slot);
-        self.marks.mark(slot);
+        self.tree.put(slot, weight);
+        self.used += 1;
     }
 
     fn make_room(&mut self) -> Result<(), AllocError> {
         let mut levels = self.levels;
-        if self.marks.len() / 2 <= self.marks.marks_behind(0) {
+        if self.tree.len() / 2 <= self.used {
             levels += 1;
         }
         if levels > MOST_LEVELS {
             return Err(AllocError);
         }
-        let mut packed = Distances::with_levels(self.alloc, self.slots.len(), levels)?;
+        let weights = Vec::from_slice(self.alloc, &self.weights)?;
+        let mut packed = Distances::with_levels(self.alloc, self.slots.len(), weights, levels)?;
         for slot in &self.log {
             if let Some(key) = *slot {
                 packed.append(key);
@@ -83,18 +112,28 @@ impl Distances {
         Ok(())
     }
 
-    /// References a key, and returns its reuse distance: how many other keys were referenced after its last reference.
-    /// `None` means that the key was not referenced before.
+    /// Makes room for one reference.
+    ///
+    /// # Errors
+    ///
+    /// Out of memory for a new log.
+    pub fn reserve(&mut self) -> Result<(), AllocError> {
+        if self.log.len() == self.tree.len() {
+            self.make_room()?;
+        }
+        Ok(())
+    }
+
+    /// References a key, and returns the sum of the weights of the other keys that were referenced after its last
+    /// reference. If all weights are 1, this is the reuse distance. `None` means that the key was not referenced before.
     ///
     /// Cost: `O(log n)` for n keys, amortised over the references.
     ///
     /// # Errors
     ///
     /// Out of memory for a new log. The key was not referenced.
-    pub fn refer(&mut self, key: usize) -> Result<Option<usize>, AllocError> {
-        if self.log.len() == self.marks.len() {
-            self.make_room()?;
-        }
+    pub fn refer(&mut self, key: usize) -> Result<Option<u64>, AllocError> {
+        self.reserve()?;
         let distance = self.take_out(key);
         self.append(key);
         Ok(distance)
