@@ -1,5 +1,5 @@
 //! Written by `docs/examples.py` from the examples in the doc comments. Do not change it by hand.
-use lru_trace::Curve;
+use lru_trace::{ByteCurve, Curve};
 use std::test::Fail;
 use test_helpers::{all, check};
 
