@@ -36,6 +36,10 @@ pub record Sized : Type 0 where
   pub counts : List ℕ
   pub references : ℕ
 
+-- the sizes of all keys together
+abbrev pub total_of : Sized → ℕ
+total_of curve = sum_by (weight_in curve.sizes) curve.recency
+
 -- What a reference to the key needs: the size of the key, and the sizes of the keys before it in the recency list. If
 -- this is the first reference to the key, `None`.
 abbrev pub need_of : (ℕ → ℕ) → ℕ → List ℕ → Option ℕ

@@ -1,12 +1,12 @@
 //! The misses of a trace in LRU caches with limits of bytes.
-ghost use Rattle.std.specs.Prelude.{◌≡◌, ◌+◌, ◌-◌, ◌<◌, ◌≤◌, ◌^◌, ℕ, List, [], ◌∷◌, ◌++◌, IfOk, OnOk, OnErr};
+ghost use Rattle.std.specs.Prelude.{◌≡◌, ◌+◌, ◌-◌, ◌<◌, ◌≤◌, ◌^◌, ℕ, List, [], ◌∷◌, ◌++◌, IfOk, OnOk, OnErr, IfErr};
 ghost use Rattle.std.specs.Prelude.{length, get_or, set, nat_lt, is_some, Some, None, IfSome, true, nat_eq};
 ghost use Rattle.std.specs.List.Sorted.{IsNonDecreasing, IsPermutation};
 ghost use Rattle.std.specs.Map.{keys_of};
 ghost use Rattle.std.specs.Set.{remove_key};
 ghost use Rattle.lru_theory.specs.Traces.{is_in};
 ghost use Rattle.lru_trace.specs.Counted.{number_in};
-ghost use Rattle.lru_trace.specs.Sized.{IsSizedOf, Made, KeepsSizes, exceeds, need_of, missed_within};
+ghost use Rattle.lru_trace.specs.Sized.{IsSizedOf, Made, KeepsSizes, exceeds, need_of, missed_within, total_of};
 ghost use Rattle.lru_trace.specs.Rows.{keys};
 ghost use Rattle.lru_trace.specs.Slots.{weight_in};
 
@@ -140,6 +140,7 @@ impl ByteCurve {
         ensures made { OnOk result (Made key.now bytes None self.old self.new) }
         ensures sizes { OnErr result (KeepsSizes self.old self.new) }
         ensures err { OnErr result (self.new ≡ record self.old { sizes = self.new.sizes }) }
+        ensures large { IfErr result (λ e. e ≡ SizeError.TooLarge → 2 ^ 64 ≤ total_of self.old + bytes) }
         ensures rest { self.new ≡ record self.old {
           names = self.new.names;
           recency = self.new.recency;
@@ -164,6 +165,7 @@ impl ByteCurve {
         ensures made { IfOk result (λ need. Made key.now bytes need self.old self.new) }
         ensures sizes { OnErr result (KeepsSizes self.old self.new) }
         ensures err { OnErr result (self.new ≡ record self.old { sizes = self.new.sizes }) }
+        ensures large { IfErr result (λ e. e ≡ SizeError.TooLarge → 2 ^ 64 ≤ total_of self.old + bytes) }
         ensures rest { self.new ≡ record self.old {
           names = self.new.names;
           recency = self.new.recency;
@@ -204,6 +206,7 @@ impl ByteCurve {
             IsSizedOf (warm ++ (key.now, bytes) ∷ []) [] self.new) }
         ensures err { OnErr result ((warm trace : List (List ℕ × ℕ)) → IsSizedOf warm trace self.old →
             IsSizedOf warm trace self.new) }
+        ensures large { IfErr result (λ e. e ≡ SizeError.TooLarge → 2 ^ 64 ≤ total_of self.old + bytes) }
         ensures rest { (self.new.references ≡ self.old.references) × (self.new.limits ≡ self.old.limits) }
     {
         let _names = &self.numbers;
@@ -225,6 +228,7 @@ impl ByteCurve {
             IsSizedOf warm (trace ++ (key.now, bytes) ∷ []) self.new) }
         ensures err { OnErr result ((warm trace : List (List ℕ × ℕ)) → IsSizedOf warm trace self.old →
             IsSizedOf warm trace self.new) }
+        ensures large { IfErr result (λ e. e ≡ SizeError.TooLarge → 2 ^ 64 ≤ total_of self.old + bytes) }
         ensures references { self.new.references ≤ self.old.references + 1 }
         ensures limits { self.new.limits ≡ self.old.limits }
     {
