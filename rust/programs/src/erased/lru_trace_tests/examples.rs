@@ -3,7 +3,7 @@
 #[allow(unused_imports)]
 use crate::rattle_std::prelude::*;
 
-use crate::erased::lru_trace::Curve;
+use crate::erased::lru_trace::{ByteCurve, Curve};
 use crate::programs::test_helpers::{all, check};
 use crate::rattle_std::test::Fail;
 
