@@ -207,7 +207,8 @@ impl ByteCurve {
         ensures err { OnErr result ((warm trace : List (List ℕ × ℕ)) → IsSizedOf warm trace self.old →
             IsSizedOf warm trace self.new) }
         ensures large { IfErr result (λ e. e ≡ SizeError.TooLarge → 2 ^ 64 ≤ total_of self.old + bytes) }
-        ensures rest { (self.new.references ≡ self.old.references) × (self.new.limits ≡ self.old.limits) }
+        ensures references { self.new.references ≡ self.old.references }
+        ensures limits { self.new.limits ≡ self.old.limits }
     {
         let _names = &self.numbers;
         self.make(key, bytes)?;
