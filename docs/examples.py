@@ -111,7 +111,7 @@ CRATES = {
          "cache": Given("let mut cache = PageCache::new(alloc, disk, 2);", "Cache<'_>", "rewrite", "cache.discard();")},
         pairs=True),
     "lru_trace": Crate(["lru_trace"], """
-        use lru_trace::Curve;
+        use lru_trace::{ByteCurve, Curve};
         use std::test::Fail;
         use test_helpers::{all, check};"""),
 }

@@ -12,3 +12,7 @@ pub mod Written
 pub mod Times
 pub mod SeenTimes
 pub mod Turns
+pub mod SizedCosts
+pub mod SizedSteps
+pub mod SizedKeys
+pub mod SizedRecency

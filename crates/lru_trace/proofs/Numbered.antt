@@ -63,14 +63,14 @@ module _ (number : List ℕ → Option ℕ)
               let same : m ≡ n = same_Some m n (sym d ∙ ap number ((bytes_eq-Decides a b).0 h) ∙ e) in
               sym (eq-eqb m n same) ∙ other
 
-  is_in_named : (x : List ℕ) (n : ℕ) → number x ≡ Some n → (xs : List (List ℕ)) (ns : List ℕ) → Named number xs ns
+  pub is_in_named : (x : List ℕ) (n : ℕ) → number x ≡ Some n → (xs : List (List ℕ)) (ns : List ℕ) → Named number xs ns
       → is_in bytes_eq x xs ≡ is_in nat_eq n ns
   is_in_named x n e [] [] h = refl
   is_in_named x n e [] (k ∷ ns) h = absurd h
   is_in_named x n e (y ∷ xs) [] h = absurd h
   is_in_named x n e (y ∷ xs) (k ∷ ns) h = rw (same_test x y n k e h.0, is_in_named x n e xs ns h.1) refl
 
-  since_named : (x : List ℕ) (n : ℕ) → number x ≡ Some n → (xs : List (List ℕ)) (ns : List ℕ) → Named number xs ns
+  pub since_named : (x : List ℕ) (n : ℕ) → number x ≡ Some n → (xs : List (List ℕ)) (ns : List ℕ) → Named number xs ns
       → Named number (since bytes_eq x xs) (since nat_eq n ns)
   since_named x n e [] [] h = tt
   since_named x n e [] (k ∷ ns) h = absurd h
@@ -96,7 +96,7 @@ module _ (number : List ℕ → Option ℕ)
       go true later = h.1
       go false later = (h.0, later)
 
-  recency_named : (xs : List (List ℕ)) (ns : List ℕ) → Named number xs ns
+  pub recency_named : (xs : List (List ℕ)) (ns : List ℕ) → Named number xs ns
       → Named number (recency bytes_eq xs) (recency nat_eq ns)
   recency_named [] [] h = tt
   recency_named [] (k ∷ ns) h = absurd h
@@ -182,7 +182,7 @@ module _ (old new : List (String Global × ℕ)) (key : List ℕ) (number : ℕ)
   pub found_more : number_in new key ≡ Some number
   found_more = after key ∙ ap (λ b. cond b (Some number) (number_in old key)) ((bytes_eq-Decides key key).1 refl)
 
-  cases : (x : List ℕ) (n : ℕ) → number_in new x ≡ Some n
+  pub cases : (x : List ℕ) (n : ℕ) → number_in new x ≡ Some n
       → ((key ≡ x) × (number ≡ n)) ⊎ (number_in old x ≡ Some n)
   cases x n e = go (bytes_eq key x) refl (sym (after x) ∙ e)
     where

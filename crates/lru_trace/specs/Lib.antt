@@ -11,3 +11,4 @@ pub mod Svg
 pub mod Report
 pub mod Outcome
 pub mod Times
+pub mod Sized

@@ -115,6 +115,13 @@ impl Distances {
         Ok(key)
     }
 
+    /// Returns how many keys were referenced.
+    pub fn referenced(&self) -> usize
+        ensures { result ≡ length self.now.recency }
+    {
+        self.used
+    }
+
     /// Returns the weight of a key.
     pub fn weight(&self, key: usize) -> u64
         ensures { result ≡ weight_in self.now.weights key }

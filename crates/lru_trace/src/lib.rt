@@ -5,6 +5,7 @@
 #![tactic(auto)]
 
 mod best;
+mod byte_curve;
 mod columns;
 mod curve;
 mod distances;
@@ -23,6 +24,7 @@ mod tree;
 mod warm_ups;
 
 pub use best::Best;
+pub use byte_curve::{ByteCurve, SizeError};
 pub use curve::Curve;
 pub use distances::Distances;
 pub use lines::{Others, read_keys};

@@ -1,5 +1,5 @@
 //! Tests the texts of errors.
-use lru_trace::TraceError;
+use lru_trace::{SizeError, TraceError};
 use std::test::Fail;
 use test_helpers::check;
 
@@ -9,6 +9,12 @@ fn of_the_errors(rt: HostRuntime) -> Result<(), Fail> {
         (TraceError::Read, "read failed"),
         (TraceError::Write, "write failed"),
         (TraceError::Memory, "out of memory"),
+    ] {
+        check!(rt; format!(in rt.alloc(); "{error}")?.as_str() == text);
+    }
+    for (error, text) in [
+        (SizeError::Memory, "out of memory"),
+        (SizeError::TooLarge, "the sizes of the keys are too large"),
     ] {
         check!(rt; format!(in rt.alloc(); "{error}")?.as_str() == text);
     }

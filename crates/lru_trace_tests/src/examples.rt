@@ -1,7 +1,20 @@
 //! Written by `docs/examples.py` from the examples in the doc comments. Do not change it by hand.
-use lru_trace::Curve;
+use lru_trace::{ByteCurve, Curve};
 use std::test::Fail;
 use test_helpers::{all, check};
+
+#[test]
+fn of_byte_curve(rt: HostRuntime) -> Result<(), Fail> {
+    let alloc = rt.alloc();
+    let mut curve = ByteCurve::new(alloc, vec![in alloc; 10, 30]?)?;
+    for (key, bytes) in [("a", 10), ("b", 20), ("a", 10), ("a", 10)] {
+        if curve.references() < u64::MAX && curve.refer(key, bytes).is_err() {
+            break;
+        }
+    }
+    check!(rt; (curve.misses(10), curve.misses(30), curve.misses(20)) == (Some(3), Some(2), None));
+    Ok(())
+}
 
 #[test]
 fn of_curve(rt: HostRuntime) -> Result<(), Fail> {

@@ -58,6 +58,11 @@ impl Distances {
         Ok(key)
     }
 
+    /// Returns how many keys were referenced.
+    pub fn referenced(&self) -> usize {
+        self.used
+    }
+
     /// Returns the weight of a key.
     pub fn weight(&self, key: usize) -> u64 {
         match self.weights.get(key) {

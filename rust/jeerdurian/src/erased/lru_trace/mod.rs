@@ -8,6 +8,7 @@
 use crate::rattle_std::prelude::*;
 
 mod best;
+mod byte_curve;
 mod columns;
 mod curve;
 mod distances;
@@ -26,6 +27,7 @@ mod tree;
 mod warm_ups;
 
 pub use best::Best;
+pub use byte_curve::{ByteCurve, SizeError};
 pub use curve::Curve;
 pub use distances::Distances;
 pub use lines::{Others, read_keys};

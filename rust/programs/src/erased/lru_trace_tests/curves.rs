@@ -3,7 +3,7 @@
 #[allow(unused_imports)]
 use crate::rattle_std::prelude::*;
 
-use crate::erased::lru_trace::TraceError;
+use crate::erased::lru_trace::{SizeError, TraceError};
 use crate::programs::test_helpers::check;
 use crate::rattle_std::test::Fail;
 
@@ -15,6 +15,11 @@ fn of_the_errors() {
             (TraceError::Write, "write failed"),
             (TraceError::Memory, "out of memory"),
         ] {
+            check!(rt; format!(in rt.alloc(); "{error}")?.as_str() == text);
+        }
+        for (error, text) in
+            [(SizeError::Memory, "out of memory"), (SizeError::TooLarge, "the sizes of the keys are too large")]
+        {
             check!(rt; format!(in rt.alloc(); "{error}")?.as_str() == text);
         }
         Ok(())

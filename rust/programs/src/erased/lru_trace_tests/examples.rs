@@ -3,9 +3,25 @@
 #[allow(unused_imports)]
 use crate::rattle_std::prelude::*;
 
-use crate::erased::lru_trace::Curve;
+use crate::erased::lru_trace::{ByteCurve, Curve};
 use crate::programs::test_helpers::{all, check};
 use crate::rattle_std::test::Fail;
+
+#[test]
+fn of_byte_curve() {
+    let run = |rt: HostRuntime| -> Result<(), Fail> {
+        let alloc = rt.alloc();
+        let mut curve = ByteCurve::new(alloc, vec![in alloc; 10, 30]?)?;
+        for (key, bytes) in [("a", 10), ("b", 20), ("a", 10), ("a", 10)] {
+            if curve.references() < u64::MAX && curve.refer(key, bytes).is_err() {
+                break;
+            }
+        }
+        check!(rt; (curve.misses(10), curve.misses(30), curve.misses(20)) == (Some(3), Some(2), None));
+        Ok(())
+    };
+    run(HostRuntime).passes();
+}
 
 #[test]
 fn of_curve() {

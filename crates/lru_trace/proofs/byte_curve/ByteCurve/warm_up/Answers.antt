@@ -1,0 +1,18 @@
+use Rattle.std.proofs.Common.{◌++◌, ◌∷◌, [], sym, subst}
+use Rattle.lru_trace.specs.Counted.{AreNumbered}
+use Rattle.lru_trace.specs.Sized.{IsSizedOf}
+use Rattle.lru_trace.proofs.CurveSteps.{always_err}
+use Rattle.lru_trace.proofs.SizedSteps.{of_sizes, of_warm}
+use Rattle.lru_trace.proofs.byte_curve.ByteCurve.warm_up.Goals as goal
+
+pub returns-in_err-make-clause-err : goal.returns-in_err-make-clause-err
+returns-in_err-make-clause-err c = always_err c.from_residual.result (λ warm trace of.
+    let are = subst (λ v. AreNumbered v.names c.self.inside.distances.keys) c.self.view_is c.self.invariant.numbered in
+    subst (IsSizedOf warm trace) (sym c.in_err-make.ensures.err)
+    (of_sizes of are c.make.new.self.sizes c.in_err-make.ensures.sizes))
+
+pub returns-clause-ok : goal.returns-clause-ok
+returns-clause-ok c = λ warm of.
+    let are = subst (λ v. AreNumbered v.names c.self.inside.distances.keys) c.self.view_is c.self.invariant.numbered in
+    subst (IsSizedOf (warm ++ (c.args.key.now, c.args.bytes) ∷ []) []) (sym c.make.ensures.rest)
+    (of_warm of are c.args.key.now c.args.bytes c.in_ok-make.field-0 c.make.new.self c.in_ok-make.ensures.made)

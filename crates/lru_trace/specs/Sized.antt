@@ -1,0 +1,94 @@
+-- The curve of a trace whose references say the sizes of their keys.
+use Rattle.std.specs.Prelude.{◌≡◌, ℕ, ◌+◌, ◌^◌, ◌<◌, Bool, true, nat_lt, List, [], ◌∷◌, ◌++◌, length, map, take, sum, sum_by}
+use Rattle.std.specs.Prelude.{get_or, Option, Some, None, nat_eq, String}
+use Rattle.std.specs.Global.{Global}
+use Rattle.std.specs.List.Sorted.{IsNonDecreasing}
+use Rattle.std.specs.Map.{lookup, keys_of}
+use Rattle.std.specs.Option.{unwrap_or, option_map}
+use Rattle.std.specs.Str.{bytes_eq}
+use Rattle.lru_theory.specs.Traces.{is_in, recency, past_after}
+use Rattle.lru_theory.specs.Budgets.{misses_within}
+use Rattle.lru_trace.specs.Counted.{AreNumbered, number_in}
+use Rattle.std.specs.Set.{remove_key}
+use Rattle.lru_trace.specs.Slots.{Recent, position, weight_in}
+
+-- what the first reference to the key says
+abbrev pub first_size : List (List ℕ × ℕ) → List ℕ → Option ℕ
+first_size references key = lookup (bytes_eq key) references
+
+abbrev pub size_in : List (List ℕ × ℕ) → List ℕ → ℕ
+size_in references key = unwrap_or (first_size references key) 0
+
+-- How many references of the trace, after the warm-up, miss in an LRU cache with this limit of bytes. The key of a
+-- reference has the size that its first reference says, also in the warm-up.
+abbrev pub missed_within : ℕ → List (List ℕ × ℕ) → List (List ℕ × ℕ) → ℕ
+missed_within limit warm trace =
+    misses_within bytes_eq (size_in (warm ++ trace)) limit (past_after [] (keys_of warm)) (keys_of trace)
+
+pub record Sized : Type 0 where
+  pub names : List (String Global × ℕ)
+  -- the numbers of the keys, the last referenced first
+  pub recency : List ℕ
+  -- the size of each number
+  pub sizes : List ℕ
+  pub limits : List ℕ
+  -- how many counted references need at most each limit, and more than the limit before; and how many miss at any limit
+  pub counts : List ℕ
+  pub references : ℕ
+
+-- the sizes of all keys together
+abbrev pub total_of : Sized → ℕ
+total_of curve = sum_by (weight_in curve.sizes) curve.recency
+
+-- What a reference to the key needs: the size of the key, and the sizes of the keys before it in the recency list. If
+-- this is the first reference to the key, `None`.
+abbrev pub need_of : (ℕ → ℕ) → ℕ → List ℕ → Option ℕ
+need_of size key recency = option_map (λ behind. size key + behind) (position size key recency)
+
+-- whether a reference that needs this much misses in a cache with the limit
+abbrev pub exceeds : Option ℕ → ℕ → Bool
+exceeds None limit = true
+exceeds (Some need) limit = nat_lt limit need
+
+-- the named keys have the same sizes
+abbrev pub KeepsSizes : Sized → Sized → Type 0
+KeepsSizes old new = (key : List ℕ) (number : ℕ) → number_in old.names key ≡ Some number →
+    weight_in new.sizes number ≡ weight_in old.sizes number
+
+-- A reference to the key was made, but not yet counted. It needs `need`.
+pub record Made (key : List ℕ) (bytes : ℕ) (need : Option ℕ) (old new : Sized) : Type 0 where
+  pub number : ℕ
+  pub named : number_in new.names key ≡ Some number
+  pub others : (other : List ℕ) (n : ℕ) → number_in old.names other ≡ Some n → number_in new.names other ≡ Some n
+  pub sizes : KeepsSizes old new
+  pub first : number_in old.names key ≡ None → weight_in new.sizes number ≡ bytes
+  pub only : (other : List ℕ) (n : ℕ) → number_in new.names other ≡ Some n → number_in old.names other ≡ None → other ≡ key
+  pub recency : new.recency ≡ number ∷ remove_key (nat_eq number) old.recency
+  pub needs : need ≡ need_of (weight_in new.sizes) number old.recency
+
+-- the curve of the references `trace`, which come after the warm-up `warm`
+pub record IsSizedOf (warm trace : List (List ℕ × ℕ)) (curve : Sized) : Type 0 where
+  pub before : List ℕ
+  pub numbers : List ℕ
+  pub warmed : map (number_in curve.names) (keys_of warm) ≡ map Some before
+  pub named : map (number_in curve.names) (keys_of trace) ≡ map Some numbers
+  pub sized : (key : List ℕ) (number : ℕ) → number_in curve.names key ≡ Some number →
+      first_size (warm ++ trace) key ≡ Some (weight_in curve.sizes number)
+  pub order : curve.recency ≡ recency nat_eq (past_after (past_after [] before) numbers)
+  pub hits : (i : ℕ) → i < length curve.limits →
+      misses_within nat_eq (weight_in curve.sizes) (get_or curve.limits i 0) (past_after [] before) numbers
+      + sum (take (i + 1) curve.counts) ≡ curve.references
+  pub all : curve.references ≡ length trace
+
+-- what is true for every curve
+pub record IsSized (names : List (String Global × ℕ)) (recent : Recent) (limits counts : List ℕ)
+    (references total : ℕ) : Type 0 where
+  pub numbered : AreNumbered names recent.keys
+  pub aligned : length recent.weights ≡ recent.keys
+  pub within : (number : ℕ) → is_in nat_eq number recent.recency ≡ true → number < recent.keys
+  pub known : (key : List ℕ) (number : ℕ) → number_in names key ≡ Some number → is_in nat_eq number recent.recency ≡ true
+  pub whole : total ≡ sum_by (weight_in recent.weights) recent.recency
+  pub small : total < 2 ^ 64
+  pub rising : IsNonDecreasing limits
+  pub long : length counts ≡ length limits + 1
+  pub counted : sum counts ≡ references

@@ -1,0 +1,183 @@
+// Erased from crates/lru_trace/src/byte_curve.rt: do not edit.
+//! The misses of a trace in LRU caches with limits of bytes.
+
+#[allow(unused_imports)]
+use crate::rattle_std::prelude::*;
+
+use crate::erased::lru_trace::distances::Distances;
+use crate::rattle_std::alloc::{AllocError, Global};
+use crate::rattle_std::collections::HashMap;
+
+/// Why a reference was not made.
+#[derive(Clone, Copy, Debug, PartialEq, Eq)]
+pub enum SizeError {
+    Memory,
+    /// The sizes of all keys would sum to 2 ^ 64 or more.
+    TooLarge,
+}
+
+impl ::core::fmt::Display for SizeError {
+    fn fmt(&self, f: &mut ::core::fmt::Formatter<'_>) -> ::core::fmt::Result {
+        match self {
+            SizeError::Memory => write!(f, "out of memory"),
+            SizeError::TooLarge => write!(f, "the sizes of the keys are too large"),
+        }
+    }
+}
+
+impl From<AllocError> for SizeError {
+    fn from(_: AllocError) -> Self {
+        SizeError::Memory
+    }
+}
+
+/// The misses of a trace in LRU caches with limits of bytes, counted in one pass.
+///
+/// A reference needs the size of its key and of the other keys that were referenced after its last reference. It misses
+/// if it is the first reference to its key, or if it needs more than the limit. The size of a key is what its first
+/// reference says. The memory is in proportion to the number of keys and of limits.
+///
+/// ```text
+/// let mut curve = ByteCurve::new(alloc, vec![in alloc; 10, 30]?)?;
+/// for (key, bytes) in [("a", 10), ("b", 20), ("a", 10), ("a", 10)] {
+///     if curve.references() < u64::MAX && curve.refer(key, bytes).is_err() {
+///         break;
+///     }
+/// }
+/// assert_eq!(rt; (curve.misses(10), curve.misses(30), curve.misses(20)), (Some(3), Some(2), None));
+/// ```
+
+pub struct ByteCurve {
+    numbers: HashMap<String, usize>,
+    distances: Distances,
+    limits: Vec<u64>,
+    counts: Vec<u64>,
+    references: u64,
+    total: u64,
+    alloc: Global,
+}
+
+/// Returns the index of the first limit that is not exceeded, or else the number of limits.
+fn count_of(limits: &[u64], need: Option<u64>) -> usize {
+    if let Some(need) = need {
+        for i in 0..limits.len() {
+            if need <= (*at!(limits, i)) {
+                return i;
+            }
+        }
+    }
+    limits.len()
+}
+
+impl ByteCurve {
+    /// Makes the curve of a trace without references, for these limits.
+    ///
+    /// # Errors
+    ///
+    /// Out of memory.
+    pub fn new(alloc: Global, limits: Vec<u64>) -> Result<Self, AllocError> {
+        let mut limits = limits;
+        limits.sort_unstable();
+        let counts = vec![in alloc; 0; limits.len() + 1]?;
+        Ok(ByteCurve {
+            numbers: HashMap::new(alloc),
+            distances: Distances::new(alloc)?,
+            limits,
+            counts,
+            references: 0,
+            total: 0,
+            alloc,
+        })
+    }
+
+    fn find(&mut self, number: usize) -> Result<Option<u64>, AllocError> {
+        let size = self.distances.weight(number);
+        match self.distances.refer(number)? {
+            Some(behind) => Ok(Some(size + behind)),
+            None => Ok(None),
+        }
+    }
+
+    fn add(&mut self, key: &str, bytes: u64) -> Result<(), SizeError> {
+        let Some(total) = self.total.checked_add(bytes) else {
+            return Err(SizeError::TooLarge);
+        };
+        self.distances.reserve()?;
+        let name = String::from_str(self.alloc, key)?;
+        let number = self.distances.add_weighed_key(bytes)?;
+        let Ok(_) = self.numbers.insert(name, number) else {
+            return Err(SizeError::Memory);
+        };
+        self.distances.refer(number)?;
+        self.total = total;
+        Ok(())
+    }
+
+    fn make(&mut self, key: &str, bytes: u64) -> Result<Option<u64>, SizeError> {
+        if let Some(number) = self.numbers.get(key) {
+            let number = *number;
+            return Ok(self.find(number)?);
+        }
+        self.add(key, bytes)?;
+        Ok(None)
+    }
+
+    fn count(&mut self, need: Option<u64>) {
+        let at = count_of(&self.limits, need);
+        (*at_mut!(self.counts, at)) += 1;
+        self.references += 1;
+    }
+
+    /// References a key without counting the reference. Call this before the first `refer`.
+    ///
+    /// Cost: as `refer`.
+    ///
+    /// # Errors
+    ///
+    /// As `refer`. The key was not referenced.
+    pub fn warm_up(&mut self, key: &str, bytes: u64) -> Result<(), SizeError> {
+        let _names = &self.numbers;
+        self.make(key, bytes)?;
+        Ok(())
+    }
+
+    /// References a key, and counts the reference. If the key was referenced before, ignores `bytes`.
+    ///
+    /// Cost: `O(log n + m)` expected for n keys and m limits, amortised over the references.
+    ///
+    /// # Errors
+    ///
+    /// `Memory`: out of memory. `TooLarge`: the sizes of all keys would sum to 2 ^ 64 or more. In both cases the
+    /// reference is not counted.
+    pub fn refer(&mut self, key: &str, bytes: u64) -> Result<(), SizeError> {
+        let _names = &self.numbers;
+        let need = self.make(key, bytes)?;
+        self.count(need);
+        Ok(())
+    }
+
+    /// Returns how many references were counted.
+    pub fn references(&self) -> u64 {
+        self.references
+    }
+
+    /// Returns how many different keys were referenced, also in the warm-up.
+    pub fn keys(&self) -> usize {
+        self.distances.referenced()
+    }
+
+    /// Returns how many counted references miss in an LRU cache with this limit. If the curve does not have the limit,
+    /// returns `None`.
+    ///
+    /// Cost: in proportion to the number of limits.
+    pub fn misses(&self, limit: u64) -> Option<u64> {
+        let mut misses = self.references;
+        for i in 0..self.limits.len() {
+            misses -= (*at!(self.counts, i));
+            if (*at!(self.limits, i)) == limit {
+                return Some(misses);
+            }
+        }
+        None
+    }
+}
