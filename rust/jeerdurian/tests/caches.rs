@@ -3,7 +3,7 @@
 
 use jeerdurian::caches::{CountedMap, Loader, Memo, OrderedMap};
 use jeerdurian::tenants::TenantCache;
-use jeerdurian::trace::Curve;
+use jeerdurian::trace::{ByteCurve, Curve};
 use jeerdurian::{ByCost, ByLength, ByMemoryUsage, LruMap, RandomState};
 use std::cell::Cell;
 use std::collections::BTreeMap;
@@ -310,5 +310,32 @@ fn counts_are_those_of_a_plain_list() {
         let counted_so_far = (counts.hits, counts.misses, counts.insertions, counts.evictions, counts.rejections);
         assert_eq!(counted_so_far, (hits, misses, insertions, evictions, 0));
         assert_eq!(counted.len(), list.len());
+    }
+}
+
+#[test]
+fn a_curve_of_bytes_is_a_simulation() {
+    let limits = [0, 100, 700, 3000];
+    let mut curve = ByteCurve::new(&limits).unwrap();
+    // For each limit, the keys of a cache, the newest first, and how often it missed.
+    let mut caches: Vec<(u64, Vec<u64>, u64)> = limits.iter().map(|limit| (*limit, Vec::new(), 0)).collect();
+    let size = |key: u64| key * 13 % 97;
+    let mut state = 3;
+    for _ in 0..20_000 {
+        let key = next(&mut state, 200).min(next(&mut state, 200));
+        curve.refer(&key.to_string(), size(key)).unwrap();
+        for (limit, keys, missed) in &mut caches {
+            match keys.iter().position(|other| *other == key) {
+                Some(place) => drop(keys.remove(place)),
+                None => *missed += 1,
+            }
+            keys.insert(0, key);
+            while keys.iter().map(|key| size(*key)).sum::<u64>() > *limit {
+                keys.pop();
+            }
+        }
+    }
+    for (limit, _, missed) in caches {
+        assert_eq!(curve.misses(limit), Some(missed), "{limit} bytes");
     }
 }
