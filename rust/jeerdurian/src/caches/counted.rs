@@ -16,7 +16,8 @@ use core::hash::{BuildHasher, Hash};
 ///
 /// let mut counted = CountedMap::new(LruMap::new(ByLength::new(1)));
 /// assert!(counted.insert("a", 1) && counted.insert("b", 2));
-/// assert_eq!((counted.get(&"a"), counted.get(&"b")), (None, Some(&2)));
+/// assert_eq!(counted.get(&"a"), None);
+/// assert_eq!(counted.get(&"b"), Some(&2));
 /// let counts = counted.counts();
 /// assert_eq!((counts.hits, counts.misses, counts.insertions, counts.evictions), (1, 1, 2, 1));
 /// ```
