@@ -133,6 +133,16 @@ fn many_entries_of_a_tenant() {
     assert_eq!(bytes.close(&1), Ok(30_000));
 }
 
+/// A tenant with the bytes of its name fits exactly what is left.
+#[test]
+fn a_name_takes_its_bytes() {
+    let (mut bytes, name) = (Bytes::new(20_000), "b".repeat(100));
+    assert_eq!(bytes.open(String::new(), 100), Ok(()));
+    let most = bytes.left() - name.owned_bytes();
+    assert_eq!(bytes.open(copy(&name), most + 1), Err(TenantError::OverTotal));
+    assert_eq!((bytes.open(name, most), bytes.left()), (Ok(()), 0));
+}
+
 /// A refused request for memory is `Memory`, and the tenants stay.
 #[test]
 fn refused_memory() {
