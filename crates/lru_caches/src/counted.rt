@@ -27,10 +27,10 @@ pub struct Counts {
     pub misses: u64,
     /// How many inserts left their key in the cache.
     pub insertions: u64,
-    /// How many inserts did not leave their key in the cache, although memory did not run out: the limiter rejected the
-    /// entry, or no table could hold the entry.
+    /// How many inserts returned `Ok(false)`: the limiter rejected the entry, no table could hold it, or it was evicted
+    /// at once.
     pub rejections: u64,
-    /// How many entries were evicted by inserts.
+    /// How many entries of other keys inserts evicted.
     pub evictions: u64,
 }
 

@@ -1,7 +1,7 @@
 //! The tenants and the ordered map, compared with plain lists, and with keys whose `==` and `Hash` say anything and panic:
 //! nothing is dropped twice or used after its drop.
 
-use jeerdurian::caches::{CountedMap, Loader, Memo, OrderedMap};
+use jeerdurian::caches::{CountedMap, Counts, Loader, Memo, OrderedMap};
 use jeerdurian::tenants::TenantCache;
 use jeerdurian::trace::{ByteCurve, Curve};
 use jeerdurian::{ByCost, ByLength, ByMemoryUsage, LruMap, RandomState};
@@ -270,47 +270,63 @@ fn a_curve_of_many_keys() {
     assert_eq!([1, 60, 5999, 6000].map(|n| curve.misses(n)), [12_000, 12_000, 12_000, 6000]);
 }
 
+/// Makes a call on a map that counts and on a list of keys with values, newest first, and counts the call.
+fn count(counted: &mut CountedMap<Key, Key>, list: &mut Vec<(u64, u64)>, limit: usize, call: [u64; 3]) -> Counts {
+    let ([kind, key, value], mut counts) = (call, Counts::default());
+    let (name, place) = (Key::new(key), list.iter().position(|entry| entry.0 == key));
+    let old = place.map(|place| list[place].1);
+    assert_eq!(counted.peek(&name).map(|it| *it.0), old);
+    match kind {
+        0 | 1 => {
+            assert_eq!(counted.get(&name).map(|it| *it.0), old);
+            counts = Counts { hits: old.is_some() as u64, misses: old.is_none() as u64, ..counts };
+            place.into_iter().for_each(|place| list[..=place].rotate_right(1));
+        }
+        2 | 3 => {
+            assert!(counted.insert(Key::new(key), Key::new(value)));
+            place.into_iter().for_each(|place| _ = list.remove(place));
+            list.insert(0, (key, value));
+            counts = Counts { insertions: 1, evictions: (list.len() > limit) as u64, ..counts };
+            list.truncate(limit);
+        }
+        _ => assert_eq!(counted.remove(&name).map(|it| *it.0), place.map(|place| list.remove(place).1)),
+    }
+    counts
+}
+
 #[test]
 fn counts_are_those_of_a_plain_list() {
-    let mut counted = CountedMap::new(LruMap::<u64, u64, _>::new(ByLength::new(50)));
-    let mut list: Vec<u64> = Vec::new(); // newest first
-    let (mut hits, mut misses, mut insertions, mut evictions) = (0, 0, 0, 0);
-    let mut state = 7;
-    for _ in 0..100_000 {
-        let key = next(&mut state, 120);
-        let place = list.iter().position(|other| *other == key);
-        match next(&mut state, 5) {
-            0 | 1 => {
-                assert_eq!(counted.get(&key).is_some(), place.is_some());
-                if let Some(place) = place {
-                    let key = list.remove(place);
-                    list.insert(0, key);
-                    hits += 1;
-                } else {
-                    misses += 1;
-                }
-            }
-            2 | 3 => {
-                assert!(counted.insert(key, key));
-                if let Some(place) = place {
-                    list.remove(place);
-                }
-                list.insert(0, key);
-                insertions += 1;
-                if list.len() > 50 {
-                    list.pop();
-                    evictions += 1;
-                }
-            }
-            _ => {
-                assert_eq!(counted.remove(&key), place.map(|place| list.remove(place)));
-            }
+    for (limit, keys) in [(1, 3), (50, 120), (1500, 4000)] {
+        let mut counted = CountedMap::new(LruMap::new(ByLength::new(limit as u32)));
+        let (mut state, mut list, mut most) = (7, Vec::new(), 0);
+        for value in 0..20_000 {
+            let call = [next(&mut state, 5), next(&mut state, keys), value];
+            let counts = count(&mut counted, &mut list, limit, call);
+            assert_eq!(if value % 2 == 0 { counted.take_counts() } else { counted.counts() }, counts, "call {value}");
+            assert_eq!(counted.take_counts(), if value % 2 == 0 { Counts::default() } else { counts });
+            assert_eq!((counted.len(), counted.is_empty()), (list.len(), list.is_empty()));
+            assert_eq!(LIVE.get(), 2 * list.len() as i64);
+            most = most.max(list.len());
         }
-        let counts = counted.counts();
-        let counted_so_far = (counts.hits, counts.misses, counts.insertions, counts.evictions, counts.rejections);
-        assert_eq!(counted_so_far, (hits, misses, insertions, evictions, 0));
-        assert_eq!(counted.len(), list.len());
+        let map = counted.into_map();
+        assert!(map.iter().map(|(key, value)| (*key.0, *value.0)).eq(list) && most == limit);
     }
+    assert_eq!(LIVE.get(), 0);
+}
+
+/// Counts add up, a rejection of a new value evicts nothing, and one insert may evict many entries.
+#[test]
+fn rejections_and_evictions_are_counted() {
+    let mut counted = CountedMap::new(LruMap::<u64, u64, _>::new(ByCost::new(100)));
+    (0..100).for_each(|n| assert!(counted.insert(n, 1)));
+    assert!(!counted.insert(5, 101) && !counted.insert(200, 101));
+    assert_eq!(counted.counts(), Counts { insertions: 100, rejections: 2, ..Counts::default() });
+    assert!(counted.insert(7, 70));
+    assert_eq!(counted.counts(), Counts { insertions: 101, rejections: 2, evictions: 68, ..Counts::default() });
+    assert_eq!((counted.peek(&5), counted.len()), (None, 31));
+    let mut counted = CountedMap::new(LruMap::<u64, u64, _>::new(ByLength::new(0)));
+    assert!(!counted.insert(1, 1) && !counted.insert(1, 1));
+    assert_eq!(counted.counts(), Counts { rejections: 2, ..Counts::default() });
 }
 
 #[test]

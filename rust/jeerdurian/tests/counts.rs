@@ -1,6 +1,7 @@
 //! How often and when callbacks are called, which no clause of a contract says.
 
-use jeerdurian::caches::{FileDevice, PageCache};
+use jeerdurian::caches::{CountedMap, FileDevice, PageCache};
+use jeerdurian::tenants::ByteTenants;
 use jeerdurian::{Admission, Limiter, LruMap, More, UnlimitedCompact, Updated};
 use std::cell::{Cell, RefCell};
 use std::hash::{BuildHasherDefault, DefaultHasher};
@@ -263,9 +264,10 @@ fn calls_and_moves_hash_once() {
 }
 
 /// A hasher that shares its count.
-struct Shared(Rc<Builds>);
+#[derive(Clone, Copy)]
+struct Shared<'a>(&'a Builds);
 
-impl std::hash::BuildHasher for Shared {
+impl std::hash::BuildHasher for Shared<'_> {
     type Hasher = Itself;
 
     fn build_hasher(&self) -> Itself {
@@ -276,15 +278,33 @@ impl std::hash::BuildHasher for Shared {
 /// A hit and a miss of a page cache hash the number of their page once. An eviction finds its page twice.
 #[test]
 fn a_page_cache_hashes_the_number_of_a_page_once() {
-    let builds = Rc::new(Builds::default());
+    let builds = Builds::default();
     let device = FileDevice::<_, 4>::new(Cursor::new(vec![0; 40]), 10);
-    let mut cache = PageCache::with_hasher(device, 2, Shared(builds.clone()));
+    let mut cache = PageCache::with_hasher(device, 2, Shared(&builds));
     for (n, hashes) in [(0, 1), (1, 1), (1, 1), (2, 3), (2, 1)] {
         assert_eq!((cache.read(n), builds.0.replace(0)), (Ok([0; 4]), hashes));
         assert_eq!((cache.write(n, [0; 4]), builds.0.replace(0)), (Ok(()), 1));
     }
     assert_eq!((cache.write(5, [0; 4]), builds.0.replace(0)), (Ok(()), 3));
     cache.discard();
+}
+
+/// A call of a map that counts hashes its key once, and a call on a tenant's key hashes the name and the key once.
+#[test]
+fn counted_maps_and_tenants_hash_once() {
+    let builds = Builds::default();
+    let mut counted = CountedMap::new(LruMap::with_hasher(UnlimitedCompact, Shared(&builds)));
+    assert_eq!((counted.insert(1u64, 10), builds.0.replace(0)), (true, 1));
+    assert_eq!((counted.get(&1u64), builds.0.replace(0)), (Some(&10), 1));
+    assert_eq!((counted.get(&2u64), builds.0.replace(0)), (None, 1));
+    assert_eq!((counted.remove(&1u64), builds.0.replace(0)), (Some(10), 1));
+    let mut bytes = ByteTenants::with_hasher(Shared(&builds), 4000);
+    assert_eq!((bytes.open(1u64, 500), builds.0.take() > 0), (Ok(()), true));
+    assert_eq!((bytes.put(&1, 7u64, 2u64), builds.0.replace(0)), (Ok(true), 2));
+    assert_eq!((bytes.get(&1, &7), builds.0.replace(0)), (Ok(Some(&2)), 2));
+    assert_eq!((bytes.peek(&1, &7), builds.0.replace(0)), (Ok(Some(&2)), 2));
+    assert_eq!((bytes.remove(&1, &7), builds.0.replace(0)), (Ok(Some(2)), 2));
+    assert_eq!((bytes.close(&1), builds.0.replace(0)), (Ok(0), 1));
 }
 
 /// A table that stays at most half full is rehashed at its size, and never grows, by inserts of both kinds.

@@ -3,8 +3,8 @@
 
 mod refusing;
 
-use jeerdurian::caches::OrderedMap;
-use jeerdurian::{LruMap, More, UnlimitedCompact};
+use jeerdurian::caches::{CountedMap, Counts, OrderedMap};
+use jeerdurian::{ByLength, LruMap, More, UnlimitedCompact};
 use refusing::refused;
 use std::hash::{BuildHasher, Hasher};
 
@@ -95,6 +95,18 @@ fn inserts_without_growth_left() {
             assert!(map.keys().copied().eq([OF_HASH_28].into_iter().chain((28 - left..28).rev())));
         }
     }
+}
+
+/// A counted insert that runs out of memory counts what it evicted, and nothing else.
+#[test]
+fn a_counted_insert_without_memory() {
+    let mut map = LruMap::with_hasher(ByLength::new(28), Thousands::default());
+    (0..28).for_each(|n| assert!(map.insert(n, n)));
+    let mut counted = CountedMap::new(map);
+    assert_eq!(refused(1, || counted.insert(OF_HASH_28, 5)), (false, true));
+    assert_eq!((counted.take_counts(), counted.len()), (Counts { evictions: 1, ..Counts::default() }, 27));
+    assert!(counted.insert(OF_HASH_28, 5));
+    assert_eq!(counted.counts(), Counts { insertions: 1, ..Counts::default() });
 }
 
 /// No form of an insert fails above some number of entries.

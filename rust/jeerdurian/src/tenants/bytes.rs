@@ -89,7 +89,8 @@ where
     /// # Errors
     ///
     /// The tenants are unchanged. `AlreadyOpen`, or `OverTotal`: the limit and the bytes of the name are above
-    /// [`left`](Self::left). `Memory`: memory or the limit does not permit the larger table of tenants that is needed.
+    /// [`left`](Self::left). `Memory`: a larger table of tenants is needed, and memory or the limit does not permit it,
+    /// or permits it but not this tenant in it. After `Memory` the table may be larger, so `left` may be lower.
     pub fn open(&mut self, name: N, limit: u64) -> Result<(), TenantError> {
         self.bytes.open(name, limit)
     }
