@@ -1,2 +1,3 @@
 mod LookUps
+mod Others
 mod Purges

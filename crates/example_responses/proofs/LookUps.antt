@@ -22,14 +22,14 @@ use Rattle.std.specs.Prelude.{IfSome, IfOk}
 use Rattle.lru_model.proofs.PairLists.NamedPairs.{no_pair}
 use Rattle.lru_model.proofs.CallerLemmas.{read_back, written-found, promoted-absent}
 
-ok≢err : {T E : Type 0} {x : T} {e : E} → Ok x ≡ Err e → ⊥
+pub ok≢err : {T E : Type 0} {x : T} {e : E} → Ok x ≡ Err e → ⊥
 ok≢err p = true≢false (ap is_ok p)
 
 abbrev or-else : {T E : Type 0} → T → Result T E → T
 or-else x (Ok y) = y
 or-else x (Err e) = x
 
-ok-same : {T E : Type 0} {x y : T} → ◌≡◌ {A = Result T E} (Ok x) (Ok y) → x ≡ y
+pub ok-same : {T E : Type 0} {x y : T} → ◌≡◌ {A = Result T E} (Ok x) (Ok y) → x ≡ y
 ok-same {T} {E} {x} {y} p = ap (or-else x) p
 
 module _ {K V : Type 0} (names : K → Bool) where

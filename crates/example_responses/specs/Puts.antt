@@ -1,9 +1,11 @@
 -- What a put of a response does.
-use Rattle.std.specs.Prelude.{◌≡◌, ◌⊎◌, ℕ, Bool, List, Result, Err, string_bytes, string_eq}
+use Rattle.std.specs.Prelude.{◌≡◌, ◌⊎◌, ℕ, Bool, List, length, Option, Some, None, Result, Err, string_bytes, string_eq}
 use Rattle.std.specs.declared.string.String.{String}
 use Rattle.std.specs.declared.alloc.Global.{Global}
 use Rattle.lru_limits.specs.Budget.{Budget}
 use Rattle.lru_limits.specs.Rules.{Rules, Offers}
+use Rattle.lru_model.specs.Lists.{without}
+use Rattle.lru_model.specs.State.{State}
 use Rattle.lru_tenants.specs.Cache.{Cache, On}
 use Rattle.lru_tenants.specs.TenantRuns.{OfOpen, Puts}
 use Rattle.lru_tenants.specs.declared.error.TenantError.{TenantError}
@@ -19,3 +21,8 @@ PutsPath rules offers budget_of hash_of eq host path response old answer new =
     ((key : String Global) × (string_bytes key ≡ path)
     × On eq host (OfOpen (Puts rules offers budget_of string_eq hash_of key response)) old answer new)
     ⊎ ((answer ≡ Err Memory) × (new ≡ old))
+
+-- how many responses the host has for other paths than the named path
+abbrev pub others : {K S : Type 0} → (K → Bool) → Option (State K Response Budget S) → ℕ
+others names None = 0
+others names (Some map) = length (without names map.pairs)

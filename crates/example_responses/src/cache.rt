@@ -1,5 +1,5 @@
 //! A cache of responses that expire, with counts for each host.
-ghost use Rattle.std.specs.Prelude.{◌≡◌, ◌<◌, Bool, true, nat_eq, Ok, Err, None, is_some, IfOk, OnErr, IfSome};
+ghost use Rattle.std.specs.Prelude.{◌≡◌, ◌<◌, ◌-◌, Bool, true, nat_eq, Ok, Err, None, is_some, IfOk, OnErr, IfSome};
 ghost use Rattle.std.specs.Prelude.{string_bytes, string_eq, vec_len};
 ghost use Rattle.std.specs.List.{starts_with};
 ghost use Rattle.std.specs.Option.{option_map};
@@ -11,7 +11,7 @@ ghost use Rattle.lru_tenants.specs.TenantRuns.{OfOpen, IfOpen};
 ghost use Rattle.lru_tenants.specs.declared.error.TenantError.TheVariants.{Memory};
 ghost use Rattle.example_responses.specs.LookUps.{LooksUp, GetsCopy, CopiesFrom};
 ghost use Rattle.example_responses.specs.Purges.{is_below, PurgesBelow};
-ghost use Rattle.example_responses.specs.Puts.{PutsPath};
+ghost use Rattle.example_responses.specs.Puts.{PutsPath, others};
 
 use lru_caches::Counts;
 use lru_limits::{Budgeted, Insertion, KeyHasher, Limiter};
@@ -163,11 +163,17 @@ impl ResponseCache {
         Ok(("budget set", evicted))
     }
 
-    // How many responses the host has, without the response of this path.
-    fn others(&self, host: &str, path: &str) -> u64 {
-        let there = self.entries.contains(&host, &path) == Ok(true);
-        let (entries, _) = self.size(host);
-        entries.saturating_sub(there as usize) as u64
+    // How many responses the host has for other paths.
+    fn others(&self, host: &str, path: &str) -> u64
+        ensures { result ≡ others (names_text path.now) (tenant (names_text host.now) self.now.entries) }
+    {
+        match (
+            self.entries.entries(&host),
+            self.entries.contains(&host, &path),
+        ) {
+            (Ok(entries), Ok(there)) => entries.saturating_sub(there as usize) as u64,
+            _ => 0,
+        }
     }
 
     /// Stores a response. Returns whether the host has it afterwards, and how many other responses were evicted.
@@ -182,6 +188,8 @@ impl ResponseCache {
             ⟦<ByWeight<OVERHEAD> as Budgeted<String, Response>>⟧.budget_of
             ⟦<RandomState as KeyHasher<String>>⟧.hash_of string_eq (names_text host.now) path.now response
             self.old.entries result.0 self.new.entries }
+        ensures evicted { result.1 ≡ others (names_text path.now) (tenant (names_text host.now) self.old.entries)
+            - others (names_text path.now) (tenant (names_text host.now) self.new.entries) }
         ensures counts { get_by_text self.new.counts host.now
             ≡ option_map (inserted result.0 result.1) (get_by_text self.old.counts host.now) }
     {

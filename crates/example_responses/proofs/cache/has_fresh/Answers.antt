@@ -1,4 +1,4 @@
-use Rattle.std.proofs.Common.{Some, None, Ok, refl, sym, ap, ◌∙◌}
+use Rattle.std.proofs.Common.{Some, None, Ok, refl, ap, ◌∙◌}
 use Rattle.std.specs.String.{string_eq_equiv}
 use Rattle.lru_limits.specs.Texts.{names_text, names_text-lawful}
 use Rattle.lru_tenants.specs.Lending.{read}

@@ -123,11 +123,12 @@ impl ResponseCache {
         Ok(("budget set", evicted))
     }
 
-    // How many responses the host has, without the response of this path.
+    // How many responses the host has for other paths.
     fn others(&self, host: &str, path: &str) -> u64 {
-        let there = self.entries.contains(&host, &path) == Ok(true);
-        let (entries, _) = self.size(host);
-        entries.saturating_sub(there as usize) as u64
+        match (self.entries.entries(&host), self.entries.contains(&host, &path)) {
+            (Ok(entries), Ok(there)) => entries.saturating_sub(there as usize) as u64,
+            _ => 0,
+        }
     }
 
     /// Stores a response. Returns whether the host has it afterwards, and how many other responses were evicted.

@@ -1,4 +1,4 @@
-use Rattle.std.proofs.Common.{Bool, true, Ok, sym, ap, ◌∙◌}
+use Rattle.std.proofs.Common.{true, Ok, sym, ap, ◌∙◌}
 use Rattle.std.proofs.lemmas.Bool.{true≢false}
 use Rattle.std.specs.Option.{option_map}
 use Rattle.std_collections.specs.BTreeMap.{get_by_text}
