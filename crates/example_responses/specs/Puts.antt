@@ -1,4 +1,3 @@
--- What a put of a response does.
 use Rattle.std.specs.Prelude.{◌≡◌, ◌⊎◌, ℕ, Bool, List, Result, Err, string_bytes, string_eq}
 use Rattle.std.specs.declared.string.String.{String}
 use Rattle.std.specs.declared.alloc.Global.{Global}
@@ -10,7 +9,7 @@ use Rattle.lru_tenants.specs.declared.error.TenantError.{TenantError}
 use Rattle.lru_tenants.specs.declared.error.TenantError.TheVariants.{Memory}
 use Rattle.example_responses.specs.declared.cache.Response.{Response}
 
--- The response was put at a copy of the path, or memory ran out for the copy, and nothing has changed.
+-- Either the response was put at a copy of the path, or memory ran out for the copy and nothing changed.
 abbrev pub PutsPath : {N S : Type 0} → Rules (String Global) Response Budget
     → Offers (String Global) Response Budget (String Global) → (Budget → ℕ) → (S → String Global → ℕ) → (N → N → Bool)
     → (N → Bool) → List ℕ → Response → Cache N (String Global) Response Budget S → Result Bool TenantError

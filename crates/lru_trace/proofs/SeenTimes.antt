@@ -1,4 +1,3 @@
--- How the times of next references are computed, from the last reference to the first.
 use Rattle.std.proofs.Common.{◌≡◌, ◌≢◌, ℕ, suc, ◌+◌, ◌≤◌, ◌<◌, Bool, true, false, cond, List, ◌∷◌, length, take}
 use Rattle.std.proofs.Common.{drop, get_or, set, refl, sym, ap, ◌∙◌, arith, inl, inr, ◌⊎◌}
 use Rattle.std.proofs.Math.Seq.{drop-cons}

@@ -20,7 +20,8 @@ use Rattle.lru_theory.proofs.Nexts.{without_absent, later_take, ordered_take, or
 use Rattle.lru_trace.specs.Times.{next_times, with_time}
 
 module _ {K : Type 0} (eq : K → K → Bool) where
-  -- the times of the next references to those keys that occur in the trace, which begins at time i
+  -- The trace begins at time i. The list has the time of the next reference to each of the keys that occurs in the
+  -- trace.
   abbrev pub times : ℕ → List K → List K → List ℕ
   times i trace [] = []
   times i trace (key ∷ keys) = cond (nat_lt (until eq key trace) (length trace))
@@ -295,8 +296,8 @@ bit : (b : Bool) → from_bool (not b) ≡ cond b 0 1
 bit true = refl
 bit false = refl
 
--- `after end next ts` are the times after a reference, if the times before were `ts`, and the next reference to its key
--- is at time `next`.
+-- If the times before a reference were `ts`, and the next reference to its key is at time `next`, the times after the
+-- reference are `after end next ts`.
 module _ {K : Type 0} {eq : K → K → Bool} (laws : IsEquivalence eq) (refer : K → List K → List K → List K)
     (after : ℕ → ℕ → List ℕ → List ℕ)
     (step : (i : ℕ) (key : K) (rest xs : List K) → Ordered eq (key ∷ rest) xs → Ordered eq rest (refer key rest xs)
