@@ -272,7 +272,8 @@ module _ {K : Type 0} {eq : K → K → Bool} (laws : IsEquivalence eq) where
       record { key = later.key; is = later.is; end = omega (arith, later.end); next = omega (arith, later.next) }
 
 module _ {K : Type 0} (eq : K → K → Bool) (refer : K → List K → List K → List K) (trace : List K) where
-  -- A policy missed `missed` times before time `now`, and its keys are referenced again at the times `ts`.
+  -- A policy missed `missed` times before time `now`. Its keys that are referenced again are referenced next at the
+  -- times `ts`.
   pub record Missed (now missed : ℕ) (ts : List ℕ) : Type 0 where
     pub keys : List K
     pub ordered : Ordered eq (drop now trace) keys
@@ -296,8 +297,8 @@ bit : (b : Bool) → from_bool (not b) ≡ cond b 0 1
 bit true = refl
 bit false = refl
 
--- If the times before a reference were `ts`, and the next reference to its key is at time `next`, the times after the
--- reference are `after end next ts`.
+-- The trace ends at time `end`. The next reference to the key of a reference is at time `next`, or `next` is `end`. If
+-- `ts` are the times before the reference without its own time, the times after it are `after end next ts`.
 module _ {K : Type 0} {eq : K → K → Bool} (laws : IsEquivalence eq) (refer : K → List K → List K → List K)
     (after : ℕ → ℕ → List ℕ → List ℕ)
     (step : (i : ℕ) (key : K) (rest xs : List K) → Ordered eq (key ∷ rest) xs → Ordered eq rest (refer key rest xs)

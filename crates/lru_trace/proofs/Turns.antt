@@ -51,7 +51,7 @@ length-next_times eq i [] = refl
 length-next_times eq i (key ∷ trace) = ap suc (length-next_times eq (suc i) trace)
 
 -- `ts` are the times, and `left` is `ts` without the time `now`. The key of the reference at `now` is referenced again
--- at time `next`.
+-- at time `next`, unless `next` is the end of the trace.
 module _ (trace : List (List ℕ)) {nexts : List ℕ} (are : nexts ≡ next_times bytes_eq 0 trace) (now places : ℕ)
     (h : now < length nexts) (missed count next : ℕ) (found : Bool) (ts left new : List ℕ)
     (found_is : found ≡ list_any (is_at (nat_cmp now)) ts) (count_is : count ≡ from_bool (not found))

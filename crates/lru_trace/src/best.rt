@@ -8,8 +8,8 @@ use std::alloc::{AllocError, Global};
 use std::collections::BTreeSet;
 use std::marker::Model;
 
-/// For each reference of a trace, the time of the next reference to its key. From these times `Best` counts how often
-/// the best possible policies miss; `docs/THEORY.md` explains these policies.
+/// For each reference of a trace, the time of the next reference to its key, or else the length of the trace. From
+/// these times `Best` counts how often the best possible policies miss; `docs/THEORY.md` explains these policies.
 ///
 /// `Best` takes 8 bytes for each reference.
 #[derive(Drop)]
