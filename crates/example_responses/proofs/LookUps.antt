@@ -1,4 +1,3 @@
--- How a look-up of a response changes its host.
 use Rattle.std.proofs.Common.{◌≡◌, ◌<◌, ◌≤◌, ℕ, arith, Result, Ok, Err, is_ok, Bool, true, false, is_some, List, []}
 use Rattle.std.proofs.Common.{◌∷◌, Option, Some, None, cond, refl, sym, ap, ◌∙◌, subst, inl, inr}
 use Rattle.std.specs.Cmp.{IsEquivalence}
@@ -206,7 +205,6 @@ module _ {N K S : Type 0} {eq : N → N → Bool} {keys : K → K → Bool}
 
 module _ {N K S : Type 0} {eq : N → N → Bool} (names : K → Bool) (now : ℕ) (host : N → Bool)
     (old mid : Cache N K Response Budget S) where
-  -- a look-up, and then a copy of the response if it is fresh
   pub copies-fresh : (said : Result Bool TenantError) (there : Bool) (answer : Result (Option Response) TenantError)
       → On eq host (OfOpen (LooksUp names now)) old said mid → said ≡ Ok there
       → (there ≡ true → CopiesFrom names (tenant host mid) answer) → (there ≡ false → answer ≡ Ok None)

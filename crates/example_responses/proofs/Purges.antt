@@ -1,4 +1,3 @@
--- What a purge leaves.
 use Rattle.std.proofs.Common.{◌≡◌, Bool, true, false, not, List, [], ◌∷◌, filter, map, refl, sym, ap, ◌∙◌, subst, cond}
 use Rattle.std.proofs.Common.{ℕ, nat_eq, Option, Some, None, Result, Ok, is_ok}
 use Rattle.std.proofs.lemmas.Bool.{true≢false}

@@ -1,5 +1,9 @@
+<<<<<<< HEAD
 -- What a put of a response does.
 use Rattle.std.specs.Prelude.{◌≡◌, ◌⊎◌, ℕ, Bool, List, length, Option, Some, None, Result, Err, string_bytes, string_eq}
+=======
+use Rattle.std.specs.Prelude.{◌≡◌, ◌⊎◌, ℕ, Bool, List, Result, Err, string_bytes, string_eq}
+>>>>>>> 1a5f89a6873e20fd3c529df8786c1a4a460394f3
 use Rattle.std.specs.declared.string.String.{String}
 use Rattle.std.specs.declared.alloc.Global.{Global}
 use Rattle.lru_limits.specs.Budget.{Budget}
@@ -12,7 +16,7 @@ use Rattle.lru_tenants.specs.declared.error.TenantError.{TenantError}
 use Rattle.lru_tenants.specs.declared.error.TenantError.TheVariants.{Memory}
 use Rattle.example_responses.specs.declared.cache.Response.{Response}
 
--- The response was put at a copy of the path, or memory ran out for the copy, and nothing has changed.
+-- Either the response was put at a copy of the path, or memory ran out for the copy and nothing changed.
 abbrev pub PutsPath : {N S : Type 0} → Rules (String Global) Response Budget
     → Offers (String Global) Response Budget (String Global) → (Budget → ℕ) → (S → String Global → ℕ) → (N → N → Bool)
     → (N → Bool) → List ℕ → Response → Cache N (String Global) Response Budget S → Result Bool TenantError

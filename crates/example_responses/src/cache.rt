@@ -1,5 +1,9 @@
+<<<<<<< HEAD
 //! A cache of responses that expire, with counts for each host.
 ghost use Rattle.std.specs.Prelude.{◌≡◌, ◌<◌, ◌-◌, Bool, true, nat_eq, Ok, Err, None, is_some, IfOk, OnErr, IfSome};
+=======
+ghost use Rattle.std.specs.Prelude.{◌≡◌, ◌<◌, Bool, true, nat_eq, Ok, Err, None, is_some, IfOk, OnErr, IfSome};
+>>>>>>> 1a5f89a6873e20fd3c529df8786c1a4a460394f3
 ghost use Rattle.std.specs.Prelude.{string_bytes, string_eq, vec_len};
 ghost use Rattle.std.specs.List.{starts_with};
 ghost use Rattle.std.specs.Option.{option_map};
@@ -23,7 +27,7 @@ use std::collections::BTreeMap;
 /// What an entry costs in addition to the bytes of its path and of its response.
 const OVERHEAD: u64 = 64;
 
-/// A response. It is stale from the time `expires` on.
+/// A response is stale from the time `expires` on.
 #[derive(Drop)]
 pub struct Response {
     pub body: Vec<u8>,
@@ -40,7 +44,6 @@ impl Costed for Response {
 
 type Responses = TenantCache<String, String, Response, ByWeight<OVERHEAD>>;
 
-/// Looks a path up. Returns whether its response is fresh. A stale response is removed.
 fn has_fresh(entries: &mut Responses, host: &str, path: &str, now: u64) -> Result<bool, TenantError>
     ensures { On string_eq (names_text host.now) (OfOpen (LooksUp (names_text path.now) now))
         entries.old result entries.new }
@@ -163,6 +166,7 @@ impl ResponseCache {
         Ok(("budget set", evicted))
     }
 
+<<<<<<< HEAD
     // How many responses the host has for other paths.
     fn others(&self, host: &str, path: &str) -> u64
         ensures { result ≡ others (names_text path.now) (tenant (names_text host.now) self.now.entries) }
@@ -174,6 +178,12 @@ impl ResponseCache {
             (Ok(entries), Ok(there)) => entries.saturating_sub(there as usize) as u64,
             _ => 0,
         }
+=======
+    fn others(&self, host: &str, path: &str) -> u64 {
+        let there = self.entries.contains(&host, &path) == Ok(true);
+        let (entries, _) = self.size(host);
+        entries.saturating_sub(there as usize) as u64
+>>>>>>> 1a5f89a6873e20fd3c529df8786c1a4a460394f3
     }
 
     /// Stores a response. Returns whether the host has it afterwards, and how many other responses were evicted.
@@ -226,7 +236,7 @@ impl ResponseCache {
         }
     }
 
-    /// Returns a copy of a path's response, if it is fresh. A stale response is removed.
+    /// Returns a copy of the path's response if it is fresh. Removes a stale response.
     pub fn get(&mut self, host: &str, path: &str, now: u64) -> Result<Option<Response>, TenantError>
         ensures fresh { IfOk result (λ found. IfSome found (λ response. now < response.expires)) }
         ensures gets { On string_eq (names_text host.now) (OfOpen (GetsCopy (names_text path.now) now))
@@ -244,7 +254,6 @@ impl ResponseCache {
         Ok(self.entries.remove(&host, &path)?.is_some())
     }
 
-    /// Removes the responses of a host for the paths that begin with the prefix.
     pub fn purge_below(&mut self, host: &str, prefix: &str) -> Result<(), TenantError>
         ensures { On string_eq (names_text host.now) (IfOpen (PurgesBelow prefix.now))
             self.old.entries result self.new.entries }

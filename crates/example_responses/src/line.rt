@@ -1,6 +1,3 @@
-//! The lines of the program.
-
-/// When a response becomes stale.
 #[derive(Clone, Copy)]
 pub enum Expiry {
     At(u64),
@@ -11,7 +8,7 @@ pub enum Expiry {
 pub enum Line<'a> {
     Now(u64),
     Host(&'a str, u64),
-    /// A host, a path, when the response becomes stale, and its body.
+    /// The host, the path, the expiry and the body.
     Put(&'a str, &'a str, Expiry, &'a str),
     Get(&'a str, &'a str),
     Purge(&'a str, &'a str),

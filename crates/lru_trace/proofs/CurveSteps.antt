@@ -1,4 +1,3 @@
--- How one reference changes a curve.
 use Rattle.std.proofs.Common.{◌≡◌, ℕ, zero, suc, ◌+◌, ◌≤◌, ◌<◌, Bool, true, false, cond, List, [], ◌∷◌, length}
 use Rattle.std.proofs.Common.{take, map, ◌++◌}
 use Rattle.std.specs.Option.{option_map}
@@ -22,11 +21,9 @@ use Rattle.lru_trace.proofs.Logs.{without_none}
 use Rattle.std.proofs.lemmas.Option.{same_Some}
 use Rattle.lru_trace.proofs.Numbered.{Named, named_from, named_on, counted, position_within}
 
--- the place of a key in the recency list, if it is there
 abbrev pub place : ℕ → List ℕ → Option ℕ
 place key xs = cond (is_in nat_eq key xs) (Some (length (since nat_eq key xs))) None
 
--- If no key has a weight of its own, each weighs 1.
 plain_sum : (xs : List ℕ) → sum_by (weight_in []) xs ≡ length xs
 plain_sum [] = refl
 plain_sum (x ∷ xs) = omega (arith, plain_sum xs, sum_by-cons (weight_in []) x xs, one x)

@@ -1,4 +1,3 @@
--- The log of a trace: the keys in its slots, and what one reference changes.
 use Rattle.std.proofs.Common.{◌≡◌, ℕ, zero, suc, ◌+◌, ◌≤◌, ◌<◌, Bool, true, false, List, [], ◌∷◌, ◌++◌}
 use Rattle.std.proofs.Common.{length, get_or, set, take, drop, sum, Option, Some, None, refl, sym, ap, ◌∙◌, arith}
 use Rattle.std.proofs.Common.{inl, inr}
@@ -326,7 +325,6 @@ module _ {Z : Type 0} {levels : ℕ} {log : Vec (Option ℕ) Z} {slots : List (O
     | inr h ↦ not_none slot (sym (get_or_past slots key None h) ∙ is.back key slot there)
   ]
 
-  -- the keys of the first slots weigh less than 2 ^ 64 together
   pub first_fit : (n : ℕ) → sum_by weight (newest (take n log.items)) < 2 ^ 64
   first_fit n =
       let parts = ap newest (sym (take-append-drop n log.items)) ∙ newest_append (take n log.items) (drop n log.items) in

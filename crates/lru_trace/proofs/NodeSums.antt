@@ -1,4 +1,3 @@
--- A tree of sums: the sum of the nodes behind a node, and how a change of one leaf changes the tree.
 use Rattle.std.proofs.Common.{◌≡◌, ◌≢◌, ℕ, zero, suc, ◌+◌, ◌-◌, ◌*◌, ◌/◌, ◌%◌, ◌^◌, ◌≤◌, ◌<◌, List, length}
 use Rattle.std.proofs.Common.{get_or, set, drop, sum, replicate, [], ◌∷◌, refl, sym, ap, ◌∙◌, subst, arith, inl, inr}
 use Rattle.std.proofs.Math.Nat.{mod-eq_of_lt, pow-suc}
@@ -215,7 +214,7 @@ blank levels = record {
           (omega (arith, h, length-replicate {A = ℕ} (2 * 2 ^ levels) 0))
     ]
 
--- A leaf of a tree was changed, which gave `old`, and then the nodes above the leaf, but not yet those up to `node`.
+-- Changing a leaf of a tree gave `old`. Then the nodes above the leaf and below `node` were changed.
 pub record Corrects (slots levels up down : ℕ) (old t : List ℕ) (node : ℕ) : Type 0 where
   pub power : slots ≡ 2 ^ levels
   pub off : IsOff slots up down t node

@@ -1,4 +1,3 @@
--- How the lines of an input are read, one after another.
 use Rattle.std.proofs.Common.{◌≡◌, ℕ, ◌+◌, ◌<◌, Bool, true, false, cond, List, [], ◌∷◌, ◌++◌, length}
 use Rattle.std.proofs.Common.{take, drop, get_or, ◌==◌, ◌≤◌, ◌-◌, IfSome, zero, suc, Option, Some, None, OnSome, refl, sym, ap, ◌∙◌, subst, arith, append_assoc}
 use Rattle.std.specs.Prelude.{not, nat_lt, if◌then◌else◌, Result, Ok, Err, OnErr}
@@ -115,7 +114,7 @@ pub some_part : {A E : Type 0} (r : Result A E) (a b c : Option (List ℕ)) (byt
 some_part (Ok x) a b c bytes more p q = tt
 some_part (Err e) a b c bytes more p q = (bytes ++ more, Consumes-trans a b c bytes more p q)
 
--- This number of whole lines was read. The curve counts the references that they make.
+-- `lines` whole lines were read.
 pub record ReadSoFar (from to : Option (List ℕ)) (options : Options) (curve : Counted) (lines : ℕ) (others : Others)
     : Type 0 where
   pub bytes : List ℕ

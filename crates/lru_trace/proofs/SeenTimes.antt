@@ -1,4 +1,3 @@
--- How the times of next references are computed, from the last reference to the first.
 use Rattle.std.proofs.Common.{◌≡◌, ◌≢◌, ℕ, suc, ◌+◌, ◌≤◌, ◌<◌, Bool, true, false, cond, List, ◌∷◌, length, take}
 use Rattle.std.proofs.Common.{drop, get_or, set, refl, sym, ap, ◌∙◌, arith, inl, inr, ◌⊎◌}
 use Rattle.std.proofs.Math.Seq.{drop-cons}
@@ -17,7 +16,8 @@ use Rattle.lru_theory.specs.Best.{until}
 use Rattle.lru_trace.specs.Times.{next_times}
 
 -- What is known about the references from time `now` on. `nexts` has, for each reference, the time of the next
--- reference to its key. `seen` has, for each key, the time of its first reference.
+-- reference to its key. `seen` has, for each key, the time of its first reference. If there is none, both have the time
+-- at which the trace ends.
 pub record Seen (numbers nexts seen : List ℕ) (bound now : ℕ) : Type 0 where
   pub size : length nexts ≡ length numbers
   pub keys : length seen ≡ bound

@@ -1,4 +1,3 @@
--- The sizes of the keys in a recency list, as one key moves to the front.
 use Rattle.std.proofs.Common.{◌≡◌, ℕ, ◌+◌, ◌≤◌, ◌<◌, Bool, true, false, cond, List, [], ◌∷◌, ◌++◌, length}
 use Rattle.std.proofs.Common.{refl, sym, ap, ◌∙◌, arith, ◌⊎◌, inl, inr}
 use Rattle.std.proofs.lemmas.Bool.{eq-eqb, eqb-true}
@@ -105,7 +104,6 @@ sum_alike f g (x ∷ xs) same = omega (
         go true e = refl
         go false e = e
 
--- a new number, with its size, behind the sizes of the other numbers
 module _ (sizes : List ℕ) (bytes : ℕ) where
   pub size_kept : (n : ℕ) → n < length sizes → weight_in (sizes ++ bytes ∷ []) n ≡ weight_in sizes n
   size_kept n h = get_or_append_left sizes (bytes ∷ []) 1 n h

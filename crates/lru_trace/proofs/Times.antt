@@ -20,7 +20,8 @@ use Rattle.lru_theory.proofs.Nexts.{without_absent, later_take, ordered_take, or
 use Rattle.lru_trace.specs.Times.{next_times, with_time}
 
 module _ {K : Type 0} (eq : K → K → Bool) where
-  -- the times of the next references to those keys that occur in the trace, which begins at time i
+  -- The trace begins at time i. The list has the time of the next reference to each of the keys that occurs in the
+  -- trace.
   abbrev pub times : ℕ → List K → List K → List ℕ
   times i trace [] = []
   times i trace (key ∷ keys) = cond (nat_lt (until eq key trace) (length trace))
@@ -271,7 +272,8 @@ module _ {K : Type 0} {eq : K → K → Bool} (laws : IsEquivalence eq) where
       record { key = later.key; is = later.is; end = omega (arith, later.end); next = omega (arith, later.next) }
 
 module _ {K : Type 0} (eq : K → K → Bool) (refer : K → List K → List K → List K) (trace : List K) where
-  -- A policy missed `missed` times before time `now`, and its keys are referenced again at the times `ts`.
+  -- A policy missed `missed` times before time `now`. Its keys that are referenced again are referenced next at the
+  -- times `ts`.
   pub record Missed (now missed : ℕ) (ts : List ℕ) : Type 0 where
     pub keys : List K
     pub ordered : Ordered eq (drop now trace) keys
@@ -295,8 +297,8 @@ bit : (b : Bool) → from_bool (not b) ≡ cond b 0 1
 bit true = refl
 bit false = refl
 
--- `after end next ts` are the times after a reference, if the times before were `ts`, and the next reference to its key
--- is at time `next`.
+-- The trace ends at time `end`. The next reference to the key of a reference is at time `next`, or `next` is `end`. If
+-- `ts` are the times before the reference without its own time, the times after it are `after end next ts`.
 module _ {K : Type 0} {eq : K → K → Bool} (laws : IsEquivalence eq) (refer : K → List K → List K → List K)
     (after : ℕ → ℕ → List ℕ → List ℕ)
     (step : (i : ℕ) (key : K) (rest xs : List K) → Ordered eq (key ∷ rest) xs → Ordered eq rest (refer key rest xs)

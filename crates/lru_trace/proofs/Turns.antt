@@ -1,4 +1,3 @@
--- One turn of a loop of `best`. The loops compute the times of the keys of MIN.
 use Rattle.std.proofs.Common.{◌≡◌, ℕ, zero, suc, ◌+◌, ◌-◌, ◌≤◌, ◌<◌, Bool, List, [], ◌∷◌, length, take}
 use Rattle.std.proofs.Common.{get_or, refl, sym, ap, ◌∙◌, subst, arith}
 use Rattle.std.specs.BTreeMap.{is_at}
@@ -52,7 +51,7 @@ length-next_times eq i [] = refl
 length-next_times eq i (key ∷ trace) = ap suc (length-next_times eq (suc i) trace)
 
 -- `ts` are the times, and `left` is `ts` without the time `now`. The key of the reference at `now` is referenced again
--- at time `next`.
+-- at time `next`, unless `next` is the end of the trace.
 module _ (trace : List (List ℕ)) {nexts : List ℕ} (are : nexts ≡ next_times bytes_eq 0 trace) (now places : ℕ)
     (h : now < length nexts) (missed count next : ℕ) (found : Bool) (ts left new : List ℕ)
     (found_is : found ≡ list_any (is_at (nat_cmp now)) ts) (count_is : count ≡ from_bool (not found))

@@ -1,4 +1,3 @@
-//! How often the best possible policies miss. They know the rest of the trace.
 ghost use Rattle.std.specs.Prelude.{◌≡◌, ◌+◌, ◌<◌, ◌≤◌, ℕ, List, IfOk, OnOk, length, take, get_or, nat_eq};
 ghost use Rattle.std.specs.List.{All};
 ghost use Rattle.std.specs.Str.{bytes_eq};
@@ -9,8 +8,8 @@ use std::alloc::{AllocError, Global};
 use std::collections::BTreeSet;
 use std::marker::Model;
 
-/// For each reference of a trace, the time of the next reference to its key. From these times `Best` counts how often
-/// the best possible policies miss; `docs/THEORY.md` explains these policies.
+/// For each reference of a trace, the time of the next reference to its key, or else the length of the trace. From
+/// these times `Best` counts how often the best possible policies miss; `docs/THEORY.md` explains these policies.
 ///
 /// `Best` takes 8 bytes for each reference.
 #[derive(Drop)]
@@ -28,7 +27,6 @@ impl Model for Best {
 }
 
 impl Best {
-    /// Computes the times for a trace whose keys have these numbers.
     pub(crate) fn new(alloc: Global, numbers: &[usize]) -> Result<Self, AllocError>
         ensures { IfOk result (λ best. best ≡ next_times nat_eq 0 numbers.now) }
     {
@@ -49,9 +47,8 @@ impl Best {
         self.nexts[now]
     }
 
-    /// Returns how often MIN with `places` places misses, if it begins with no keys. MIN stores each referenced key, if
-    /// it has a place. If it then has too many keys, it evicts the other key whose next reference comes last. No policy with `places`
-    /// places that begins with no keys, stores each referenced key, and loads keys only on demand misses less often.
+    /// Returns how often MIN with `places` places misses if it begins with no keys. No policy with `places` places that
+    /// begins with no keys, stores each referenced key, and loads keys only on demand misses less often.
     ///
     /// Cost: for n places, `O(log n)` for each reference. The memory is in proportion to the smaller of n and the
     /// number of keys.
@@ -77,9 +74,8 @@ impl Best {
         Ok(misses)
     }
 
-    /// Returns how often MIN with bypass and `places` places misses, if it begins with no keys. This policy need not
-    /// store the referenced key. No policy with `places` places that begins with no keys, and loads keys only on
-    /// demand, misses less often.
+    /// Returns how often MIN with bypass and `places` places misses if it begins with no keys. No policy with `places`
+    /// places that begins with no keys and loads keys only on demand misses less often.
     ///
     /// Cost: as `min_misses`.
     ///
@@ -124,7 +120,7 @@ fn add(times: &mut BTreeSet<usize>, time: usize, end: usize) -> Result<(), Alloc
     }
 }
 
-/// Returns a number above all of these numbers. If one is `usize::MAX`, fails.
+/// Fails if one of the numbers is `usize::MAX`.
 fn bound_of(numbers: &[usize]) -> Result<usize, AllocError>
     ensures { IfOk result (λ bound. All (λ n. n < bound) numbers.now) }
 {

@@ -1,4 +1,3 @@
-//! The misses of a trace in LRU caches with limits of bytes.
 ghost use Rattle.std.specs.Prelude.{◌≡◌, ◌+◌, ◌-◌, ◌<◌, ◌≤◌, ◌^◌, ℕ, List, [], ◌∷◌, ◌++◌, IfOk, OnOk, OnErr, IfErr};
 ghost use Rattle.std.specs.Prelude.{length, get_or, set, nat_lt, is_some, Some, None, IfSome, true, nat_eq};
 ghost use Rattle.std.specs.List.Sorted.{IsNonDecreasing, IsPermutation};
@@ -38,9 +37,9 @@ impl From<AllocError> for SizeError {
 
 /// The misses of a trace in LRU caches with limits of bytes, counted in one pass.
 ///
-/// A reference needs the size of its key and of the other keys that were referenced after its last reference. It misses
-/// if it is the first reference to its key, or if it needs more than the limit. The size of a key is what its first
-/// reference says. The memory is in proportion to the number of keys and of limits.
+/// A reference needs the sizes of its key and of the other keys that were referenced after the last reference to this
+/// key. It misses if it is the first reference to its key, or if it needs more than the limit. The size of a key is
+/// what its first reference says. The memory is in proportion to the number of keys and of limits.
 ///
 /// ```
 /// let mut curve = ByteCurve::new(alloc, vec![in alloc; 10, 30]?)?;
@@ -80,7 +79,6 @@ impl Model for ByteCurve {
         IsSized c.numbers.entries c.distances c.limits.items c.counts.items c.references c.total };
 }
 
-/// Returns the index of the first limit that is not exceeded, or else the number of limits.
 fn count_of(limits: &[u64], need: Option<u64>) -> usize
     requires { IsNonDecreasing limits.now }
     ensures few { result ≤ length limits.now }
@@ -97,7 +95,7 @@ fn count_of(limits: &[u64], need: Option<u64>) -> usize
 }
 
 impl ByteCurve {
-    /// Makes the curve of a trace without references, for these limits.
+    /// Makes a curve without references, for these limits.
     ///
     /// # Errors
     ///
@@ -239,7 +237,6 @@ impl ByteCurve {
         Ok(())
     }
 
-    /// Returns how many references were counted.
     pub fn references(&self) -> u64
         ensures value { result ≡ self.now.references }
         ensures all { (warm trace : List (List ℕ × ℕ)) → IsSizedOf warm trace self.now → result ≡ length trace }

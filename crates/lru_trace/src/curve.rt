@@ -1,4 +1,3 @@
-//! The misses of a trace in LRU caches of every size.
 ghost use Rattle.std.specs.Prelude.{◌≡◌, ◌+◌, ◌-◌, ◌<◌, ◌≤◌, ◌^◌, ℕ, List, [], ◌∷◌, ◌++◌, IfOk, OnOk, OnErr, length};
 ghost use Rattle.std.specs.Prelude.{take, sum, Option, Some, None, IfSome, is_some, nat_eq};
 ghost use Rattle.std.specs.Set.{remove_key};
@@ -18,8 +17,7 @@ use std::marker::Model;
 /// The misses of a trace in LRU caches of every size, counted in one pass.
 ///
 /// A reference misses in a cache of n places if it is the first reference to its key, or if its reuse distance is at
-/// least n. So the curve counts how many references had each reuse distance. If the curve does not keep the references,
-/// its memory is in proportion to the number of keys.
+/// least n. If the curve does not keep the references, its memory is in proportion to the number of keys.
 ///
 /// ```
 /// let mut curve = Curve::new(alloc)?;
@@ -59,7 +57,6 @@ impl Model for Curve {
 }
 
 impl Curve {
-    /// Makes the curve of a trace without references.
     pub fn new(alloc: Global) -> Result<Self, AllocError>
         ensures of { IfOk result (IsOf [] []) }
         ensures kept { IfOk result (λ curve. curve.kept ≡ None) }
@@ -246,8 +243,7 @@ impl Curve {
         }
     }
 
-    /// Returns the times of the next references, which the best possible policies know. If the curve does not keep the
-    /// references, returns `None`.
+    /// Returns the times of the next references. If the curve does not keep the references, returns `None`.
     ///
     /// Cost: in proportion to the number of references.
     ///
@@ -265,7 +261,6 @@ impl Curve {
         }
     }
 
-    /// Returns how many references were counted.
     pub fn references(&self) -> u64
         ensures value { result ≡ self.now.references }
         ensures all { (warm trace : List (List ℕ)) → IsOf warm trace self.now → result ≡ length trace }

@@ -1,4 +1,3 @@
-//! Reuse distances of a trace, one reference at a time.
 ghost use Rattle.std.specs.Prelude.{◌≡◌, ◌+◌, ◌^◌, ◌<◌, [], ◌∷◌, ◌++◌, IfOk, OnErr, OnOk, is_ok, true, false, nat_eq};
 ghost use Rattle.std.specs.Prelude.{length, sum_by};
 ghost use Rattle.std.specs.Set.{remove_key};
@@ -9,16 +8,15 @@ use crate::tree::Tree;
 use std::alloc::{AllocError, Global};
 use std::marker::Model;
 
-/// The first log has 2 ^ `FIRST_LEVELS` slots.
 const FIRST_LEVELS: u32 = 3;
 
-/// A log has at most 2 ^ `MOST_LEVELS` slots. No memory holds more slots.
+/// No memory holds more than 2 ^ `MOST_LEVELS` slots.
 const MOST_LEVELS: u32 = 59;
 
 /// The keys of a trace, by the time of their last reference.
 ///
 /// Keys are the numbers that `add_key` or `add_weighed_key` returned. A key has the weight with which it was added, or
-/// 1. A contract sees the recency list.
+/// 1.
 ///
 /// Each reference takes the next slot of a log, and the slot that its key had before becomes free. If the log is full,
 /// the keys move to the front of a new log. If about half of the slots or more contain keys, the new log has twice as
@@ -115,14 +113,12 @@ impl Distances {
         Ok(key)
     }
 
-    /// Returns how many keys were referenced.
     pub fn referenced(&self) -> usize
         ensures { result ≡ length self.now.recency }
     {
         self.used
     }
 
-    /// Returns the weight of a key.
     pub fn weight(&self, key: usize) -> u64
         ensures { result ≡ weight_in self.now.weights key }
     {
@@ -212,7 +208,8 @@ impl Distances {
     }
 
     /// References a key, and returns the sum of the weights of the other keys that were referenced after its last
-    /// reference. If all weights are 1, this is the reuse distance. `None` means that the key was not referenced before.
+    /// reference. If all weights are 1, this is the reuse distance. If the key was not referenced before, returns
+    /// `None`.
     ///
     /// Cost: `O(log n)` for n keys, amortised over the references.
     ///

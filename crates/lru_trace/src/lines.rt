@@ -1,4 +1,3 @@
-//! The lines of a trace, and their keys.
 ghost use Rattle.std.specs.Prelude.{◌≡◌, ◌≢◌, ℕ, ◌+◌, ◌-◌, ◌^◌, ◌<◌, ◌≤◌, List, [], ◌∷◌, ◌++◌, true, false, is_some};
 ghost use Rattle.std.specs.Prelude.{IfOk, OnOk, OnErr, IfErr, MatchOption};
 ghost use Rattle.lru_trace.specs.Counted.{IsOf, Follows};
@@ -26,7 +25,6 @@ pub enum Ending {
     Nothing,
 }
 
-/// How many lines are malformed or skipped.
 #[derive(Clone, Copy, Debug, PartialEq, Eq)]
 pub struct Others {
     /// How many lines spell no key.
@@ -77,7 +75,6 @@ pub fn read_line<R: BufRead>(reader: &mut R, line: &mut Vec<u8>) -> Result<Endin
     }
 }
 
-/// Returns the key that the line spells, if it spells one.
 fn key_of(line: &[u8]) -> Option<&str>
     ensures { MatchOption result (is_key line.now ≡ false) (λ key. (key.now ≡ line.now) × (is_key line.now ≡ true)) }
 {
@@ -102,8 +99,6 @@ fn refer_key(curve: &mut Curve, warm: bool, key: &str) -> Result<(), AllocError>
     curve.refer(key)
 }
 
-/// If the line spells a key in the sample, references the key. If `warm` is false, counts the reference. Returns what
-/// the line adds to `Others`.
 fn refer_line(
     curve: &mut Curve,
     options: Options,
@@ -136,8 +131,8 @@ fn refer_line(
     })
 }
 
-/// References the key of each remaining line (see `trace`), if the key is in the sample. Returns how many lines are
-/// malformed or skipped. After each million lines, writes the number of lines to `progress`.
+/// References the key of each remaining line (see `docs/TRACE.md`) if the key is in the sample. Returns how many lines
+/// are malformed or skipped.
 ///
 /// # Errors
 ///

@@ -4,7 +4,7 @@ ghost use Rattle.lru_trace.specs.Outcome.{Begins};
 
 use std::io::{ErrorKind, Write};
 
-/// Writes the bytes, and returns whether all were written. An interrupted write is repeated.
+/// Repeats an interrupted write.
 pub fn write_bytes<W: Write>(writer: &mut W, bytes: &[u8]) -> bool
     ensures { MatchBool result (Appends (W.contents writer.old) (W.contents writer.new) bytes.now)
         (Begins (W.contents writer.old) (W.contents writer.new) bytes.now) }

@@ -9,7 +9,6 @@ use crate::best::Best;
 use crate::curve::Curve;
 use std::alloc::{AllocError, Global};
 
-/// What the head of a report says about a trace.
 #[derive(Clone, Copy)]
 pub struct Counts {
     pub references: u64,
@@ -18,7 +17,6 @@ pub struct Counts {
     pub skipped: Option<u64>,
 }
 
-/// The misses of MIN, and of MIN with bypass.
 #[derive(Clone, Copy)]
 pub struct BestMisses {
     pub min: usize,
@@ -104,7 +102,7 @@ pub fn rows_of(
     Ok(rows)
 }
 
-/// Returns a number of places. The axis of sizes ends at the first power of two that is at least this number.
+/// The axis of sizes ends at the first power of two that is at least this number.
 pub fn end_of(keys: usize, bits: u32) -> u128
     requires { bits ≤ 20 }
     ensures { result ≡ max keys 1 * 2 ^ bits }

@@ -1,4 +1,3 @@
-//! Slots with weights, and the sum of the weights behind each slot.
 ghost use Rattle.std.specs.Prelude.{◌≡◌, ◌+◌, ◌^◌, ◌<◌, IfOk, length, get_or, set, drop, replicate, sum};
 
 use std::alloc::{AllocError, Global};

@@ -1,4 +1,3 @@
-//! Tests the texts of errors.
 use lru_trace::{SizeError, TraceError};
 use std::test::Fail;
 use test_helpers::check;

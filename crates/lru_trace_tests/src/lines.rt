@@ -1,4 +1,3 @@
-//! Tests the progress of traces, and a flush that fails.
 use lru_trace::{Form, Options, Policies, Progress, TraceEnd, TraceError, trace};
 use std::io::{self, ErrorKind, Write};
 use std::test::Fail;
@@ -42,7 +41,6 @@ fn of_a_flush_that_fails(rt: HostRuntime) {
     check!(rt; end == Err(TraceError::Write));
 }
 
-/// Two million and one empty lines: each is malformed, and each counts for the progress.
 #[test]
 fn of_the_progress(rt: HostRuntime) -> Result<(), Fail> {
     let alloc = rt.alloc();

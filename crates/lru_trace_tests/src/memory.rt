@@ -1,4 +1,3 @@
-//! Traces that run out of memory.
 use lru_trace::{Curve, Form, Options, Policies, Progress, TraceError, status, trace};
 use std::alloc::Global;
 use std::test::Fail;
@@ -50,7 +49,6 @@ fn looks_ahead(alloc: Global) -> Result<bool, TraceError> {
     Ok(curve.best()?.is_some())
 }
 
-/// If memory runs out, `Curve::best` fails.
 #[test]
 fn looking_ahead_without_memory(rt: HostRuntime) -> Result<(), Fail> {
     let mut refused = 0u64;

@@ -1,5 +1,4 @@
-//! Reads a trace from standard input, and prints how often LRU caches of each size miss. If standard error is a
-//! terminal, shows the progress there.
+//! The program of `docs/TRACE.md`. If standard error is a terminal, it shows the progress there.
 #![tactic(auto)]
 
 use lru_trace::{Column, Form, Options, Policies, Progress, status, trace};
@@ -38,7 +37,6 @@ Exit status: 0 after the output, 1 if the first line has no sizes, 2 if a read o
 4 if an argument is unknown, lacks its value, cannot be read or cannot be combined.
 ";
 
-/// What the next argument must be.
 #[derive(Clone, Copy, PartialEq, Eq)]
 enum Next {
     Word,
@@ -48,7 +46,6 @@ enum Next {
     Sample,
 }
 
-/// What the arguments so far ask for.
 #[derive(Clone, Copy)]
 struct Asked {
     best: bool,
@@ -61,7 +58,7 @@ struct Asked {
 }
 
 impl Asked {
-    /// Takes an argument, and returns whether it is known and valid.
+    /// Returns whether the argument is known and valid.
     fn take(&mut self, argument: &str) -> bool {
         match self.next {
             Next::Word => return self.take_word(argument),
@@ -100,7 +97,6 @@ impl Asked {
         true
     }
 
-    /// Returns the policies, or `None` if the arguments ask for both the best possible policies and a warm-up.
     fn policies(&self) -> Option<Policies> {
         match (self.best, self.warm_up) {
             (true, None) => Some(Policies::Best),

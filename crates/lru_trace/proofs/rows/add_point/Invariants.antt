@@ -1,4 +1,3 @@
--- All points so far are smaller than the size.
 use Rattle.std.proofs.Common.{◌≡◌, ◌++◌, take, drop}
 use Rattle.lru_trace.specs.Rows.{with_size}
 use Rattle.lru_trace.proofs.rows.add_point.Given as goal

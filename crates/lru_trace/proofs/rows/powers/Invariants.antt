@@ -1,4 +1,3 @@
--- The powers so far, followed by the remaining powers, are `powers`.
 use Rattle.std.proofs.Common.{◌≡◌, ◌-◌, ◌<◌, ◌++◌}
 use Rattle.std.specs.List.{All}
 use Rattle.lru_trace.specs.Rows.{powers}

@@ -1,4 +1,3 @@
--- The sizes so far, and the number whose first digits were read, if there is one.
 use Rattle.std.proofs.Common.{◌≡◌, [], None, drop}
 use Rattle.lru_trace.specs.Sizes.{sizes_from}
 use Rattle.lru_trace.proofs.sizes.sizes_of.Given as goal

@@ -1,14 +1,12 @@
 // Erased from crates/lru_trace/src/best.rt: do not edit.
-//! How often the best possible policies miss. They know the rest of the trace.
-
 #[allow(unused_imports)]
 use crate::rattle_std::prelude::*;
 
 use crate::rattle_std::alloc::{AllocError, Global};
 use crate::rattle_std::collections::BTreeSet;
 
-/// For each reference of a trace, the time of the next reference to its key. From these times `Best` counts how often
-/// the best possible policies miss; `docs/THEORY.md` explains these policies.
+/// For each reference of a trace, the time of the next reference to its key, or else the length of the trace. From
+/// these times `Best` counts how often the best possible policies miss; `docs/THEORY.md` explains these policies.
 ///
 /// `Best` takes 8 bytes for each reference.
 
@@ -18,7 +16,6 @@ pub struct Best {
 }
 
 impl Best {
-    /// Computes the times for a trace whose keys have these numbers.
     pub(crate) fn new(alloc: Global, numbers: &[usize]) -> Result<Self, AllocError> {
         let nexts = next_times(alloc, numbers)?;
         Ok(Best { nexts, alloc })
@@ -32,9 +29,8 @@ impl Best {
         (*at!(self.nexts, now))
     }
 
-    /// Returns how often MIN with `places` places misses, if it begins with no keys. MIN stores each referenced key, if
-    /// it has a place. If it then has too many keys, it evicts the other key whose next reference comes last. No policy with `places`
-    /// places that begins with no keys, stores each referenced key, and loads keys only on demand misses less often.
+    /// Returns how often MIN with `places` places misses if it begins with no keys. No policy with `places` places that
+    /// begins with no keys, stores each referenced key, and loads keys only on demand misses less often.
     ///
     /// Cost: for n places, `O(log n)` for each reference. The memory is in proportion to the smaller of n and the
     /// number of keys.
@@ -57,9 +53,8 @@ impl Best {
         Ok(misses)
     }
 
-    /// Returns how often MIN with bypass and `places` places misses, if it begins with no keys. This policy need not
-    /// store the referenced key. No policy with `places` places that begins with no keys, and loads keys only on
-    /// demand, misses less often.
+    /// Returns how often MIN with bypass and `places` places misses if it begins with no keys. No policy with `places`
+    /// places that begins with no keys and loads keys only on demand misses less often.
     ///
     /// Cost: as `min_misses`.
     ///
@@ -95,7 +90,7 @@ fn add(times: &mut BTreeSet<usize>, time: usize, end: usize) -> Result<(), Alloc
     }
 }
 
-/// Returns a number above all of these numbers. If one is `usize::MAX`, fails.
+/// Fails if one of the numbers is `usize::MAX`.
 fn bound_of(numbers: &[usize]) -> Result<usize, AllocError> {
     let mut bound = 0;
     for number in numbers {

@@ -1,6 +1,4 @@
 // Erased from crates/lru_trace/src/byte_curve.rt: do not edit.
-//! The misses of a trace in LRU caches with limits of bytes.
-
 #[allow(unused_imports)]
 use crate::rattle_std::prelude::*;
 
@@ -33,9 +31,9 @@ impl From<AllocError> for SizeError {
 
 /// The misses of a trace in LRU caches with limits of bytes, counted in one pass.
 ///
-/// A reference needs the size of its key and of the other keys that were referenced after its last reference. It misses
-/// if it is the first reference to its key, or if it needs more than the limit. The size of a key is what its first
-/// reference says. The memory is in proportion to the number of keys and of limits.
+/// A reference needs the sizes of its key and of the other keys that were referenced after the last reference to this
+/// key. It misses if it is the first reference to its key, or if it needs more than the limit. The size of a key is
+/// what its first reference says. The memory is in proportion to the number of keys and of limits.
 ///
 /// ```text
 /// let mut curve = ByteCurve::new(alloc, vec![in alloc; 10, 30]?)?;
@@ -57,7 +55,6 @@ pub struct ByteCurve {
     alloc: Global,
 }
 
-/// Returns the index of the first limit that is not exceeded, or else the number of limits.
 fn count_of(limits: &[u64], need: Option<u64>) -> usize {
     if let Some(need) = need {
         for i in 0..limits.len() {
@@ -70,7 +67,7 @@ fn count_of(limits: &[u64], need: Option<u64>) -> usize {
 }
 
 impl ByteCurve {
-    /// Makes the curve of a trace without references, for these limits.
+    /// Makes a curve without references, for these limits.
     ///
     /// # Errors
     ///
@@ -156,7 +153,6 @@ impl ByteCurve {
         Ok(())
     }
 
-    /// Returns how many references were counted.
     pub fn references(&self) -> u64 {
         self.references
     }

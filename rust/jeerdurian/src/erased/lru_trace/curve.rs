@@ -1,6 +1,4 @@
 // Erased from crates/lru_trace/src/curve.rt: do not edit.
-//! The misses of a trace in LRU caches of every size.
-
 #[allow(unused_imports)]
 use crate::rattle_std::prelude::*;
 
@@ -12,8 +10,7 @@ use crate::rattle_std::collections::HashMap;
 /// The misses of a trace in LRU caches of every size, counted in one pass.
 ///
 /// A reference misses in a cache of n places if it is the first reference to its key, or if its reuse distance is at
-/// least n. So the curve counts how many references had each reuse distance. If the curve does not keep the references,
-/// its memory is in proportion to the number of keys.
+/// least n. If the curve does not keep the references, its memory is in proportion to the number of keys.
 ///
 /// ```text
 /// let mut curve = Curve::new(alloc)?;
@@ -36,7 +33,6 @@ pub struct Curve {
 }
 
 impl Curve {
-    /// Makes the curve of a trace without references.
     pub fn new(alloc: Global) -> Result<Self, AllocError> {
         Curve::make(alloc, None)
     }
@@ -164,8 +160,7 @@ impl Curve {
         }
     }
 
-    /// Returns the times of the next references, which the best possible policies know. If the curve does not keep the
-    /// references, returns `None`.
+    /// Returns the times of the next references. If the curve does not keep the references, returns `None`.
     ///
     /// Cost: in proportion to the number of references.
     ///
@@ -179,7 +174,6 @@ impl Curve {
         }
     }
 
-    /// Returns how many references were counted.
     pub fn references(&self) -> u64 {
         self.references
     }

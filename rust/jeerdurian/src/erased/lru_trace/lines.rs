@@ -1,6 +1,4 @@
 // Erased from crates/lru_trace/src/lines.rt: do not edit.
-//! The lines of a trace, and their keys.
-
 #[allow(unused_imports)]
 use crate::rattle_std::prelude::*;
 
@@ -23,7 +21,6 @@ pub enum Ending {
     Nothing,
 }
 
-/// How many lines are malformed or skipped.
 #[derive(Clone, Copy, Debug, PartialEq, Eq)]
 pub struct Others {
     /// How many lines spell no key.
@@ -60,7 +57,6 @@ pub fn read_line<R: BufRead>(reader: &mut R, line: &mut Vec<u8>) -> Result<Endin
     }
 }
 
-/// Returns the key that the line spells, if it spells one.
 fn key_of(line: &[u8]) -> Option<&str> {
     if line.is_empty() || line.len() > LONGEST_KEY {
         return None;
@@ -78,8 +74,6 @@ fn refer_key(curve: &mut Curve, warm: bool, key: &str) -> Result<(), AllocError>
     curve.refer(key)
 }
 
-/// If the line spells a key in the sample, references the key. If `warm` is false, counts the reference. Returns what
-/// the line adds to `Others`.
 fn refer_line(curve: &mut Curve, options: Options, warm: bool, line: &[u8]) -> Result<Others, AllocError> {
     let Some(key) = key_of(text_in(line, options.column)) else {
         return Ok(Others { malformed: 1, skipped: 0 });
@@ -91,8 +85,8 @@ fn refer_line(curve: &mut Curve, options: Options, warm: bool, line: &[u8]) -> R
     Ok(Others { malformed: 0, skipped: 0 })
 }
 
-/// References the key of each remaining line (see `trace`), if the key is in the sample. Returns how many lines are
-/// malformed or skipped. After each million lines, writes the number of lines to `progress`.
+/// References the key of each remaining line (see `docs/TRACE.md`) if the key is in the sample. Returns how many lines
+/// are malformed or skipped.
 ///
 /// # Errors
 ///

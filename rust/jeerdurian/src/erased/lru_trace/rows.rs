@@ -6,7 +6,6 @@ use crate::erased::lru_trace::best::Best;
 use crate::erased::lru_trace::curve::Curve;
 use crate::rattle_std::alloc::{AllocError, Global};
 
-/// What the head of a report says about a trace.
 #[derive(Clone, Copy)]
 pub struct Counts {
     pub references: u64,
@@ -15,7 +14,6 @@ pub struct Counts {
     pub skipped: Option<u64>,
 }
 
-/// The misses of MIN, and of MIN with bypass.
 #[derive(Clone, Copy)]
 pub struct BestMisses {
     pub min: usize,
@@ -74,7 +72,7 @@ pub fn rows_of(
     Ok(rows)
 }
 
-/// Returns a number of places. The axis of sizes ends at the first power of two that is at least this number.
+/// The axis of sizes ends at the first power of two that is at least this number.
 pub fn end_of(keys: usize, bits: u32) -> u128 {
     (keys.max(1) as u128) << bits
 }

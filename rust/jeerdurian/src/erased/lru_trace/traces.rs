@@ -1,6 +1,4 @@
 // Erased from crates/lru_trace/src/traces.rt: do not edit.
-//! Reads a trace from lines, and writes its report.
-
 #[allow(unused_imports)]
 use crate::rattle_std::prelude::*;
 
@@ -48,12 +46,11 @@ fn read_trace<R: BufRead, P: Write>(
     Ok(Some(Lines { sizes, curve, others }))
 }
 
-/// Reads a trace, and writes how often LRU caches of each size miss. The options and the bytes that were read determine
-/// what is written. `docs/TRACE.md` shows examples.
+/// Reads a trace, and writes how often LRU caches of each size miss. `docs/TRACE.md` describes the input and the
+/// output.
 ///
-/// The first line names sizes. A later line spells a key if the line, or a column of it, is text of 1 to 64 bytes.
-/// Otherwise the line counts as malformed. `Policies::Best` also writes the misses of the best possible policies: in
-/// the text form for each named size, and in the other forms also for each power of two.
+/// `Policies::Best` also writes the misses of the best possible policies: in the text form for each named size, and in
+/// the other forms also for each power of two.
 ///
 /// Cost: `O(log n)` expected for each line and n keys. The memory is in proportion to the number of keys and the
 /// longest line. With `Policies::Best` the memory is also in proportion to the number of lines, and each size costs

@@ -1,6 +1,4 @@
 // Erased from crates/example_responses/src/cache.rt: do not edit.
-//! A cache of responses that expire, with counts for each host.
-
 #[allow(unused_imports)]
 use crate::rattle_std::prelude::*;
 
@@ -14,7 +12,7 @@ use crate::rattle_std::collections::BTreeMap;
 /// What an entry costs in addition to the bytes of its path and of its response.
 const OVERHEAD: u64 = 64;
 
-/// A response. It is stale from the time `expires` on.
+/// A response is stale from the time `expires` on.
 
 pub struct Response {
     pub body: Vec<u8>,
@@ -29,7 +27,6 @@ impl Costed for Response {
 
 type Responses = TenantCache<String, String, Response, ByWeight<OVERHEAD>>;
 
-/// Looks a path up. Returns whether its response is fresh. A stale response is removed.
 fn has_fresh(entries: &mut Responses, host: &str, path: &str, now: u64) -> Result<bool, TenantError> {
     let expires = match entries.get(&host, &path)? {
         Some(response) => response.expires,
@@ -123,7 +120,10 @@ impl ResponseCache {
         Ok(("budget set", evicted))
     }
 
+<<<<<<< HEAD
     // How many responses the host has for other paths.
+=======
+>>>>>>> 1a5f89a6873e20fd3c529df8786c1a4a460394f3
     fn others(&self, host: &str, path: &str) -> u64 {
         match (self.entries.entries(&host), self.entries.contains(&host, &path)) {
             (Ok(entries), Ok(there)) => entries.saturating_sub(there as usize) as u64,
@@ -156,7 +156,7 @@ impl ResponseCache {
         }
     }
 
-    /// Returns a copy of a path's response, if it is fresh. A stale response is removed.
+    /// Returns a copy of the path's response if it is fresh. Removes a stale response.
     pub fn get(&mut self, host: &str, path: &str, now: u64) -> Result<Option<Response>, TenantError> {
         if !self.look_up(host, path, now)? {
             return Ok(None);
@@ -168,7 +168,6 @@ impl ResponseCache {
         Ok(self.entries.remove(&host, &path)?.is_some())
     }
 
-    /// Removes the responses of a host for the paths that begin with the prefix.
     pub fn purge_below(&mut self, host: &str, prefix: &str) -> Result<(), TenantError> {
         self.entries.retain(&host, |path, _| !is_below(path, prefix))
     }

@@ -1,10 +1,7 @@
 // Erased from crates/example_responses/src/line.rt: do not edit.
-//! The lines of the program.
-
 #[allow(unused_imports)]
 use crate::rattle_std::prelude::*;
 
-/// When a response becomes stale.
 #[derive(Clone, Copy)]
 pub enum Expiry {
     At(u64),
@@ -15,7 +12,7 @@ pub enum Expiry {
 pub enum Line<'a> {
     Now(u64),
     Host(&'a str, u64),
-    /// A host, a path, when the response becomes stale, and its body.
+    /// The host, the path, the expiry and the body.
     Put(&'a str, &'a str, Expiry, &'a str),
     Get(&'a str, &'a str),
     Purge(&'a str, &'a str),

@@ -17,7 +17,7 @@ const METRICS: [(&str, &str); 7] = [
     ("responses_cost", "gauge"),
 ];
 
-/// Returns the values of a host, in the order of the metrics.
+/// Returns the values in the order of `METRICS`.
 fn values_of(cache: &ResponseCache, host: &str, counts: &Counts) -> [u64; 7] {
     let (entries, cost) = cache.size(host);
     [counts.hits, counts.misses, counts.insertions, counts.rejections, counts.evictions, entries as u64, cost]

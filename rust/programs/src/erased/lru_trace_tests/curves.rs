@@ -1,5 +1,4 @@
 // Erased from crates/lru_trace_tests/src/curves.rt: do not edit.
-//! Tests the texts of errors.
 #[allow(unused_imports)]
 use crate::rattle_std::prelude::*;
 

@@ -1,5 +1,4 @@
 // Erased from crates/lru_trace_tests/src/lines.rt: do not edit.
-//! Tests the progress of traces, and a flush that fails.
 #[allow(unused_imports)]
 use crate::rattle_std::prelude::*;
 
@@ -35,7 +34,6 @@ fn of_a_flush_that_fails() {
     run(HostRuntime).passes();
 }
 
-/// Two million and one empty lines: each is malformed, and each counts for the progress.
 #[test]
 fn of_the_progress() {
     let run = |rt: HostRuntime| -> Result<(), Fail> {

@@ -1,5 +1,4 @@
 // Erased from crates/lru_trace_tests/src/memory.rt: do not edit.
-//! Traces that run out of memory.
 #[allow(unused_imports)]
 use crate::rattle_std::prelude::*;
 
@@ -52,7 +51,6 @@ fn looks_ahead(alloc: Global) -> Result<bool, TraceError> {
     Ok(curve.best()?.is_some())
 }
 
-/// If memory runs out, `Curve::best` fails.
 #[test]
 fn looking_ahead_without_memory() {
     let run = |rt: HostRuntime| -> Result<(), Fail> {
