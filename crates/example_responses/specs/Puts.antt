@@ -1,9 +1,5 @@
-<<<<<<< HEAD
 -- What a put of a response does.
 use Rattle.std.specs.Prelude.{◌≡◌, ◌⊎◌, ℕ, Bool, List, length, Option, Some, None, Result, Err, string_bytes, string_eq}
-=======
-use Rattle.std.specs.Prelude.{◌≡◌, ◌⊎◌, ℕ, Bool, List, Result, Err, string_bytes, string_eq}
->>>>>>> 1a5f89a6873e20fd3c529df8786c1a4a460394f3
 use Rattle.std.specs.declared.string.String.{String}
 use Rattle.std.specs.declared.alloc.Global.{Global}
 use Rattle.lru_limits.specs.Budget.{Budget}

@@ -1,9 +1,5 @@
-<<<<<<< HEAD
 //! A cache of responses that expire, with counts for each host.
 ghost use Rattle.std.specs.Prelude.{◌≡◌, ◌<◌, ◌-◌, Bool, true, nat_eq, Ok, Err, None, is_some, IfOk, OnErr, IfSome};
-=======
-ghost use Rattle.std.specs.Prelude.{◌≡◌, ◌<◌, Bool, true, nat_eq, Ok, Err, None, is_some, IfOk, OnErr, IfSome};
->>>>>>> 1a5f89a6873e20fd3c529df8786c1a4a460394f3
 ghost use Rattle.std.specs.Prelude.{string_bytes, string_eq, vec_len};
 ghost use Rattle.std.specs.List.{starts_with};
 ghost use Rattle.std.specs.Option.{option_map};
@@ -166,7 +162,6 @@ impl ResponseCache {
         Ok(("budget set", evicted))
     }
 
-<<<<<<< HEAD
     // How many responses the host has for other paths.
     fn others(&self, host: &str, path: &str) -> u64
         ensures { result ≡ others (names_text path.now) (tenant (names_text host.now) self.now.entries) }
@@ -178,12 +173,6 @@ impl ResponseCache {
             (Ok(entries), Ok(there)) => entries.saturating_sub(there as usize) as u64,
             _ => 0,
         }
-=======
-    fn others(&self, host: &str, path: &str) -> u64 {
-        let there = self.entries.contains(&host, &path) == Ok(true);
-        let (entries, _) = self.size(host);
-        entries.saturating_sub(there as usize) as u64
->>>>>>> 1a5f89a6873e20fd3c529df8786c1a4a460394f3
     }
 
     /// Stores a response. Returns whether the host has it afterwards, and how many other responses were evicted.

@@ -1,4 +1,6 @@
 // Erased from crates/example_responses/src/cache.rt: do not edit.
+//! A cache of responses that expire, with counts for each host.
+
 #[allow(unused_imports)]
 use crate::rattle_std::prelude::*;
 
@@ -120,10 +122,7 @@ impl ResponseCache {
         Ok(("budget set", evicted))
     }
 
-<<<<<<< HEAD
     // How many responses the host has for other paths.
-=======
->>>>>>> 1a5f89a6873e20fd3c529df8786c1a4a460394f3
     fn others(&self, host: &str, path: &str) -> u64 {
         match (self.entries.entries(&host), self.entries.contains(&host, &path)) {
             (Ok(entries), Ok(there)) => entries.saturating_sub(there as usize) as u64,
