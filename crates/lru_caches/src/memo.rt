@@ -212,9 +212,9 @@ impl<K: Eq + Hash + Drop, V: Drop, F: Fn(&K) -> V, L: Insertion<K, V, K>, S: Key
     /// not be `Copy`.
     ///
     /// ```
-    /// let mut blocks = Memo::new(alloc, ByLength::new(9), |n: &usize| vec![in alloc; 7u8; *n].ok());
-    /// assert_eq!(rt; (blocks.get_with(&3, |_| 1), blocks.answer_with(3, |_| 2)), (None, 2));
-    /// assert_eq!(rt; blocks.get_with(&3, |block| block.is_some()), Some(true));
+    /// let mut lists = Memo::new(alloc, ByLength::new(9), |n: &usize| vec![in alloc; 7u8; *n].ok());
+    /// assert_eq!(rt; (lists.get_with(&3, |_| 1), lists.answer_with(3, |_| 2)), (None, 2));
+    /// assert_eq!(rt; lists.get_with(&3, |list| list.is_some()), Some(true));
     /// ```
     ///
     /// Cost: as `get`, and a call of the closure.
@@ -236,24 +236,6 @@ impl<K: Eq + Hash + Drop, V: Drop, F: Fn(&K) -> V, L: Insertion<K, V, K>, S: Key
         Some(read(&*value))
     }
 
-    /// Removes the stored result of a key, and returns whether there was one.
-    ///
-    /// ```
-    /// assert!(rt; squares.answer(3) == 9 && squares.remove(&3) && squares.is_empty());
-    /// ```
-    ///
-    /// Cost: `O(1)` expected.
-    pub fn remove(&mut self, key: &K) -> bool
-        requires known { AreAnswers K.eq (FnReturnsAt F.Fn self.old.function) self.old.map.pairs }
-        ensures there { result ≡ is_some (lookup (K.eq key.now) self.old.map.pairs) }
-        ensures step { (value : Option V) × Remove L.rules (K.eq key.now) self.old.map value self.new.map }
-        ensures map { IsMap K.eq self.new.map }
-        ensures known { AreAnswers K.eq (FnReturnsAt F.Fn self.new.function) self.new.map.pairs }
-        ensures function { self.new.function ≡ self.old.function }
-    {
-        self.map.remove(key).is_some()
-    }
-
     /// Sets another limiter, and drops the oldest results while the new limiter is over its limit. Returns the old
     /// limiter. `LruMap::set_limiter` says with which running total a limiter must begin.
     ///
@@ -273,6 +255,24 @@ impl<K: Eq + Hash + Drop, V: Drop, F: Fn(&K) -> V, L: Insertion<K, V, K>, S: Key
         ensures function { self.new.function ≡ self.old.function }
     {
         self.map.set_limiter(limiter)
+    }
+
+    /// Removes the stored result of a key, and returns whether there was one.
+    ///
+    /// ```
+    /// assert!(rt; squares.answer(3) == 9 && squares.remove(&3) && squares.is_empty());
+    /// ```
+    ///
+    /// Cost: `O(1)` expected.
+    pub fn remove(&mut self, key: &K) -> bool
+        requires known { AreAnswers K.eq (FnReturnsAt F.Fn self.old.function) self.old.map.pairs }
+        ensures there { result ≡ is_some (lookup (K.eq key.now) self.old.map.pairs) }
+        ensures step { (value : Option V) × Remove L.rules (K.eq key.now) self.old.map value self.new.map }
+        ensures map { IsMap K.eq self.new.map }
+        ensures known { AreAnswers K.eq (FnReturnsAt F.Fn self.new.function) self.new.map.pairs }
+        ensures function { self.new.function ≡ self.old.function }
+    {
+        self.map.remove(key).is_some()
     }
 
     /// Drops all stored results.

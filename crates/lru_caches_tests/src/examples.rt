@@ -380,27 +380,22 @@ fn of_memo(rt: HostRuntime) -> Result<(), Fail> {
             ) == (None, 4),
             lengths.get(&"word") == Some(4)
         );
-    check!(rt; held);
-    Ok(())
-}
-
-#[test]
-fn of_memo_2(rt: HostRuntime) {
-    let alloc = rt.alloc();
-    let mut blocks = Memo::new(
+    let mut lists = Memo::new(
         alloc,
         ByLength::new(9),
         |n: &usize| vec![in alloc; 7u8; *n].ok(),
     );
-    let held = all!(
-        (blocks.get_with(&3, |_| 1), blocks.answer_with(3, |_| 2)) == (None, 2),
-        blocks.get_with(&3, |block| block.is_some()) == Some(true),
-        squares.answer(3) == 9 && squares.remove(&3) && squares.is_empty(),
-        (squares.answer(3), squares.answer(4)) == (9, 16),
-        squares.set_limiter(ByLength::new(1)).max_length() == 9 && squares.len() == 1
-    );
+    let held = held
+        & all!(
+            (lists.get_with(&3, |_| 1), lists.answer_with(3, |_| 2)) == (None, 2),
+            lists.get_with(&3, |list| list.is_some()) == Some(true),
+            (squares.answer(3), squares.answer(4)) == (9, 16),
+            squares.set_limiter(ByLength::new(1)).max_length() == 9 && squares.len() == 1,
+            squares.answer(3) == 9 && squares.remove(&3) && squares.is_empty()
+        );
     squares.clear();
     check!(rt; held);
+    Ok(())
 }
 
 #[test]

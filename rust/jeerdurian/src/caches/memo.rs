@@ -125,11 +125,7 @@ impl<K: Eq + Hash, V, F: Fn(&K) -> V, L: Admission<K, V>, S: BuildHasher> Memo<K
 
     /// Lends a closure what [`get`](Self::get) would return, and returns what the closure returns. The values need not be
     /// `Copy`.
-    pub fn get_with<R>(
-        &mut self,
-        key: &(impl Hash + PartialEq<K> + ?Sized),
-        read: impl FnOnce(&V) -> R,
-    ) -> Option<R> {
+    pub fn get_with<R>(&mut self, key: &(impl Hash + PartialEq<K> + ?Sized), read: impl FnOnce(&V) -> R) -> Option<R> {
         self.memo.get_with(&Named(key), read)
     }
 

@@ -131,26 +131,15 @@ impl<K: Eq + Hash, V, F: Fn(&K) -> V, L: Insertion<K, V, K>, S: KeyHasher<K>> Me
     /// not be `Copy`.
     ///
     /// ```text
-    /// let mut blocks = Memo::new(alloc, ByLength::new(9), |n: &usize| vec![in alloc; 7u8; *n].ok());
-    /// assert_eq!(rt; (blocks.get_with(&3, |_| 1), blocks.answer_with(3, |_| 2)), (None, 2));
-    /// assert_eq!(rt; blocks.get_with(&3, |block| block.is_some()), Some(true));
+    /// let mut lists = Memo::new(alloc, ByLength::new(9), |n: &usize| vec![in alloc; 7u8; *n].ok());
+    /// assert_eq!(rt; (lists.get_with(&3, |_| 1), lists.answer_with(3, |_| 2)), (None, 2));
+    /// assert_eq!(rt; lists.get_with(&3, |list| list.is_some()), Some(true));
     /// ```
     ///
     /// Cost: as `get`, and a call of the closure.
     pub fn get_with<Q: LookupKey<K>, R, U: FnOnce(&V) -> R>(&mut self, key: &Q, read: U) -> Option<R> {
         let value = self.map.get(key)?;
         Some(read(&*value))
-    }
-
-    /// Removes the stored result of a key, and returns whether there was one.
-    ///
-    /// ```text
-    /// assert!(rt; squares.answer(3) == 9 && squares.remove(&3) && squares.is_empty());
-    /// ```
-    ///
-    /// Cost: `O(1)` expected.
-    pub fn remove(&mut self, key: &K) -> bool {
-        self.map.remove(key).is_some()
     }
 
     /// Sets another limiter, and drops the oldest results while the new limiter is over its limit. Returns the old
@@ -164,6 +153,17 @@ impl<K: Eq + Hash, V, F: Fn(&K) -> V, L: Insertion<K, V, K>, S: KeyHasher<K>> Me
     /// Cost: as `LruMap::set_limiter`.
     pub fn set_limiter(&mut self, limiter: L) -> L {
         self.map.set_limiter(limiter)
+    }
+
+    /// Removes the stored result of a key, and returns whether there was one.
+    ///
+    /// ```text
+    /// assert!(rt; squares.answer(3) == 9 && squares.remove(&3) && squares.is_empty());
+    /// ```
+    ///
+    /// Cost: `O(1)` expected.
+    pub fn remove(&mut self, key: &K) -> bool {
+        self.map.remove(key).is_some()
     }
 
     /// Drops all stored results.
