@@ -63,7 +63,7 @@ module _ (IsText : List (List ℕ) → List ℕ → Type 0) (from : Option (List
       × IsText lines text × TakesLines from to lines part × Wrote text
 
 module _ (IsText IsTextSoFar : List (List ℕ) → List ℕ → Type 0) (from to old new : Option (List ℕ)) where
-  -- All lines or some whole lines were read, and a beginning of a text of these lines was written.
+  -- All lines or some whole lines were read, and a beginning of their text was written.
   abbrev pub BeginsText : Type 0
   BeginsText = (OfAll IsText from (Begins old new) × OnSome from (IsAtEnd to))
       ⊎ OfRead IsTextSoFar from to (Begins old new)

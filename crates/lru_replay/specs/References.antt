@@ -13,7 +13,7 @@ use Rattle.lru_theory.specs.Budgets.{refer_within}
 use Rattle.lru_theory.specs.Inclusion.{KeyCall, after_call}
 use Rattle.lru_theory.specs.Traces.{AreEqual, fault, refer}
 
--- A kind of cache that a map may be.
+-- A kind of LRU cache.
 pub record Cache (K V S H : Type 0) : Type 1 where
   pub eq : K → K → Bool
   pub limit : S → ℕ

@@ -1,4 +1,4 @@
--- What a cache of tenants within one limit of bytes is after the loan of one of its values has ended.
+-- What a `ByteCache` is after the loan of one of its values.
 use Rattle.std.specs.Prelude.{◌≡◌, ℕ, ⊤}
 use Rattle.std.specs.Borrow.{Fml, RattleType, MutBor, follows_so}
 use Rattle.std.specs.HashMap.Lent.{HashMembers}

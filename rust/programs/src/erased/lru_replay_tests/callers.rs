@@ -10,8 +10,8 @@ use crate::programs::lru_replay::laws::{granted_calls_are_exact, lists_are_runs}
 use crate::programs::lru_replay::{Answer, Call, run_calls, run_summing};
 use crate::rattle_std::alloc::{AllocError, Global};
 
-/// Inserts two entries by a list of calls. A map that was within its limits still is. The newest entries of other keys
-/// stay, in their order. The stored entries pay for the moves of entries (`PaysForMoves`).
+/// Inserts two entries by a list of calls. A map that was within its limits still is. Entries of other keys keep their
+/// order, and only the oldest of them may be evicted. The stored entries pay for the moves of entries (`PaysForMoves`).
 fn put_both(
     alloc: Global,
     map: &mut LruMap<u64, u64, Both<ByLength, ByMemoryUsage>>,
