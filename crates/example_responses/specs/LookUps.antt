@@ -1,4 +1,6 @@
+-- What a look-up of a response does to its host, and a `get`, which also copies the response.
 --     names path      whether this path is looked up
+--     now             the time of the look-up
 use Rattle.std.specs.Prelude.{◌≡◌, ◌⊎◌, ℕ, nat_lt, Bool, if◌then◌else◌, List, vec_items, Option, Some, None, is_some}
 use Rattle.std.specs.Prelude.{Result, Ok, Err}
 use Rattle.lru_limits.specs.Budget.{Budget}
@@ -23,6 +25,7 @@ abbrev pub with_list : {K S : Type 0} → List (K × Response) → State K Respo
 with_list list left old =
     record old { pairs = list; limiter = record old.limiter { cost = left.limiter.cost }; table = left.table }
 
+-- the answer says whether the path has a fresh response
 abbrev pub LooksUp : {K S : Type 0} → (K → Bool) → ℕ → State K Response Budget S
     → Result Bool TenantError → Option (State K Response Budget S) → Type 0
 LooksUp {K} {S} names now old answer new = (left : State K Response Budget S)
@@ -33,6 +36,7 @@ LooksUp {K} {S} names now old answer new = (left : State K Response Budget S)
 abbrev pub IsCopy : Response → Response → Type 0
 IsCopy stored copy = (vec_items copy.body ≡ vec_items stored.body) × (copy.expires ≡ stored.expires)
 
+-- The answer is a copy of the response, if there is one. Or memory ran out for the copy.
 abbrev pub Copies : Option Response → Result (Option Response) TenantError → Type 0
 Copies None answer = answer ≡ Ok None
 Copies (Some stored) answer =

@@ -23,7 +23,7 @@ use std::collections::BTreeMap;
 /// What an entry costs in addition to the bytes of its path and of its response.
 const OVERHEAD: u64 = 64;
 
-/// A response is stale from the time `expires` on.
+/// A response. It is stale from the time `expires` on.
 #[derive(Drop)]
 pub struct Response {
     pub body: Vec<u8>,
@@ -40,6 +40,7 @@ impl Costed for Response {
 
 type Responses = TenantCache<String, String, Response, ByWeight<OVERHEAD>>;
 
+/// Looks a path up. Returns whether its response is fresh. Removes a stale response.
 fn has_fresh(entries: &mut Responses, host: &str, path: &str, now: u64) -> Result<bool, TenantError>
     ensures { On string_eq (names_text host.now) (OfOpen (LooksUp (names_text path.now) now))
         entries.old result entries.new }
@@ -243,6 +244,7 @@ impl ResponseCache {
         Ok(self.entries.remove(&host, &path)?.is_some())
     }
 
+    /// Removes the responses of a host for the paths that begin with the prefix.
     pub fn purge_below(&mut self, host: &str, prefix: &str) -> Result<(), TenantError>
         ensures { On string_eq (names_text host.now) (IfOpen (PurgesBelow prefix.now))
             self.old.entries result self.new.entries }

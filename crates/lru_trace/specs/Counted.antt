@@ -1,3 +1,4 @@
+-- The curve of a trace, as its references are counted.
 use Rattle.std.specs.Prelude.{◌≡◌, ℕ, ◌+◌, ◌≤◌, ◌<◌, Bool, true, false, List, [], ◌++◌, length, map, take, sum, Option, Some, IfSome, nat_eq, String}
 use Rattle.std.specs.Global.{Global}
 use Rattle.std.specs.Map.{lookup}
@@ -19,6 +20,7 @@ pub record Counted : Type 0 where
 abbrev pub number_in : List (String Global × ℕ) → List ℕ → Option ℕ
 number_in names key = lookup (λ name. bytes_eq key (string_bytes name)) names
 
+-- no two keys have the same number, and numbers are below n
 pub record AreNumbered (names : List (String Global × ℕ)) (n : ℕ) : Type 0 where
   pub small : (key : List ℕ) (number : ℕ) → number_in names key ≡ Some number → number < n
   pub apart : (a b : List ℕ) (number : ℕ) → number_in names a ≡ Some number → number_in names b ≡ Some number → a ≡ b
@@ -34,11 +36,12 @@ pub record IsOf (warm trace : List (List ℕ)) (curve : Counted) : Type 0 where
   pub all : curve.references ≡ length trace
   pub kept : IfSome curve.kept (λ kept. kept ≡ numbers)
 
--- A curve was `old`, and is `new` after these references.
+-- A curve was `old`, and is `new` after these references. If `is_warm` is false, they are counted.
 pub record Follows (is_warm : Bool) (old : Counted) (references : List (List ℕ)) (new : Counted) : Type 0 where
   pub counted : is_warm ≡ false → (warm trace : List (List ℕ)) → IsOf warm trace old → IsOf warm (trace ++ references) new
   pub warmed : is_warm ≡ true → (warm : List (List ℕ)) → IsOf warm [] old → IsOf (warm ++ references) [] new
 
+-- what is true for every curve
 pub record IsCounted (names : List (String Global × ℕ)) (recent : Recent) (counts : List ℕ) (first references : ℕ)
     : Type 0 where
   pub numbered : AreNumbered names recent.keys

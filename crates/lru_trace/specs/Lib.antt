@@ -1,3 +1,4 @@
+-- What the contracts of `lru_trace` cite.
 pub mod Nodes
 pub mod Slots
 pub mod Counted

@@ -1,3 +1,4 @@
+-- The lines of a trace, and their keys.
 use Rattle.std.specs.Prelude.{◌≡◌, ◌≢◌, ℕ, ◌<◌, Bool, not, ◌&&◌, nat_lt, nat_le, List, [], ◌∷◌, ◌++◌, length, ◌==◌}
 use Rattle.std.specs.Prelude.{if◌then◌else◌, zero, suc, map, Option, OnSome, Some, None}
 use Rattle.std.specs.List.{filter, AllByRecursion}
@@ -30,18 +31,22 @@ EndsSo endings.Nothing bytes line = (line ≡ bytes) × (line ≡ [])
 
 -- A reader had the bytes `from` left, if they are known, and has `to` left now.
 module _ (from to : Option (List ℕ)) where
+  -- these bytes without a line feed were read, and nothing is left
   abbrev pub TakesRest : List ℕ → Type 0
   TakesRest bytes = LacksFeed bytes × Consumes from to bytes × OnSome from (IsAtEnd to)
 
+  -- a line was read, and ended as `Ending` says
   abbrev pub TakesLine : Ending → List ℕ → Type 0
   TakesLine endings.Feed line = LacksFeed line × Consumes from to (fed line)
   TakesLine endings.InputEnd line = TakesRest line × (0 < length line)
   TakesLine endings.Nothing line = TakesRest line × (line ≡ [])
 
+-- the bytes before the first separator
 abbrev pub before : ℕ → List ℕ → List ℕ
 before separator [] = []
 before separator (b ∷ line) = if b == separator then [] else b ∷ before separator line
 
+-- the bytes behind the first separator
 abbrev pub behind : ℕ → List ℕ → List ℕ
 behind separator [] = []
 behind separator (b ∷ line) = if b == separator then line else behind separator line

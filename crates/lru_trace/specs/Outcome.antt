@@ -1,3 +1,4 @@
+-- How a trace ends: what was read and written.
 use Rattle.std.specs.Prelude.{◌≡◌, ℕ, ◌≤◌, List, [], ◌∷◌, ◌++◌, length, Option, OnSome, Some, None, is_some, Result, Ok, Err}
 use Rattle.std.specs.Io.KnownBytes.{Consumes, IsAtEnd, Appends, Keeps}
 use Rattle.lru_trace.specs.declared.options.Options.{Options}
@@ -12,7 +13,8 @@ use Rattle.lru_trace.specs.declared.lines.Others.{Others}
 use Rattle.lru_trace.specs.Report.{output}
 use Rattle.lru_trace.specs.Sizes.{sizes_from}
 
--- `from` and `to` are as in `Lines`. The reader was read to its end, and `curve` counts the references of the lines.
+-- A reader had the bytes `from` left, if they are known, and has `to` left now. The reader was read to its end, and
+-- `curve` counts the references that the lines make.
 pub record KeysRead (from to : Option (List ℕ)) (options : Options) (curve : Counted) (others : Others) : Type 0 where
   pub input : List ℕ
   pub reads : Consumes from to input
@@ -34,7 +36,7 @@ pub record TraceRead (from to : Option (List ℕ)) (options : Options) (sizes : 
   pub keeps : is_some curve.kept ≡ wants_best options.policies
   pub left_out : others ≡ others_in options rest
 
--- At most one line was read, and it names no sizes.
+-- At most one line was read, and it names no sizes. So no options give an output.
 pub record NoSizesRead (from to : Option (List ℕ)) : Type 0 where
   pub input : List ℕ
   pub reads : Consumes from to input
@@ -48,8 +50,8 @@ SomeRead from to = (part : List ℕ) × Consumes from to part
 abbrev pub Begins : Option (List ℕ) → Option (List ℕ) → List ℕ → Type 0
 Begins old new text = (begun rest : List ℕ) × (text ≡ begun ++ rest) × Appends old new begun
 
--- `IsWritten` says which part of the text was written. If the reader's type does not say which bytes are left, `input`
--- may be any input.
+-- The reader was read to its end, and its lines determine the text. `IsWritten` says which part of the text was
+-- written. If the reader's type does not say which bytes are left, `input` may be any input.
 pub record Reported (from to : Option (List ℕ)) (options : Options) (IsWritten : List ℕ → Type 0) : Type 0 where
   pub input : List ℕ
   pub text : List ℕ

@@ -1,3 +1,4 @@
+-- The references that lines make.
 use Rattle.std.specs.Prelude.{ℕ, List, take, drop, min, Bool, true, false, if◌then◌else◌}
 use Rattle.lru_trace.specs.declared.lines.Others.{Others}
 use Rattle.lru_trace.specs.declared.options.Options.{Options}
@@ -24,16 +25,18 @@ module _ (options : Options) (lines : List (List ℕ)) where
   abbrev pub warm_in : List (List ℕ)
   warm_in = sampled (bits_of options) (take (warm_up_of options.policies) keys_read)
 
+  -- the references after the warm-up
   abbrev pub counted_in : List (List ℕ)
   counted_in = sampled (bits_of options) (drop (warm_up_of options.policies) keys_read)
 
+  -- keys of the warm-up do not count as skipped
   abbrev pub others_in : Others
   others_in = record {
     malformed = malformed_in (texts_of options.column lines);
     skipped = skipped (bits_of options) (drop (warm_up_of options.policies) keys_read);
   }
 
-  -- `others_in` of these lines: if `warm` is true, all are in the warm-up, and else all are after it
+  -- `others_in` of lines that are all in the warm-up, if `warm` is true, or all after it
   abbrev pub others_so : Bool → Others
   others_so warm = record {
     malformed = malformed_in (texts_of options.column lines);

@@ -1,3 +1,4 @@
+-- What is written for a trace, in each form.
 use Rattle.std.specs.Prelude.{ℕ, ◌-◌, ◌/◌, ◌%◌, ◌==◌, if◌then◌else◌, List, [], ◌∷◌, ◌++◌, length, map}
 use Rattle.std.specs.Prelude.{flat_map, replicate, decimal, codes, Bool, false, Option, Some, None}
 use Rattle.std.specs.Option.{option_map}
@@ -80,7 +81,7 @@ module _ (bits : ℕ) (warm trace : List (List ℕ)) (sizes : List ℕ) (others 
   written forms.Csv best = csv_of best (point_rows best)
   written forms.Svg best = svg_text counts best (axis_in bits warm trace) (point_rows best)
 
--- If the first line names no sizes, the output is `None`.
+-- What is written for these lines. If the first line names no sizes, the output is `None`.
 abbrev pub output : Options → List (List ℕ) → Option (List ℕ)
 output options [] = None
 output options (first ∷ lines) =

@@ -1,5 +1,5 @@
--- Lengths are tenths of a pixel. The sizes 1 to 2 ^ octaves are at 900 to 7300 from the left. If no references miss,
--- the point is at 3900 from the top. If all miss, the point is at 700.
+-- The picture of the curves, in tenths of a pixel. The sizes 1 to 2 ^ octaves are at 900 to 7300 from the left. If no
+-- references miss, the point is at 3900 from the top, and if all miss, at 700.
 use Rattle.std.specs.Prelude.{ℕ, zero, suc, ◌+◌, ◌-◌, ◌*◌, ◌/◌, ◌%◌, ◌^◌, max, nat_le, ◌==◌, if◌then◌else◌}
 use Rattle.std.specs.Prelude.{List, [], ◌++◌, length, flat_map, decimal, codes, Bool, Option, Some, None}
 use Rattle.lru_trace.specs.declared.svg.TheConstants.{START, LRU, MIN, BYPASS}
@@ -13,7 +13,8 @@ use Rattle.lru_trace.specs.declared.svg.Policy.TheVariants as policies
 abbrev pub part : ℕ → ℕ → ℕ → ℕ
 part missed references scale = if references == 0 then 0 else missed * scale / references
 
--- If more references miss than are expected, the part is `scale`.
+-- The part of the expected references that miss, in the same units. If more references miss than are expected, the part
+-- is `scale`.
 abbrev pub missed_part : ℕ → ℕ → ℕ → ℕ
 missed_part missed expected scale = part missed (max missed expected) scale
 
@@ -44,6 +45,7 @@ missed_by policies.Bypass row = of_best (λ best. best.bypass) row.best
 abbrev pub y_of : Policy → Row → ℕ
 y_of policy row = 3900 - missed_part (missed_by policy row) row.expected 3200
 
+-- the point of a row, if its size is on the axis
 abbrev pub point_text : ℕ → Policy → Row → List ℕ
 point_text octaves policy row = if row.size == 0 then [] else if nat_le (x_of octaves row.size) 7300
     then decimal (x_of octaves row.size) ++ (codes " " ++ (decimal (y_of policy row) ++ codes " ")) else []
@@ -61,7 +63,7 @@ abbrev pub grid_text : ℕ → ℕ → List ℕ
 grid_text x size = codes "<path class='grid' d='M" ++ (decimal x ++ (codes " 700v3200'/><text class='tick' x='"
     ++ (decimal x ++ (codes "' y='4080'>" ++ (decimal size ++ codes "</text>\n")))))
 
--- If the axis has more than nine powers, only some have a tick.
+-- The tick of a power of two. If the axis has more than nine powers, only some have a tick.
 abbrev pub tick_text : ℕ → ℕ → List ℕ
 tick_text octaves power =
     if level_of 63 power % (1 + octaves / 9) == 0 then grid_text (x_of octaves power) power else []

@@ -1,3 +1,4 @@
+//! The misses of a trace in LRU caches with limits of bytes.
 ghost use Rattle.std.specs.Prelude.{◌≡◌, ◌+◌, ◌-◌, ◌<◌, ◌≤◌, ◌^◌, ℕ, List, [], ◌∷◌, ◌++◌, IfOk, OnOk, OnErr, IfErr};
 ghost use Rattle.std.specs.Prelude.{length, get_or, set, nat_lt, is_some, Some, None, IfSome, true, nat_eq};
 ghost use Rattle.std.specs.List.Sorted.{IsNonDecreasing, IsPermutation};
@@ -237,6 +238,7 @@ impl ByteCurve {
         Ok(())
     }
 
+    /// Returns how many references were counted.
     pub fn references(&self) -> u64
         ensures value { result ≡ self.now.references }
         ensures all { (warm trace : List (List ℕ × ℕ)) → IsSizedOf warm trace self.now → result ≡ length trace }

@@ -1,3 +1,4 @@
+//! The misses of a trace in LRU caches of every size.
 ghost use Rattle.std.specs.Prelude.{◌≡◌, ◌+◌, ◌-◌, ◌<◌, ◌≤◌, ◌^◌, ℕ, List, [], ◌∷◌, ◌++◌, IfOk, OnOk, OnErr, length};
 ghost use Rattle.std.specs.Prelude.{take, sum, Option, Some, None, IfSome, is_some, nat_eq};
 ghost use Rattle.std.specs.Set.{remove_key};
@@ -57,6 +58,7 @@ impl Model for Curve {
 }
 
 impl Curve {
+    /// Makes a curve without references.
     pub fn new(alloc: Global) -> Result<Self, AllocError>
         ensures of { IfOk result (IsOf [] []) }
         ensures kept { IfOk result (λ curve. curve.kept ≡ None) }
@@ -261,6 +263,7 @@ impl Curve {
         }
     }
 
+    /// Returns how many references were counted.
     pub fn references(&self) -> u64
         ensures value { result ≡ self.now.references }
         ensures all { (warm trace : List (List ℕ)) → IsOf warm trace self.now → result ≡ length trace }

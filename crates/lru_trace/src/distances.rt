@@ -1,3 +1,4 @@
+//! Reuse distances of a trace, one reference at a time.
 ghost use Rattle.std.specs.Prelude.{◌≡◌, ◌+◌, ◌^◌, ◌<◌, [], ◌∷◌, ◌++◌, IfOk, OnErr, OnOk, is_ok, true, false, nat_eq};
 ghost use Rattle.std.specs.Prelude.{length, sum_by};
 ghost use Rattle.std.specs.Set.{remove_key};
@@ -113,12 +114,14 @@ impl Distances {
         Ok(key)
     }
 
+    /// Returns how many keys were referenced.
     pub fn referenced(&self) -> usize
         ensures { result ≡ length self.now.recency }
     {
         self.used
     }
 
+    /// Returns the weight of a key.
     pub fn weight(&self, key: usize) -> u64
         ensures { result ≡ weight_in self.now.weights key }
     {

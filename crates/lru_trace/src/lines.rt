@@ -1,3 +1,4 @@
+//! The lines of a trace, and their keys.
 ghost use Rattle.std.specs.Prelude.{◌≡◌, ◌≢◌, ℕ, ◌+◌, ◌-◌, ◌^◌, ◌<◌, ◌≤◌, List, [], ◌∷◌, ◌++◌, true, false, is_some};
 ghost use Rattle.std.specs.Prelude.{IfOk, OnOk, OnErr, IfErr, MatchOption};
 ghost use Rattle.lru_trace.specs.Counted.{IsOf, Follows};
@@ -25,6 +26,7 @@ pub enum Ending {
     Nothing,
 }
 
+/// How many lines are malformed or skipped.
 #[derive(Clone, Copy, Debug, PartialEq, Eq)]
 pub struct Others {
     /// How many lines spell no key.
@@ -132,7 +134,7 @@ fn refer_line(
 }
 
 /// References the key of each remaining line (see `docs/TRACE.md`) if the key is in the sample. Returns how many lines
-/// are malformed or skipped.
+/// are malformed or skipped. After each million lines, writes the number of lines to `progress`.
 ///
 /// # Errors
 ///

@@ -1,6 +1,7 @@
 ghost use Rattle.std.specs.Prelude.{◌≡◌, ◌≤◌};
 ghost use Rattle.lru_trace.specs.References.{warm_up_of, wants_best, bits_of};
 
+/// The form of the report.
 #[derive(Clone, Copy, Debug, PartialEq, Eq)]
 pub enum Form {
     /// For people: a line for each named size, and bars.
@@ -18,6 +19,7 @@ pub struct Column {
     pub separator: u8,
 }
 
+/// The policies whose misses are counted.
 #[derive(Clone, Copy, Debug, PartialEq, Eq)]
 pub enum Policies {
     /// LRU. The first `warm_up` keys fill the caches, and their references are not counted.
@@ -26,6 +28,7 @@ pub enum Policies {
     Best,
 }
 
+/// What `trace` reads and writes.
 #[derive(Clone, Copy, Debug, PartialEq, Eq)]
 pub struct Options {
     /// The column that is the key. Without a column the whole line is the key.

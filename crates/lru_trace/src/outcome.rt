@@ -4,12 +4,14 @@ ghost use Rattle.lru_trace.specs.Outcome.{status_of};
 use std::alloc::AllocError;
 use thiserror::Error;
 
+/// How a trace ends if nothing fails.
 #[derive(Clone, Copy, Debug, PartialEq, Eq)]
 pub enum TraceEnd {
     Done,
     NoSizes,
 }
 
+/// Why a trace stops early.
 #[derive(Clone, Copy, Debug, PartialEq, Eq, Error)]
 pub enum TraceError {
     #[error("read failed")]
@@ -31,7 +33,8 @@ impl From<AllocError> for TraceError {
     }
 }
 
-/// Returns the exit status.
+/// Returns the exit status: 0 if the report was written, 1 if the first line names no sizes, 2 if reading or writing
+/// failed, and 3 if memory ran out.
 pub fn status(end: &Result<TraceEnd, TraceError>) -> u8
     ensures { result ≡ status_of end.now }
 {

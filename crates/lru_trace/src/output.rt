@@ -4,7 +4,7 @@ ghost use Rattle.lru_trace.specs.Outcome.{Begins};
 
 use std::io::{ErrorKind, Write};
 
-/// Repeats an interrupted write.
+/// Writes the bytes, and returns whether all were written. An interrupted write is repeated.
 pub fn write_bytes<W: Write>(writer: &mut W, bytes: &[u8]) -> bool
     ensures { MatchBool result (Appends (W.contents writer.old) (W.contents writer.new) bytes.now)
         (Begins (W.contents writer.old) (W.contents writer.new) bytes.now) }

@@ -1,3 +1,4 @@
+//! Writes a curve: as text for people, csv for programs, or a picture.
 ghost use Rattle.std.specs.Prelude.{◌≡◌, ◌≤◌, ◌+◌, ◌^◌, ◌<◌, ◌++◌, ℕ, List, OnOk, IfOk, is_some, replicate, flat_map, map, false};
 ghost use Rattle.std.specs.String.{string_bytes};
 ghost use Rattle.lru_trace.specs.Counted.{IsOf};

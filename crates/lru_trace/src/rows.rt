@@ -9,6 +9,7 @@ use crate::best::Best;
 use crate::curve::Curve;
 use std::alloc::{AllocError, Global};
 
+/// What the head of a report says about a trace.
 #[derive(Clone, Copy)]
 pub struct Counts {
     pub references: u64,
@@ -17,6 +18,7 @@ pub struct Counts {
     pub skipped: Option<u64>,
 }
 
+/// The misses of MIN, and of MIN with bypass.
 #[derive(Clone, Copy)]
 pub struct BestMisses {
     pub min: usize,

@@ -1,3 +1,4 @@
+//! Slots with weights, and the sum of the weights behind each slot.
 ghost use Rattle.std.specs.Prelude.{◌≡◌, ◌+◌, ◌^◌, ◌<◌, IfOk, length, get_or, set, drop, replicate, sum};
 
 use std::alloc::{AllocError, Global};

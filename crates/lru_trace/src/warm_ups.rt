@@ -1,3 +1,4 @@
+//! What the misses after a warm-up are.
 ghost use Rattle.std.specs.Prelude.{◌≡◌, ◌-◌, ℕ, List, [], ◌++◌};
 ghost use Rattle.lru_theory.specs.Traces.{misses, cached, faults, past_after};
 

@@ -1,4 +1,6 @@
 // Erased from crates/lru_trace/src/byte_curve.rt: do not edit.
+//! The misses of a trace in LRU caches with limits of bytes.
+
 #[allow(unused_imports)]
 use crate::rattle_std::prelude::*;
 
@@ -153,6 +155,7 @@ impl ByteCurve {
         Ok(())
     }
 
+    /// Returns how many references were counted.
     pub fn references(&self) -> u64 {
         self.references
     }

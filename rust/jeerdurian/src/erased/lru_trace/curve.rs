@@ -1,4 +1,6 @@
 // Erased from crates/lru_trace/src/curve.rt: do not edit.
+//! The misses of a trace in LRU caches of every size.
+
 #[allow(unused_imports)]
 use crate::rattle_std::prelude::*;
 
@@ -33,6 +35,7 @@ pub struct Curve {
 }
 
 impl Curve {
+    /// Makes a curve without references.
     pub fn new(alloc: Global) -> Result<Self, AllocError> {
         Curve::make(alloc, None)
     }
@@ -174,6 +177,7 @@ impl Curve {
         }
     }
 
+    /// Returns how many references were counted.
     pub fn references(&self) -> u64 {
         self.references
     }

@@ -1,4 +1,6 @@
 // Erased from crates/lru_trace/src/distances.rt: do not edit.
+//! Reuse distances of a trace, one reference at a time.
+
 #[allow(unused_imports)]
 use crate::rattle_std::prelude::*;
 
@@ -55,10 +57,12 @@ impl Distances {
         Ok(key)
     }
 
+    /// Returns how many keys were referenced.
     pub fn referenced(&self) -> usize {
         self.used
     }
 
+    /// Returns the weight of a key.
     pub fn weight(&self, key: usize) -> u64 {
         match self.weights.get(key) {
             Some(weight) => *weight,

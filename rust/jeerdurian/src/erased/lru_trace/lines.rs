@@ -1,4 +1,6 @@
 // Erased from crates/lru_trace/src/lines.rt: do not edit.
+//! The lines of a trace, and their keys.
+
 #[allow(unused_imports)]
 use crate::rattle_std::prelude::*;
 
@@ -21,6 +23,7 @@ pub enum Ending {
     Nothing,
 }
 
+/// How many lines are malformed or skipped.
 #[derive(Clone, Copy, Debug, PartialEq, Eq)]
 pub struct Others {
     /// How many lines spell no key.
@@ -86,7 +89,7 @@ fn refer_line(curve: &mut Curve, options: Options, warm: bool, line: &[u8]) -> R
 }
 
 /// References the key of each remaining line (see `docs/TRACE.md`) if the key is in the sample. Returns how many lines
-/// are malformed or skipped.
+/// are malformed or skipped. After each million lines, writes the number of lines to `progress`.
 ///
 /// # Errors
 ///

@@ -2,6 +2,7 @@
 #[allow(unused_imports)]
 use crate::rattle_std::prelude::*;
 
+/// The form of the report.
 #[derive(Clone, Copy, Debug, PartialEq, Eq)]
 pub enum Form {
     /// For people: a line for each named size, and bars.
@@ -19,6 +20,7 @@ pub struct Column {
     pub separator: u8,
 }
 
+/// The policies whose misses are counted.
 #[derive(Clone, Copy, Debug, PartialEq, Eq)]
 pub enum Policies {
     /// LRU. The first `warm_up` keys fill the caches, and their references are not counted.
@@ -27,6 +29,7 @@ pub enum Policies {
     Best,
 }
 
+/// What `trace` reads and writes.
 #[derive(Clone, Copy, Debug, PartialEq, Eq)]
 pub struct Options {
     /// The column that is the key. Without a column the whole line is the key.

@@ -4,12 +4,14 @@ use crate::rattle_std::prelude::*;
 
 use crate::rattle_std::alloc::AllocError;
 
+/// How a trace ends if nothing fails.
 #[derive(Clone, Copy, Debug, PartialEq, Eq)]
 pub enum TraceEnd {
     Done,
     NoSizes,
 }
 
+/// Why a trace stops early.
 #[derive(Clone, Copy, Debug, PartialEq, Eq)]
 pub enum TraceError {
     Read = 1,
@@ -35,7 +37,8 @@ impl From<AllocError> for TraceError {
     }
 }
 
-/// Returns the exit status.
+/// Returns the exit status: 0 if the report was written, 1 if the first line names no sizes, 2 if reading or writing
+/// failed, and 3 if memory ran out.
 pub fn status(end: &Result<TraceEnd, TraceError>) -> u8 {
     match end {
         Ok(TraceEnd::Done) => 0,

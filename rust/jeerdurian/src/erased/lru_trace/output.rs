@@ -4,7 +4,7 @@ use crate::rattle_std::prelude::*;
 
 use crate::rattle_std::io::{ErrorKind, Write};
 
-/// Repeats an interrupted write.
+/// Writes the bytes, and returns whether all were written. An interrupted write is repeated.
 pub fn write_bytes<W: Write>(writer: &mut W, bytes: &[u8]) -> bool {
     let mut rest = bytes;
     for _ in 0..u64::MAX {

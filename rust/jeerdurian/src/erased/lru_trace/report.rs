@@ -1,4 +1,6 @@
 // Erased from crates/lru_trace/src/report.rt: do not edit.
+//! Writes a curve: as text for people, csv for programs, or a picture.
+
 #[allow(unused_imports)]
 use crate::rattle_std::prelude::*;
 

@@ -6,6 +6,7 @@ use crate::erased::lru_trace::best::Best;
 use crate::erased::lru_trace::curve::Curve;
 use crate::rattle_std::alloc::{AllocError, Global};
 
+/// What the head of a report says about a trace.
 #[derive(Clone, Copy)]
 pub struct Counts {
     pub references: u64,
@@ -14,6 +15,7 @@ pub struct Counts {
     pub skipped: Option<u64>,
 }
 
+/// The misses of MIN, and of MIN with bypass.
 #[derive(Clone, Copy)]
 pub struct BestMisses {
     pub min: usize,

@@ -1,4 +1,6 @@
 // Erased from crates/lru_trace/src/traces.rt: do not edit.
+//! Reads a trace from lines, and writes its report.
+
 #[allow(unused_imports)]
 use crate::rattle_std::prelude::*;
 
@@ -46,11 +48,11 @@ fn read_trace<R: BufRead, P: Write>(
     Ok(Some(Lines { sizes, curve, others }))
 }
 
-/// Reads a trace, and writes how often LRU caches of each size miss. `docs/TRACE.md` describes the input and the
-/// output.
+/// Reads a trace, and writes how often LRU caches of each size miss. `docs/TRACE.md` describes the output.
 ///
-/// `Policies::Best` also writes the misses of the best possible policies: in the text form for each named size, and in
-/// the other forms also for each power of two.
+/// The first line names sizes. A later line spells a key if the line, or a column of it, is text of 1 to 64 bytes.
+/// Otherwise the line counts as malformed. `Policies::Best` also writes the misses of the best possible policies: in
+/// the text form for each named size, and in the other forms also for each power of two.
 ///
 /// Cost: `O(log n)` expected for each line and n keys. The memory is in proportion to the number of keys and the
 /// longest line. With `Policies::Best` the memory is also in proportion to the number of lines, and each size costs

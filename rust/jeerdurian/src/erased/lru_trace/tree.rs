@@ -1,4 +1,6 @@
 // Erased from crates/lru_trace/src/tree.rt: do not edit.
+//! Slots with weights, and the sum of the weights behind each slot.
+
 #[allow(unused_imports)]
 use crate::rattle_std::prelude::*;
 

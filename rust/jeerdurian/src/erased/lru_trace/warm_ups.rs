@@ -1,4 +1,6 @@
 // Erased from crates/lru_trace/src/warm_ups.rt: do not edit.
+//! What the misses after a warm-up are.
+
 #[allow(unused_imports)]
 use crate::rattle_std::prelude::*;
 

@@ -14,7 +14,7 @@ use crate::rattle_std::collections::BTreeMap;
 /// What an entry costs in addition to the bytes of its path and of its response.
 const OVERHEAD: u64 = 64;
 
-/// A response is stale from the time `expires` on.
+/// A response. It is stale from the time `expires` on.
 
 pub struct Response {
     pub body: Vec<u8>,
@@ -29,6 +29,7 @@ impl Costed for Response {
 
 type Responses = TenantCache<String, String, Response, ByWeight<OVERHEAD>>;
 
+/// Looks a path up. Returns whether its response is fresh. Removes a stale response.
 fn has_fresh(entries: &mut Responses, host: &str, path: &str, now: u64) -> Result<bool, TenantError> {
     let expires = match entries.get(&host, &path)? {
         Some(response) => response.expires,
@@ -167,6 +168,7 @@ impl ResponseCache {
         Ok(self.entries.remove(&host, &path)?.is_some())
     }
 
+    /// Removes the responses of a host for the paths that begin with the prefix.
     pub fn purge_below(&mut self, host: &str, prefix: &str) -> Result<(), TenantError> {
         self.entries.retain(&host, |path, _| !is_below(path, prefix))
     }
