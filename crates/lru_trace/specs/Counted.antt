@@ -41,7 +41,6 @@ pub record Follows (is_warm : Bool) (old : Counted) (references : List (List ℕ
   pub counted : is_warm ≡ false → (warm trace : List (List ℕ)) → IsOf warm trace old → IsOf warm (trace ++ references) new
   pub warmed : is_warm ≡ true → (warm : List (List ℕ)) → IsOf warm [] old → IsOf (warm ++ references) [] new
 
--- what is true for every curve
 pub record IsCounted (names : List (String Global × ℕ)) (recent : Recent) (counts : List ℕ) (first references : ℕ)
     : Type 0 where
   pub numbered : AreNumbered names recent.keys

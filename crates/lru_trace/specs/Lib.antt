@@ -1,4 +1,3 @@
--- What the contracts of `lru_trace` cite.
 pub mod Nodes
 pub mod Slots
 pub mod Counted

@@ -41,12 +41,10 @@ module _ (from to : Option (List ℕ)) where
   TakesLine endings.InputEnd line = TakesRest line × (0 < length line)
   TakesLine endings.Nothing line = TakesRest line × (line ≡ [])
 
--- the bytes before the first separator
 abbrev pub before : ℕ → List ℕ → List ℕ
 before separator [] = []
 before separator (b ∷ line) = if b == separator then [] else b ∷ before separator line
 
--- the bytes behind the first separator
 abbrev pub behind : ℕ → List ℕ → List ℕ
 behind separator [] = []
 behind separator (b ∷ line) = if b == separator then line else behind separator line

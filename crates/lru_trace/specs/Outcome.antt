@@ -36,7 +36,7 @@ pub record TraceRead (from to : Option (List ℕ)) (options : Options) (sizes : 
   pub keeps : is_some curve.kept ≡ wants_best options.policies
   pub left_out : others ≡ others_in options rest
 
--- At most one line was read, and it names no sizes. So no options give an output.
+-- At most one line was read, and it names no sizes.
 pub record NoSizesRead (from to : Option (List ℕ)) : Type 0 where
   pub input : List ℕ
   pub reads : Consumes from to input

@@ -14,8 +14,7 @@ abbrev pub best_in : List (List ℕ) → Bool → ℕ → Option BestMisses
 best_in trace false n = None
 best_in trace true n = Some (record { min = min_misses bytes_eq n trace; bypass = bypass_misses bytes_eq n trace })
 
--- How many references a sample of one key in 2 ^ bits is expected to have, rounded down. If bits is 0, all keys are in
--- the sample.
+-- How many references a sample of one key in 2 ^ bits is expected to have, rounded down.
 abbrev pub expected_of : ℕ → Counts → ℕ
 expected_of bits counts = (counts.references + unwrap_or counts.skipped 0) / 2 ^ bits
 
@@ -24,7 +23,6 @@ module _ (warm trace : List (List ℕ)) where
   abbrev pub missed : ℕ → ℕ
   missed n = misses bytes_eq n (past_after [] warm) trace
 
-  -- how many different keys there are, also in the warm-up
   abbrev pub keys : ℕ
   keys = length (recency bytes_eq (past_after (past_after [] warm) trace))
 
@@ -44,7 +42,6 @@ unfoldable pub powers : ℕ → ℕ → ℕ → List ℕ
 powers most zero level = []
 powers most (suc n) level = 2 ^ level ∷ (if nat_le most (2 ^ level) then [] else powers most n (suc level))
 
--- the powers of two from 1 to the first that is at least the number of keys, or 1, times 2 ^ bits
 abbrev pub axis_in : ℕ → List (List ℕ) → List (List ℕ) → List ℕ
 axis_in bits warm trace = powers (max (keys warm trace) 1 * 2 ^ bits) 64 0
 
@@ -52,12 +49,11 @@ axis_in bits warm trace = powers (max (keys warm trace) 1 * 2 ^ bits) 64 0
 abbrev pub powers_in : ℕ → List (List ℕ) → List (List ℕ) → List ℕ
 powers_in bits warm trace = drop bits (axis_in bits warm trace)
 
--- sizes in rising order, with n among them
+-- inserts n into the rising list of sizes, unless the list has n
 abbrev pub with_size : List ℕ → ℕ → List ℕ
 with_size [] n = n ∷ []
 with_size (size ∷ sizes) n =
     if nat_lt size n then size ∷ with_size sizes n else if size == n then size ∷ sizes else n ∷ size ∷ sizes
 
--- the named sizes and the powers in rising order, each once
 abbrev pub points : List ℕ → List ℕ → List ℕ
 points sizes others = fold with_size (fold with_size [] others) sizes

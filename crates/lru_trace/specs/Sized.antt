@@ -12,50 +12,46 @@ use Rattle.lru_trace.specs.Counted.{AreNumbered, number_in}
 use Rattle.std.specs.Set.{remove_key}
 use Rattle.lru_trace.specs.Slots.{Recent, position, weight_in}
 
--- what the first reference to the key says
 abbrev pub first_size : List (List ℕ × ℕ) → List ℕ → Option ℕ
 first_size references key = lookup (bytes_eq key) references
 
 abbrev pub size_in : List (List ℕ × ℕ) → List ℕ → ℕ
 size_in references key = unwrap_or (first_size references key) 0
 
--- How many references of the trace, after the warm-up, miss in an LRU cache with this limit of bytes. The key of a
--- reference has the size that its first reference says, also in the warm-up.
+-- How many references of the trace, after the warm-up, miss in an LRU cache with this limit of bytes. A key has the size
+-- that its first reference says, also if that reference is in the warm-up.
 abbrev pub missed_within : ℕ → List (List ℕ × ℕ) → List (List ℕ × ℕ) → ℕ
 missed_within limit warm trace =
     misses_within bytes_eq (size_in (warm ++ trace)) limit (past_after [] (keys_of warm)) (keys_of trace)
 
 pub record Sized : Type 0 where
   pub names : List (String Global × ℕ)
-  -- the numbers of the keys, the last referenced first
   pub recency : List ℕ
-  -- the size of each number
   pub sizes : List ℕ
   pub limits : List ℕ
-  -- how many counted references need at most each limit, and more than the limit before; and how many miss at any limit
+  -- for each limit, how many counted references need at most this limit and more than the limit before it; then, how
+  -- many miss at every limit
   pub counts : List ℕ
   pub references : ℕ
 
--- the sizes of all keys together
 abbrev pub total_of : Sized → ℕ
 total_of curve = sum_by (weight_in curve.sizes) curve.recency
 
--- What a reference to the key needs: the size of the key, and the sizes of the keys before it in the recency list. If
--- this is the first reference to the key, `None`.
+-- The size of the key plus the sizes of the keys before it in the recency list. If this is the first reference to the
+-- key, `None`.
 abbrev pub need_of : (ℕ → ℕ) → ℕ → List ℕ → Option ℕ
 need_of size key recency = option_map (λ behind. size key + behind) (position size key recency)
 
--- whether a reference that needs this much misses in a cache with the limit
+-- whether the reference misses in a cache with the limit
 abbrev pub exceeds : Option ℕ → ℕ → Bool
 exceeds None limit = true
 exceeds (Some need) limit = nat_lt limit need
 
--- the named keys have the same sizes
 abbrev pub KeepsSizes : Sized → Sized → Type 0
 KeepsSizes old new = (key : List ℕ) (number : ℕ) → number_in old.names key ≡ Some number →
     weight_in new.sizes number ≡ weight_in old.sizes number
 
--- A reference to the key was made, but not yet counted. It needs `need`.
+-- A reference to the key was made, but not yet counted.
 pub record Made (key : List ℕ) (bytes : ℕ) (need : Option ℕ) (old new : Sized) : Type 0 where
   pub number : ℕ
   pub named : number_in new.names key ≡ Some number
@@ -80,7 +76,6 @@ pub record IsSizedOf (warm trace : List (List ℕ × ℕ)) (curve : Sized) : Typ
       + sum (take (i + 1) curve.counts) ≡ curve.references
   pub all : curve.references ≡ length trace
 
--- what is true for every curve
 pub record IsSized (names : List (String Global × ℕ)) (recent : Recent) (limits counts : List ℕ)
     (references total : ℕ) : Type 0 where
   pub numbered : AreNumbered names recent.keys

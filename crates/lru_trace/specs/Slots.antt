@@ -1,11 +1,11 @@
--- The slots of a log. Each slot contains a key or is free.
+-- Each slot of a log contains a key or is free.
 use Rattle.std.specs.Prelude.{◌≡◌, ℕ, ◌^◌, ◌≤◌, ◌<◌, if◌then◌else◌, List, [], ◌∷◌, ◌++◌, length, sum, sum_by}
 use Rattle.std.specs.Prelude.{get_or, Option, Some, None, nat_eq, Vec, vec_len, vec_capacity}
 use Rattle.std.specs.Option.{option_to_list}
 use Rattle.lru_theory.specs.Traces.{is_in, since}
 
--- The keys that were referenced, the last referenced first; the number of keys; the weights of the first keys; and the
--- number of slots that are left.
+-- `recency` has the referenced keys, the last referenced first. `weights` has the weights of the first keys. `room` is
+-- the number of slots that are left.
 pub record Recent : Type 0 where
   pub recency : List ℕ
   pub keys : ℕ
@@ -30,7 +30,6 @@ abbrev pub newest : List (Option ℕ) → List ℕ
 newest [] = []
 newest (slot ∷ slots) = newest slots ++ option_to_list slot
 
--- Each key that was referenced has one slot, with its weight in the tree. Free slots weigh 0.
 pub record IsLog {Z : Type 0} (levels : ℕ) (log : Vec (Option ℕ) Z) (slots : List (Option ℕ)) (weights tree : List ℕ)
     (used : ℕ) : Type 0 where
   pub size : length tree ≡ 2 ^ levels

@@ -45,7 +45,6 @@ missed_by policies.Bypass row = of_best (λ best. best.bypass) row.best
 abbrev pub y_of : Policy → Row → ℕ
 y_of policy row = 3900 - missed_part (missed_by policy row) row.expected 3200
 
--- the point of a row, if its size is on the axis
 abbrev pub point_text : ℕ → Policy → Row → List ℕ
 point_text octaves policy row = if row.size == 0 then [] else if nat_le (x_of octaves row.size) 7300
     then decimal (x_of octaves row.size) ++ (codes " " ++ (decimal (y_of policy row) ++ codes " ")) else []
