@@ -13,7 +13,7 @@ use Rattle.ordered_table.specs.declared.linked.chain.Chain.{Chain}
 abbrev pub pair_slot : {K V N : Type 0} → Slot (Entry K V N) → Slot (K × V)
 pair_slot empty = empty
 pair_slot deleted = deleted
-pair_slot (full held) = full (record { tag = held.tag; entry = (held.entry.pair.key, held.entry.pair.value) })
+pair_slot (full held) = full (record { tag = held.tag; entry = (held.entry.key, held.entry.value) })
 
 abbrev pub pair_slots : {K V N : Type 0} → List (Slot (Entry K V N)) → List (Slot (K × V))
 pair_slots slots = map pair_slot slots

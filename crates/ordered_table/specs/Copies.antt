@@ -5,7 +5,7 @@ use Rattle.ordered_table.specs.declared.linked.Entry.{Entry}
 -- the copy has clones of the key and the value, and the same links
 pub record IsEntryCopy {K V N : Type 0} (same_key : K → K → Type 0) (same_value : V → V → Type 0)
     (entry copy : Entry K V N) : Type 0 where
-  pub key : same_key entry.pair.key copy.pair.key
-  pub value : same_value entry.pair.value copy.pair.value
+  pub key : same_key entry.key copy.key
+  pub value : same_value entry.value copy.value
   pub newer : copy.newer ≡ entry.newer
   pub older : copy.older ≡ entry.older

@@ -1,4 +1,5 @@
 pub mod OrderedTable
+pub mod Offers
 pub mod Chain
 pub mod PairLends
 pub mod Rest

@@ -3,6 +3,7 @@
 ghost use Rattle.std.specs.Prelude.{◌≡◌, ℕ, ◌+◌, ◌<◌, false, [], ◌∷◌, ◌++◌, length, Some, IfSome};
 ghost use Rattle.std.specs.Prelude.{IfNone, IsTrue, replicate};
 ghost use Rattle.std.specs.Borrow.{sem};
+ghost use Rattle.std.specs.Map.Iter.{deref_pair, deref_pair_mut};
 ghost use Rattle.group_table.specs.Bucket.{empty, bucket_states, IsFull, entry_at, growth_left, growth_left_at};
 ghost use Rattle.group_table.specs.Change.{Removes, no_insertions};
 ghost use Rattle.ordered_table.specs.OrderedTable.{IsLinked, KeysFit, without_bucket, with_pair};
@@ -14,7 +15,6 @@ ghost use Rattle.ordered_table.specs.Chain.{pair_slots};
 ghost use Rattle.ordered_table.specs.OrderedTable.{bucket_after, bucket_before};
 
 use crate::linked::chain::Chain;
-use crate::ordered::Pair;
 use group_table::{LinkType, Table};
 use lru_limits::LookupKey;
 use std::alloc::Global;
@@ -24,13 +24,15 @@ use std::marker::Model;
 mod chain;
 mod copy;
 mod moves;
+mod offer;
 mod place;
 
-// A pair with links to its neighbours in the order. At an end of the order, the link is `MAX`. The value is between the
-// key and the links, so that a look-up or a step of a walk reads few cache lines.
+// A key and its value, with links to the neighbours in the order. At an end of the order, the link is `MAX`. The links
+// are beside the key and the value, so that they can fill the padding.
 #[derive(Drop)]
 pub(crate) struct Entry<K, V, N> {
-    pair: Pair<K, V>,
+    key: K,
+    value: V,
     newer: N,
     older: N,
 }
@@ -123,11 +125,12 @@ impl<K, V, N: LinkType> LinkedTable<K, V, N> {
     }
 
     #[inline]
-    pub(crate) fn pair(&self, b: usize) -> &Pair<K, V>
+    pub(crate) fn pair(&self, b: usize) -> (&K, &V)
         requires { IsFull self.now.slots b }
-        ensures pair { entry_at self.now.slots b ≡ Some (result.now.key, result.now.value) }
+        ensures pair { entry_at self.now.slots b ≡ Some (deref_pair result) }
     {
-        &self.chain.table.get(b).pair
+        let entry = self.chain.table.get(b);
+        (&entry.key, &entry.value)
     }
 
     #[inline]
@@ -163,17 +166,17 @@ impl<K, V, N: LinkType> LinkedTable<K, V, N> {
     }
 
     #[inline]
-    pub(crate) fn pair_mut(&mut self, b: usize) -> &mut Pair<K, V>
+    pub(crate) fn pair_mut(&mut self, b: usize) -> (&K, &mut V)
         requires { IsFull self.old.slots b }
         ensures* writes_back { sem 𝓛
             (lends_linked_pair K.row V.row N.row N.LinkType self.entry b result) }
-        ensures pair { entry_at self.old.slots b ≡ Some (result.now.key, result.now.value) }
-        ensures fits { (hash_of : K → ℕ) → KeysFit hash_of self.old.slots →
-            (last : K × V) → hash_of last.0 ≡ hash_of result.now.key
-            → KeysFit hash_of (with_pair self.old b last).slots }
-        ensures linked { (last : K × V) → IsLinked (with_pair self.old b last) }
+        ensures pair { entry_at self.old.slots b ≡ Some (deref_pair_mut result) }
+        ensures fits { (hash_of : K → ℕ) → KeysFit hash_of self.old.slots → (last : V) →
+            KeysFit hash_of (with_pair self.old b (result.0.now, last)).slots }
+        ensures linked { (last : V) → IsLinked (with_pair self.old b (result.0.now, last)) }
     {
-        &mut self.chain.table.get_mut(b).pair
+        let entry = self.chain.table.get_mut(b);
+        (&entry.key, &mut entry.value)
     }
 
     #[inline]
@@ -187,8 +190,8 @@ impl<K, V, N: LinkType> LinkedTable<K, V, N> {
             hash,
             move |entry: &Entry<K, V, N>| -> bool
                 requires { F.IsAlwaysCallable f }
-                ensures { Asks F.FnMut f.entry (entry.now.pair.key, entry.now.pair.value) result f.exit }
-            { f(&entry.pair.key, &entry.pair.value) },
+                ensures { Asks F.FnMut f.entry (entry.now.key, entry.now.value) result f.exit }
+            { f(&entry.key, &entry.value) },
         )
     }
 
@@ -236,9 +239,14 @@ impl<K, V, N: LinkType> LinkedTable<K, V, N> {
         ensures fits { (hash_of : K → ℕ) → KeysFit hash_of self.old.slots → KeysFit hash_of self.new.slots }
         ensures linked { IsLinked self.new }
     {
-        let Entry { newer, older, pair } = self.chain.table.take(b);
+        let Entry {
+            key,
+            value,
+            newer,
+            older,
+        } = self.chain.table.take(b);
         self.chain.close_gap(newer, older, last);
-        (pair.key, pair.value)
+        (key, value)
     }
 }
 
@@ -266,8 +274,6 @@ impl<K: Eq + Hash, V, N: LinkType> LinkedTable<K, V, N> {
             (b : ℕ) (pair : K × V) → entry_at self.now.slots b ≡ Some pair → hash_of pair.0 ≡ hash
             → Q.names key.now pair.0 ≡ false) }
     {
-        self.chain
-            .table
-            .find(hash, |entry| key.is_key(&entry.pair.key))
+        self.chain.table.find(hash, |entry| key.is_key(&entry.key))
     }
 }

@@ -1,6 +1,7 @@
 //! `OrderedTable`: a table whose entries are in an order.
 ghost use Rattle.std.specs.Prelude.{◌≡◌, ℕ, ◌+◌, ◌<◌, false, [], length, Some, IfSome, IfNone, IsTrue};
 ghost use Rattle.std.specs.Borrow.{sem};
+ghost use Rattle.std.specs.Map.Iter.{deref_pair, deref_pair_mut};
 ghost use Rattle.group_table.specs.Bucket.{bucket_states, IsFull, entry_at, growth_left};
 ghost use Rattle.group_table.specs.Change.{no_insertions};
 ghost use Rattle.ordered_table.specs.OrderedTable.{IsLinked, KeysFit, with_pair};
@@ -20,13 +21,6 @@ mod changes;
 mod equal;
 mod index;
 mod promoted;
-
-/// A key and a value of a table.
-#[derive(Drop)]
-pub struct Pair<K, V> {
-    pub key: K,
-    pub value: V,
-}
 
 /// A table whose full buckets are in an order, newest first. `N` is the type of its links.
 ///
@@ -91,7 +85,7 @@ impl<K, V, N: LinkType> OrderedTable<K, V, N> {
         }
     }
 
-    /// Returns the size of an entry, which is a pair and two links.
+    /// Returns the size of an entry: a key, a value and two links.
     pub const fn entry_bytes() -> usize
         ensures { result ≡ entry_size K.row V.row N.row }
     {
@@ -136,9 +130,9 @@ impl<K, V, N: LinkType> OrderedTable<K, V, N> {
 
     /// Returns the entry in a full bucket.
     #[inline]
-    pub fn pair(&self, b: usize) -> &Pair<K, V>
+    pub fn pair(&self, b: usize) -> (&K, &V)
         requires { IsFull self.now.slots b }
-        ensures pair { entry_at self.now.slots b ≡ Some (result.now.key, result.now.value) }
+        ensures pair { entry_at self.now.slots b ≡ Some (deref_pair result) }
     {
         self.linked.pair(b)
     }
@@ -181,17 +175,16 @@ impl<K, V, N: LinkType> OrderedTable<K, V, N> {
         promoted::newer_unless_first(&self.linked, self.promoted, b)
     }
 
-    /// Lends the entry in a full bucket for writing. If a written key has the same hash, the keys still fit the table.
+    /// Lends the value of the entry in a full bucket for writing.
     #[inline]
-    pub fn pair_mut(&mut self, b: usize) -> &mut Pair<K, V>
+    pub fn pair_mut(&mut self, b: usize) -> (&K, &mut V)
         requires { IsFull self.old.slots b }
         ensures* writes_back { sem 𝓛
             (lends_pair K.row V.row N.row N.LinkType self.entry b result) }
-        ensures pair { entry_at self.old.slots b ≡ Some (result.now.key, result.now.value) }
-        ensures fits { (hash_of : K → ℕ) → KeysFit hash_of self.old.slots →
-            (last : K × V) → hash_of last.0 ≡ hash_of result.now.key
-            → KeysFit hash_of (with_pair self.old b last).slots }
-        ensures linked { (last : K × V) → IsLinked (with_pair self.old b last) }
+        ensures pair { entry_at self.old.slots b ≡ Some (deref_pair_mut result) }
+        ensures fits { (hash_of : K → ℕ) → KeysFit hash_of self.old.slots → (last : V) →
+            KeysFit hash_of (with_pair self.old b (result.0.now, last)).slots }
+        ensures linked { (last : V) → IsLinked (with_pair self.old b (result.0.now, last)) }
     {
         self.linked.pair_mut(b)
     }

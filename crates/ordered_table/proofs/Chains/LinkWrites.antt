@@ -37,9 +37,9 @@ module _ {K V N : Type 0} (slots : List (Slot (Entry K V N))) (b : ℕ) (entry :
     ≡ Some entry) where
   pub SetsLinks-written : (newer older : N)
       → SetsLinks slots (set slots b
-      (refilled (bucket_at slots b) (record { pair = entry.pair; newer = newer; older = older }))) b newer older
+      (refilled (bucket_at slots b) (record { key = entry.key; value = entry.value; newer = newer; older = older }))) b newer older
   SetsLinks-written newer older =
-      let next : Entry K V N = record { pair = entry.pair; newer = newer; older = older } in
+      let next : Entry K V N = record { key = entry.key; value = entry.value; newer = newer; older = older } in
       record {
         pairs = pair_slots-refilled slots b entry next there refl;
         newer_there = ap (option_map (λ x. x.newer))
@@ -69,12 +69,12 @@ module _ {K V N : Type 0} (slots : List (Slot (Entry K V N))) (b : ℕ) (entry :
         }
 
     pub SetsNewer-written : SetsNewer number slots
-        (set slots b (refilled (bucket_at slots b) (record { pair = entry.pair; newer = to; older = entry.older }))) at
+        (set slots b (refilled (bucket_at slots b) (record { key = entry.key; value = entry.value; newer = to; older = entry.older }))) at
         to
     SetsNewer-written = set_link (λ x. x.newer) (λ x. x.older) _ (SetsLinks-written to entry.older).pairs refl refl
 
     pub SetsOlder-written : SetsOlder number slots
-        (set slots b (refilled (bucket_at slots b) (record { pair = entry.pair; newer = entry.newer; older = to }))) at
+        (set slots b (refilled (bucket_at slots b) (record { key = entry.key; value = entry.value; newer = entry.newer; older = to }))) at
         to
     SetsOlder-written = set_link (λ x. x.older) (λ x. x.newer) _ (SetsLinks-written entry.newer to).pairs refl refl
 

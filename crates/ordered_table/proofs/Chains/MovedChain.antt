@@ -30,7 +30,7 @@ module _ {N : Type 0} (number : N → ℕ) (none : N) {K V : Type 0} where
       → entry_at slots b ≡ Some entry → (newer older : N)
       → newer ≡ moved_link number none links entry.newer → older ≡ moved_link number none links entry.older
       → MovesLinks number none links slots
-      (set slots b (refilled (bucket_at slots b) (record { pair = entry.pair; newer = newer; older = older }))) b
+      (set slots b (refilled (bucket_at slots b) (record { key = entry.key; value = entry.value; newer = newer; older = older }))) b
   MovesLinks-written links slots b entry is newer older p q =
       let w = SetsLinks-written slots b entry is newer older in
       record {

@@ -16,7 +16,6 @@ use Rattle.group_table.proofs.SearchLemmas.{full_by_entry}
 use Rattle.group_table.proofs.ChangeLemmas.{entry_count-places, bucket_at-placed_other}
 use Rattle.group_table.proofs.ChangeLemmas.{entry_at-removed, bucket_at-removed_other, entry_count-removes}
 use Rattle.ordered_table.specs.declared.linked.Entry.{Entry}
-use Rattle.ordered_table.specs.declared.ordered.Pair.{Pair}
 use Rattle.ordered_table.specs.OrderedTable.{OrderedTable, IsLinked, without_bucket, with_pair}
 use Rattle.lru_model.specs.Lists.{first as first_bucket}
 use Rattle.ordered_table.specs.Chain.{link_to, pair_slots, older_at, along, IsChain}
@@ -27,7 +26,7 @@ use Rattle.ordered_table.proofs.Chains.Orders.{other_than, distinct_head, distin
 use Rattle.ordered_table.proofs.Chains.Orders.{in_without, length-without}
 use Rattle.ordered_table.proofs.Chains.Neighbours.{after-later}
 use Rattle.ordered_table.proofs.Tables.PairSlots.{same_count, same_full, bucket_states-pair_slots, is_full-pair_slots}
-use Rattle.ordered_table.proofs.Tables.PairSlots.{entry_count-pair_slots, pair_slots-rewritten}
+use Rattle.ordered_table.proofs.Tables.PairSlots.{entry_count-pair_slots, pair_of, pair_slots-rewritten}
 use Rattle.ordered_table.proofs.Chains.LinkWrites.{chained_below}
 use Rattle.ordered_table.proofs.Tables.KeyHashes.{not_full}
 
@@ -180,10 +179,8 @@ module _ {N : Type 0} {number : N → ℕ} {link : ℕ → N} {none : N}
 
   module _ {slots : List (Slot (Entry K V N))} {newest oldest : N} {order : List ℕ}
       (whole : IsWhole number link none slots newest oldest order)
-      (b : ℕ) (entry : Entry K V N) (is : entry_at slots b ≡ Some entry) (pair : Pair K V) where
-    abbrev next : Entry K V N
-    next = record { pair = pair; newer = entry.newer; older = entry.older }
-
+      (b : ℕ) (entry : Entry K V N) (is : entry_at slots b ≡ Some entry)
+      (next : Entry K V N) (same_newer : next.newer ≡ entry.newer) (same_older : next.older ≡ entry.older) where
     abbrev after : List (Slot (Entry K V N))
     after = set slots b (refilled (bucket_at slots b) next)
 
@@ -199,9 +196,7 @@ module _ {N : Type 0} {number : N → ℕ} {link : ℕ → N} {none : N}
       | inr h ↦ ap (option_map f) (entry_at-refilled_other slots b next x h)
     ]
 
-    pub IsWhole-refilled : IsWhole number link none
-        (set slots b (refilled (bucket_at slots b) (record { pair = pair; newer = entry.newer; older = entry.older })))
-        newest oldest order
+    pub IsWhole-refilled : IsWhole number link none after newest oldest order
     IsWhole-refilled = record {
       chain = record {
         reached = omega (arith, length-set slots b (refilled (bucket_at slots b) next), whole.chain.reached);
@@ -209,8 +204,8 @@ module _ {N : Type 0} {number : N → ℕ} {link : ℕ → N} {none : N}
         only = λ x w. still_full x ∙ whole.chain.only x w;
         newest_first = whole.chain.newest_first;
         oldest_last = whole.chain.oldest_last;
-        newer = λ x w. kept_link (λ e. e.newer) refl x ∙ whole.chain.newer x w;
-        older = λ x w. kept_link (λ e. e.older) refl x ∙ whole.chain.older x w;
+        newer = λ x w. kept_link (λ e. e.newer) same_newer x ∙ whole.chain.newer x w;
+        older = λ x w. kept_link (λ e. e.older) same_older x ∙ whole.chain.older x w;
       };
       all = λ x full. whole.all x (sym (still_full x) ∙ full);
       count = sym (entry_count-bucket_states after) ∙ ap entry_count (bucket_states-refilled slots b next)
@@ -219,16 +214,14 @@ module _ {N : Type 0} {number : N → ℕ} {link : ℕ → N} {none : N}
 
     pub view-refilled : (insertions : Insertions) → ◌≡◌ {A = OrderedTable K V}
         (record { slots = pair_slots after; order = along number (length after) after newest; insertions = insertions })
-        (with_pair (record { slots = pair_slots slots; order = order; insertions = insertions }) b
-        (pair.key, pair.value))
+        (with_pair (record { slots = pair_slots slots; order = order; insertions = insertions }) b (pair_of next))
     view-refilled insertions =
         let wrote = pair_slots-rewritten slots b next in
         let stays = whole_order IsWhole-refilled in
         cc
 
     pub IsLinked-refilled : {insertions : Insertions} → IsTable (bucket_states slots)
-        → IsLinked (with_pair (record { slots = pair_slots slots; order = order; insertions = insertions }) b
-        (pair.key, pair.value))
+        → IsLinked (with_pair (record { slots = pair_slots slots; order = order; insertions = insertions }) b (pair_of next))
     IsLinked-refilled {insertions} table =
         rw (← pair_slots-rewritten slots b next)
         (IsLinked-view IsWhole-refilled (rw (bucket_states-refilled slots b next) table))

@@ -127,7 +127,7 @@ module _ {K V N F : Type 0} (same_key : K → K → Type 0) (same_value : V → 
             → unwrap_or (option_map (λ x. hash_of x.0) (option_map pair_of o)) 0
             ≡ unwrap_or (option_map (λ x. other x.0) (option_map pair_of p)) 0
         go None p h = rw h refl
-        go (Some x) p h = rw h.1 (sym (alike x.pair.key h.0.pair.key h.2.key))
+        go (Some x) p h = rw h.1 (sym (alike x.key h.0.key h.2.key))
 
     pub keys_fit : ((g : ℕ → ℕ) → Fits old g → Fits new g) → KeysFit hash_of (pair_slots old)
         → KeysFit other (pair_slots new)

@@ -12,12 +12,11 @@ use Rattle.group_table.specs.Probe.{Reaches}
 use Rattle.group_table.specs.Change.{Removes}
 use Rattle.group_table.proofs.BucketLemmas.{entry_count-bucket_states}
 use Rattle.ordered_table.specs.declared.linked.Entry.{Entry}
-use Rattle.ordered_table.specs.declared.ordered.Pair.{Pair}
 use Rattle.ordered_table.specs.Chain.{pair_slot, pair_slots}
 
 module _ {K V N : Type 0} where
   abbrev pub pair_of : Entry K V N → K × V
-  pair_of entry = (entry.pair.key, entry.pair.value)
+  pair_of entry = (entry.key, entry.value)
 
   bucket_state-pair_slot : (s : Slot (Entry K V N)) → bucket_state (pair_slot s) ≡ bucket_state s
   bucket_state-pair_slot empty = refl
@@ -123,14 +122,14 @@ module _ {K V N : Type 0} where
         ∙ pair_slots-set old b deleted,
   )
 
-  refilled_pair : (s : Slot (Entry K V N)) (entry next : Entry K V N) → entry_of s ≡ Some entry → next.pair
-      ≡ entry.pair → pair_slot (refilled s next) ≡ pair_slot s
+  refilled_pair : (s : Slot (Entry K V N)) (entry next : Entry K V N) → entry_of s ≡ Some entry → pair_of next
+      ≡ pair_of entry → pair_slot (refilled s next) ≡ pair_slot s
   refilled_pair empty entry next e same = refl
   refilled_pair deleted entry next e same = refl
   refilled_pair (full held) entry next e same =
       let is : held.entry ≡ entry = cc in
-      let slot_with : Pair K V → Slot (K × V) = λ p. full (record { tag = held.tag; entry = (p.key, p.value) }) in
-      ap slot_with (same ∙ sym (ap (λ x. x.pair) is))
+      let slot_with : K × V → Slot (K × V) = λ p. full (record { tag = held.tag; entry = p }) in
+      ap slot_with (same ∙ sym (ap pair_of is))
 
   refilled_slot : (s : Slot (Entry K V N)) (next : Entry K V N) → pair_slot (refilled s next)
       ≡ refilled (pair_slot s) (pair_of next)
@@ -147,7 +146,7 @@ module _ {K V N : Type 0} where
       (sym (bucket_at-pair_slots slots b)))
 
   pub pair_slots-refilled : (slots : List (Slot (Entry K V N))) (b : ℕ) (entry next : Entry K V N) → entry_at slots b
-      ≡ Some entry → next.pair ≡ entry.pair
+      ≡ Some entry → pair_of next ≡ pair_of entry
       → pair_slots (set slots b (refilled (bucket_at slots b) next)) ≡ pair_slots slots
   pair_slots-refilled slots b entry next there same = map-set_same pair_slot slots b
       (refilled (bucket_at slots b) next) empty (refilled_pair (bucket_at slots b) entry next there same)

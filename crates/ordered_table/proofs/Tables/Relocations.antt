@@ -79,6 +79,6 @@ module _ {N : Type 0} {number : N → ℕ} {none : N} {K V : Type 0} {before sta
 
 pub hash_in-pair_slots : {K V N : Type 0} (hash_of : K → ℕ) (slots : List (Slot (Entry K V N))) (b : ℕ)
     (entry : Entry K V N) → entry_at slots b ≡ Some entry
-    → hash_in hash_of (pair_slots slots) b ≡ hash_of entry.pair.key
+    → hash_in hash_of (pair_slots slots) b ≡ hash_of entry.key
 hash_in-pair_slots hash_of slots b entry is = hash_in-entry hash_of (pair_slots slots) b (pair_of entry)
     (entry_at-pair_slots slots b ∙ ap (option_map pair_of) is)

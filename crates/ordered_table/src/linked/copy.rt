@@ -7,7 +7,6 @@ ghost use Rattle.ordered_table.specs.OrderedTable.{IsLinked, KeysFit, entries_in
 
 use crate::linked::chain::Chain;
 use crate::linked::{Entry, LinkedTable};
-use crate::ordered::Pair;
 use group_table::LinkType;
 use std::alloc::AllocError;
 
@@ -32,10 +31,8 @@ impl<K: Drop, V: Drop, N: LinkType> LinkedTable<K, V, N> {
                 ensures { IfOk result (IsEntryCopy K.is_clone V.is_clone entry.now) }
             {
                 Ok(Entry {
-                    pair: Pair {
-                        key: entry.pair.key.clone()?,
-                        value: entry.pair.value.clone()?,
-                    },
+                    key: entry.key.clone()?,
+                    value: entry.value.clone()?,
                     newer: entry.newer,
                     older: entry.older,
                 })

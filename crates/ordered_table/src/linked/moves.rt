@@ -67,8 +67,8 @@ fn renumber_entries<K: Eq + Hash, V, N: LinkType, S: BuildHasher>(
     ensures gives_back { buckets ≡ 0 → IsOk result }
 {
     if buckets == table.buckets() {
-        table.rehash(|entry| hasher.hash_one(&entry.pair.key))
+        table.rehash(|entry| hasher.hash_one(&entry.key))
     } else {
-        table.relocate(buckets, |entry| hasher.hash_one(&entry.pair.key))
+        table.relocate(buckets, |entry| hasher.hash_one(&entry.key))
     }
 }

@@ -4,7 +4,6 @@ ghost use Rattle.group_table.specs.Change.{HasNoPlace};
 ghost use Rattle.ordered_table.specs.OrderedTable.{IsLinked, KeysFit, Lands};
 
 use crate::linked::{Entry, LinkedTable};
-use crate::ordered::Pair;
 use group_table::LinkType;
 
 impl<K, V, N: LinkType> LinkedTable<K, V, N> {
@@ -36,21 +35,22 @@ impl<K, V, N: LinkType> LinkedTable<K, V, N> {
                 self.chain.link_placed(b, first);
                 Ok(())
             }
-            Err(entry) => Err((entry.pair.key, entry.pair.value)),
+            Err(entry) => Err((entry.key, entry.value)),
         }
     }
 }
 
 #[inline]
 fn newest_entry<K, V, N: LinkType>(pair: (K, V), first: N) -> Entry<K, V, N>
-    ensures pair { (result.pair.key, result.pair.value) ≡ pair }
+    ensures pair { (result.key, result.value) ≡ pair }
     ensures newer { result.newer ≡ N.MAX }
     ensures older { result.older ≡ first }
 {
     let (key, value) = pair;
     Entry {
+        key,
+        value,
         newer: N::MAX,
         older: first,
-        pair: Pair { key, value },
     }
 }

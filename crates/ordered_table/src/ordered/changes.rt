@@ -4,16 +4,17 @@ ghost use Rattle.std.specs.Prelude.{◌≡◌, ℕ, ◌+◌, ◌^◌, ◌<◌, �
 ghost use Rattle.std.specs.Prelude.{IfOk, IfErr, OnOk, OnErr, IsOk};
 ghost use Rattle.std.specs.List.{AllZip};
 ghost use Rattle.group_table.specs.Sizes.{IsBucketCount, full_capacity};
-ghost use Rattle.group_table.specs.Bucket.{empty, bucket_states, IsFull, entry_count, growth_left};
+ghost use Rattle.group_table.specs.Bucket.{empty, bucket_states, IsFull, entry_at, entry_count, growth_left};
 ghost use Rattle.group_table.specs.Change.{HasNoPlace, some_moved};
 ghost use Rattle.lru_model.specs.Clones.{IsPairClone};
 ghost use Rattle.lru_model.specs.Lists.{last as last_bucket};
+ghost use Rattle.ordered_table.specs.Offers.{IsOffered};
 ghost use Rattle.ordered_table.specs.OrderedTable.{IsLinked, KeysFit, Lands, Takes, pairs_of, without_bucket};
 
 use crate::ordered::OrderedTable;
 use crate::ordered::promoted::settle;
 use group_table::LinkType;
-use lru_limits::KeyHasher;
+use lru_limits::{Insertion, KeyHasher, LookupKey};
 use std::alloc::AllocError;
 use std::hash::Hash;
 
@@ -143,6 +144,29 @@ impl<K: Drop, V: Drop, N: LinkType> OrderedTable<K, V, N> {
 }
 
 impl<K: Eq + Hash, V, N: LinkType> OrderedTable<K, V, N> {
+    /// Offers a limiter a new value for the entry in a full bucket. Returns whether the limiter accepted the value. If
+    /// it did, the entry has this value afterwards, and `value` is the old one. The order stays.
+    #[inline]
+    pub fn offer<I: LookupKey<K>, L: Insertion<K, V, I>>(
+        &mut self,
+        b: usize,
+        limiter: &mut L,
+        key: I,
+        value: &mut V,
+    ) -> bool
+        requires { IsFull self.old.slots b }
+        ensures offered { IsOffered (λ pair. L.offers.on_replace limiter.old (length self.old.order) pair.0 key pair.1
+            value.old) b self.old result self.new limiter.new value.new }
+        ensures linked { IsLinked self.new }
+        ensures fits { (hash_of : K → ℕ) → KeysFit hash_of self.old.slots → ((pair : K × V) →
+            entry_at self.old.slots b ≡ Some pair → hash_of pair.0
+            ≡ hash_of (L.offers.on_replace limiter.old (length self.old.order) pair.0 key pair.1 value.old).key) →
+            KeysFit hash_of self.new.slots }
+    {
+        let length = self.len();
+        self.linked.offer(b, length, limiter, key, value)
+    }
+
     /// Moves all entries into a table of `buckets` buckets, in the same order. If the table already has `buckets`
     /// buckets, rehashes the entries in place.
     ///

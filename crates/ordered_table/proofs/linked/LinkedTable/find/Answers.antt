@@ -8,7 +8,7 @@ use Rattle.ordered_table.proofs.linked.LinkedTable.find.Goals as goal
 
 pub returns-clause-found : goal.returns-clause-found
 returns-clause-found g c = rw (← c.self.view_is) (IfSome_then c.find.result c.find.ensures.found (λ b found.
-    let w = Finds-test _ c.self.inside.chain.table.slots _ (λ entry. g.Q.LookupKey.names c.args.key.now entry.pair.key)
+    let w = Finds-test _ c.self.inside.chain.table.slots _ (λ entry. g.Q.LookupKey.names c.args.key.now entry.key)
     (λ x r f k. search rules) c.args.hash b found in
     (pair_of w.0, entry_at-pair_slots c.self.inside.chain.table.slots b ∙ ap (option_map pair_of) w.1, w.2)))
 
@@ -17,6 +17,6 @@ returns-clause-none g c = rw (← c.self.view_is) (if_none c.find.result (λ non
     let w = entry_of-pair_at c.self.inside.chain.table.slots b pair there in
     let hash = hash_in-entry hash_of _ b pair there ∙ same in
     let refused = FindsNone-test _ c.self.inside.chain.table.slots _
-    (λ entry. g.Q.LookupKey.names c.args.key.now entry.pair.key) (λ x r f k. search rules) c.args.hash none
+    (λ entry. g.Q.LookupKey.names c.args.key.now entry.key) (λ x r f k. search rules) c.args.hash none
     _ (Fits-entries c.self.inside.chain.table.slots _ fits) b w.0 hash w.1 in
     ap (λ p. g.Q.LookupKey.names c.args.key.now p.0) (sym w.2) ∙ refused) c.find.ensures.none)

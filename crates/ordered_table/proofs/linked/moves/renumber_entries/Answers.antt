@@ -8,12 +8,12 @@ pub returns-then-buckets-clause-hashes : goal.returns-then-buckets-clause-hashes
 returns-then-buckets-clause-hashes g c =
     let hash_of = hash_by g.K.Hash.hash_input g.S.BuildHasher g.S.Hasher.Hasher c.args.hasher.now in
     if_ok c.rehash.result _ _ (λ links hashes. hashes _ (λ b hash entry is called.
-    let is_hash : hash ≡ hash_of entry.pair.key = search rules in
+    let is_hash : hash ≡ hash_of entry.key = search rules in
     is_hash ∙ sym (hash_in-pair_slots hash_of c.args.table.now.slots b entry is))) c.rehash.ensures.hashes
 
 pub returns-else-buckets-clause-hashes : goal.returns-else-buckets-clause-hashes
 returns-else-buckets-clause-hashes g c =
     let hash_of = hash_by g.K.Hash.hash_input g.S.BuildHasher g.S.Hasher.Hasher c.args.hasher.now in
     if_ok c.relocate.result _ _ (λ links hashes. hashes _ (λ b hash entry is called.
-    let is_hash : hash ≡ hash_of entry.pair.key = search rules in
+    let is_hash : hash ≡ hash_of entry.key = search rules in
     is_hash ∙ sym (hash_in-pair_slots hash_of c.args.table.now.slots b entry is))) c.relocate.ensures.hashes

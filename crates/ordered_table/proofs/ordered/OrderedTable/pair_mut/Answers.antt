@@ -10,9 +10,11 @@ returns g c = (
     writes_back = tt;
     pair = rw (← c.self.view_is) c.pair_mut.ensures.pair;
     fits = rw (← c.self.view_is) c.pair_mut.ensures.fits;
-    linked = λ last. rw (← c.self.view_is)
-        (linked_promoted (with_pair c.self.inside.linked c.args.b last) c.self.inside.promoted (c.pair_mut.ensures.linked last)
-        (promoted_kept c.self.inside.linked (with_pair c.self.inside.linked c.args.b last) c.self.inside.promoted
+    linked = λ last.
+        let after = with_pair c.self.inside.linked c.args.b (c.pair_mut.result.0.now, last) in
+        rw (← c.self.view_is)
+        (linked_promoted after c.self.inside.promoted (c.pair_mut.ensures.linked last)
+        (promoted_kept c.self.inside.linked after c.self.inside.promoted
         c.self.invariant.0 (c.pair_mut.ensures.linked last) refl c.self.invariant.1));
   },
 )
