@@ -60,7 +60,6 @@ module _ {K V S H I : Type 0} (rules : Rules K V S) (offers : Offers K V S I) (n
   abbrev EndsSo : Type 0
   EndsSo = InsertsInList rules offers names i v (contents old) result (contents new)
 
-  -- the map after the limiter returned a pair, and after `make_room`
   abbrev Ready : S → State K V S H → Type 0
   Ready s ready = Leaves (record old { limiter = s }) (make_room rules (record { pairs = old.pairs; limiter = s })) ready
 
