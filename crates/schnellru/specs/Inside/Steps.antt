@@ -1,4 +1,4 @@
--- How a pair in a bucket changes: its value is replaced, or the pair is removed. No public clause cites this module.
+-- How a pair in a bucket changes: its value is replaced, or it is taken out. No public clause cites this module.
 use Rattle.std.specs.Prelude.{◌≡◌, ℕ, ◌+◌, Bool, true, false, Some}
 use Rattle.group_table.specs.Bucket.{bucket_states, growth_left as growth_left_of, growth_left_at}
 use Rattle.group_table.specs.Change.{Removes}
