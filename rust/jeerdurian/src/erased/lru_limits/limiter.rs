@@ -37,9 +37,9 @@ pub trait Limiter<K, V> {
     /// Called with each entry that is evicted, removed, popped or taken by an iterator, as soon as the entry is out of
     /// the map. The limiter may write to the key and the value before the caller of the map gets them.
     ///
-    /// Also called with an entry that `on_insert` returned but the map cannot store, and with an entry that is removed
-    /// because `on_replace` returned false. Not called for entries that a clear or a `Drain` drops. Entries that are
-    /// dropped with the map or with an `IntoIter` cause no call, either, but no contract says so.
+    /// Also called with an entry that `on_insert` returned but the map cannot store. Not called for entries that a
+    /// clear or a `Drain` drops. Entries that are dropped with the map or with an `IntoIter` cause no call, either, but
+    /// no contract says so.
     fn on_removed(&mut self, key: &mut K, value: &mut V);
 
     /// Called once by each clear of the map, even if the map is empty. The drop of a `Drain` is a clear.

@@ -1,7 +1,7 @@
 // Erased from crates/lru_model/src/laws.rt: do not edit.
 //! What is proved about inserts and other single calls. Each theorem is the contract of a function that does nothing.
-//! The modules contain more theorems: on what an insert keeps (`kept`), insertions into the table (`insertions`),
-//! shrinks (`shrinks`), each call (`calls`), calls one after another (`runs`), and maps with `ByBytes` (`bytes`).
+//! More theorems: what an insert keeps (`kept`), insertions into the table (`insertions`), shrinks (`shrinks`), each
+//! call (`calls`), calls one after another (`runs`), and maps with `ByBytes` (`bytes`).
 
 #[allow(unused_imports)]
 use crate::rattle_std::prelude::*;
@@ -37,17 +37,15 @@ pub fn inserts_evict_the_oldest<K: Eq + Hash, V, I: LookupKey<K>, L: Insertion<K
 /// most n + 1 (`few`). An insert with a callback is also an `Insert` (`step`).
 pub fn inserts_pass_few<K: Eq + Hash, V, I: LookupKey<K>, L: Insertion<K, V, I>, S: KeyHasher<K>>() {}
 
-/// If a table has up to 16 buckets, `small_report` computes what the table reports about an insert (`Report` in
+/// If a table has up to 16 buckets, `small_report` computes the report of the table about an insert (`Report` in
 /// `specs/Exact`). It uses only the entries, the limiter, the number of buckets, the growth left, and constants of the
 /// map. The insert changes the entries as this report says. Memory may still run out.
 pub fn small_inserts_are_exact<K: Eq + Hash, V, I: LookupKey<K>, L: Insertion<K, V, I>, S: KeyHasher<K>>() {}
 
-/// An insert changes the entries as the report of the table says (`exact`). The report says for how many bytes the
-/// limiter was queried, if it was. It also says how many entries were evicted because growth was refused, and whether
-/// there is a bucket for the entry. Every insert has a report (`given`). Suppose that two inserts have equal arguments
-/// and reports, and equal entries and limiters before them. If both return `Ok`, they return the same, and leave the
-/// same entries and limiter (`alike`). The limiter and the arguments must determine what `on_insert` does
-/// (`IsDetermined`).
+/// An insert changes the entries as the report of the table says (`exact`; `Report` in `specs/Exact`). Every insert has
+/// a report (`given`). Suppose that two inserts have equal arguments and reports, and equal entries and limiters before
+/// them. If both return `Ok`, they return the same, and leave the same entries and limiter (`alike`). The limiter and
+/// the arguments must determine what `on_insert` does (`IsDetermined`).
 pub fn inserts_are_exact_unless_refused<K: Eq + Hash, V, I: LookupKey<K>, L: Insertion<K, V, I>, S: KeyHasher<K>>() {}
 
 /// An insert changes the entries as it would change a plain list without a table (`InsertsInList`), under two premises.
