@@ -6,7 +6,7 @@
 --     answers s b                          the result b of `on_grow`, and the limiter s
 --     replaces s k v w                     the new value w is accepted, and the limiter is s
 --     given-is, given-names                the returned entry is the offered one
---     given-adds, refused-keeps, replaced-exchanges      the running total afterwards, for a `Summing` of your own
+--     given-adds, refused-keeps, replaced-exchanges      the running total after an offer, for a `Summing` of your own
 use Rattle.std.specs.Prelude.{◌≡◌, ◌≤◌, ◌+◌, ◌-◌, ℕ, Bool, true, false, Option, Some, None, IsTrue, if◌then◌else◌}
 use Rattle.std.specs.Prelude.{unwrap_or}
 use Rattle.std.proofs.Common.{ap, sym, ◌∙◌, subst, arith}
