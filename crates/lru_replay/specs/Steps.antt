@@ -72,7 +72,6 @@ module _ {K V S H : Type 0} where
     on_list = λ h c reply d. (reply ≡ says c) × (d ≡ after c);
   }
 
-  -- The two steps say which results, maps and contents are permitted.
   abbrev pub gives : {R : Type 0} → Named K → (R → Reply K V) → (State K V S H → R → State K V S H → Type 0)
       → (H → Contents K V S → R → Contents K V S → Type 0) → Does K V S H
   gives {R} names says IsStep IsListStep = record {
@@ -157,7 +156,6 @@ module _ {K V S H : Type 0} (rules : Rules K V S) (offers : Offers K V S K) (eq 
   abbrev pub ReplyStep : State K V S H → Call K V S → Reply K V → State K V S H → Type 0
   ReplyStep old call reply new = (does call).on_map old reply new
 
--- the step of a call on a list
 abbrev pub ListStep : {K V S : Type 0} → Rules K V S → Offers K V S K → (K → K → Bool) → (K → ℕ) → Contents K V S
     → Call K V S → Reply K V → Contents K V S → Type 0
 ListStep rules offers eq hash_of c call reply d =

@@ -1,4 +1,4 @@
-//! The calls of a run, and their answers.
+//! Calls, and their answers.
 ghost use Rattle.std.specs.Prelude.{◌≡◌, IfOk};
 ghost use Rattle.std.specs.Result.{OnErr};
 ghost use Rattle.lru_model.specs.State.{IsMap};
