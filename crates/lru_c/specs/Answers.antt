@@ -41,7 +41,7 @@ fitting [] slots = 0
 fitting (pair ∷ pairs) [] = 0
 fitting (pair ∷ pairs) (slot ∷ slots) = suc (fitting pairs slots)
 
--- Notes the first pair of another key.
+-- notes the first pair of another key
 abbrev pub noting_other : ℕ → Option (ℕ × ℕ) → ℕ × ℕ → Option (ℕ × ℕ)
 noting_other key None pair = if nat_eq key pair.0 then None else Some pair
 noting_other key (Some noted) pair = Some noted
