@@ -1,5 +1,4 @@
--- If growth is left, an insert changes the pairs as it would change a list without a table. The same holds if the
--- limiter permits every growth and there are tables.
+-- For the laws `granted_inserts_are_exact` and `inserts_with_room_are_exact`.
 use Rattle.std.proofs.Common.{◌≡◌, ◌≢◌, ℕ, ◌+◌, ◌⊎◌, inl, inr, Bool, true, false, cond, length, Some, Result}
 use Rattle.std.proofs.Common.{refl, sym, ap, ◌∙◌, subst, arith, ◌<◌, ◌≤◌}
 use Rattle.std.specs.declared.alloc.AllocError.{AllocError}
