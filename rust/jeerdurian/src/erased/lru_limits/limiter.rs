@@ -77,6 +77,6 @@ pub trait Insertion<K: Eq + Hash, V, I: LookupKey<K>>: Limiter<K, V> {
 
     /// Called by an insert or an update before `new_value` replaces `old_value`. The map has `length` entries, and
     /// `new_key` names the stored `old_key`. The limiter may change `old_key` only to an equal key. Returns whether the
-    /// new value is accepted. If not, the map removes the entry and calls `on_removed` with it.
+    /// new value is accepted. If not, the map removes the entry.
     fn on_replace(&mut self, length: usize, old_key: &mut K, new_key: I, old_value: &mut V, new_value: &mut V) -> bool;
 }
