@@ -55,8 +55,8 @@ put_code (Ok true) = 0
 put_code (Ok false) = 1
 put_code (Err error) = 2
 
--- An insert, which turns the entry `place` into `left`. If the callback gets pairs of other keys, `left` is the first
--- of these pairs. Otherwise `left` is `place`.
+-- An insert. The caller's entry is `place` before, and `left` after. If the callback gets pairs of other keys, `left`
+-- is the first of these pairs. Otherwise `left` is `place`.
 pub record Inserts (key value : ℕ) (old : Map) (answer : Inserted) (place left : Entry) (new : Map) : Type 0 where
   pub result : Result Bool AllocError
   pub passed : List (ℕ × ℕ)

@@ -178,11 +178,11 @@ pub fn a_smaller_map_is_included<K: Eq + Hash + Drop, V: Drop, S: KeyHasher<K>>(
         is_in K.eq key (keys_of small.pairs) ≡ true → is_in K.eq key (keys_of large.pairs) ≡ true }
 {}
 
-/// LRU is competitive, whichever calls make the references. Compare a map with `ByLength(k)`, which may contain any
-/// keys before, with any policy with h ≤ k places. The policy may know the trace in advance, begins with the keys
-/// `first`, and pays `paid` times for the same references. If the policy stores each referenced key, the map misses at
-/// most `k / (k + 1 - h) * paid + length first` times. The policy may load keys ahead (`loads`), or load on demand and
-/// begin with at most h keys (`demands`). If the policy need not store the key, and h < k, the map misses at most
+/// LRU is competitive, whichever calls make the references. Take a map with `ByLength(k)`, whatever keys it contains
+/// before, and any policy of h ≤ k places. The policy may know the trace in advance, begins with the keys `first`, and
+/// pays `paid` times for the same references. If the policy stores each referenced key, the map misses at most
+/// `k / (k + 1 - h) * paid + length first` times. The policy may load keys ahead (`loads`), or load on demand and begin
+/// with at most h keys (`demands`). If the policy need not store the key, and h < k, the map misses at most
 /// `k / (k - h) * paid + length first` times (`bypasses`).
 pub fn maps_are_competitive<K: Eq + Hash + Drop, V: Drop, S: KeyHasher<K>>()
     ensures loads { (trace : List K) (missed : ℕ) (old new : State K V ByLength S) (h paid : ℕ) (first left : List K) →
