@@ -30,8 +30,8 @@ pub trait Limiter<K, V> {
     ///
     /// - Before an insert stores a new entry in a map that is not empty, with the map's length plus 1. `try_insert`
     ///   calls it on a copy of the limiter, even if the map is empty, and then evicts nothing.
-    /// - In `trim` and `set_limiter`, and after an insert or an update stored an entry or replaced a value, with the
-    ///   length of the map. Called again after each eviction, but not for an empty map.
+    /// - In `trim` and `set_limiter`, and after an insert or an update that stored an entry or replaced a value, with
+    ///   the map's length. Called again after each eviction, but not for an empty map.
     fn is_over_the_limit(&self, length: usize) -> bool;
 
     /// Called with each entry that is evicted, removed, popped or taken by an iterator, as soon as the entry is out of

@@ -60,11 +60,11 @@ pub fn more_capacity_never_misses_more<K: Eq + Hash, V, S: KeyHasher<K>>() {}
 /// the calls of `calls_change_the_keys`.
 pub fn a_smaller_map_is_included<K: Eq + Hash, V, S: KeyHasher<K>>() {}
 
-/// LRU is competitive, whichever calls make the references. Compare a map with `ByLength(k)`, which may contain any
-/// keys before, with any policy with h ≤ k places. The policy may know the trace in advance, begins with the keys
-/// `first`, and pays `paid` times for the same references. If the policy stores each referenced key, the map misses at
-/// most `k / (k + 1 - h) * paid + length first` times. The policy may load keys ahead (`loads`), or load on demand and
-/// begin with at most h keys (`demands`). If the policy need not store the key, and h < k, the map misses at most
+/// LRU is competitive, whichever calls make the references. Take a map with `ByLength(k)`, whatever keys it contains
+/// before, and any policy of h ≤ k places. The policy may know the trace in advance, begins with the keys `first`, and
+/// pays `paid` times for the same references. If the policy stores each referenced key, the map misses at most
+/// `k / (k + 1 - h) * paid + length first` times. The policy may load keys ahead (`loads`), or load on demand and begin
+/// with at most h keys (`demands`). If the policy need not store the key, and h < k, the map misses at most
 /// `k / (k - h) * paid + length first` times (`bypasses`).
 pub fn maps_are_competitive<K: Eq + Hash, V, S: KeyHasher<K>>() {
     references_keep_the_newest::<K, V, S>();
