@@ -23,7 +23,7 @@ mod relocation;
 /// A table sees no key and stores no hash. The caller passes the hash, and a search calls the caller's closure. An
 /// entry keeps its bucket until the entry is taken out, or all entries are moved. `docs/TABLE.md` explains the rules.
 ///
-/// Only `with_buckets`, `relocate`, `rehash` and `clone_with` allocate. `new`, `get`, `get_mut`, `take` and counts such
+/// Only `with_buckets`, `relocate`, `rehash` and `clone_with` allocate. `new`, `get`, `get_mut`, `take` and reads such
 /// as `len` take O(1). `find`, `place` and `try_place` take O(1) if the hashes are spread, and at worst O(B) for B
 /// buckets. All other calls take O(B).
 ///
