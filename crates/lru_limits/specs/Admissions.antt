@@ -1,7 +1,7 @@
 -- What a limiter accepts, if it changes no accepted entry.
 --     Terms K V S                  which entries the limiter accepts, and the limiter after an offer
 --     offers_of terms              the offers: an entry is stored unchanged if the terms accept it
---     never_changes admits         the terms of a limiter that never changes, and accepts each new value of a stored key
+--     never_changes admits         the terms of a limiter that never changes, and accepts each new value
 --     offers_of-lawful             the laws of `Insertion`
 use Rattle.std.specs.Prelude.{ℕ, Bool, true}
 use Rattle.std.specs.Cmp.{IsEquivalence}
