@@ -48,7 +48,7 @@ pub given-is : {S K V : Type 0} (accepts : Bool) (s : S) (k : K) (v : V) (t : S)
 given-is true s k v t p h = ap (λ o. unwrap_or o (k, v)) h.pair
 given-is false s k v t p h = let e = h.pair in cc
 
--- for a reflexive test E, the offered key and the returned key satisfy E
+-- if the test E is reflexive, it holds of the offered key and the returned key
 pub given-names : {S K V : Type 0} {accepts : Bool} {s t : S} {i k : K} {v w : V} (E : K → K → Bool)
     → ((x : K) → IsTrue (E x x)) → ReturnsPairIf accepts s i v t (Some (k, w)) → IsTrue (E i k)
 given-names {accepts} {s} {t} {i} {k} {v} {w} E reflexive h =
