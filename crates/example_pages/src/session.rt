@@ -108,7 +108,6 @@ impl Session {
         }
     }
 
-    /// Makes a checkpoint. Returns whether it succeeded.
     pub fn close(self) -> bool {
         let Session {
             mut store,

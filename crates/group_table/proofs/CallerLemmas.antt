@@ -12,7 +12,6 @@ use Rattle.group_table.proofs.SearchLemmas.{full_by_entry}
 
 module _ {T F : Type 0} (closure : Mut F (Bor T × Unit {0}) Bool) (slots : List (Slot T)) (f : F) (test : T → Bool)
     (tests : (x : T) (r : Bool) (g : F) → CalledAt closure f x r g → (r ≡ test x) × (g ≡ f)) where
-  -- the bucket holds an entry that the test rejects
   abbrev Fails : ℕ → Type 0
   Fails b = (entry : T) × (entry_at slots b ≡ Some entry) × (test entry ≡ false)
 

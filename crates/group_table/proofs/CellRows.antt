@@ -70,7 +70,6 @@ module _ (R : RattleType) where
         (apply∗ 𝓤 (sem 𝓛 (place R block far p)) (sem 𝓛 (places R block (o + size) (slice_set more b p)))) $
         move ! (1 ∷ 0 ∷ []) $ done !)
 
-    -- the owner after place b got p
     abbrev pub Back : Ptr → List Held → ℕ → ℕ × ℕ → Held → SProp 𝓤
     Back start held b at p =
         wand 𝓤 (sem 𝓛 (place R at.0 (b * size + at.1) p)) (sem 𝓛 (owns_cells R start (slice_set held b p)))

@@ -51,7 +51,6 @@ module _ {T : Type 0} where
   free_of s growth_left spent (inl w) = rw w.0 (refl, omega (arith, w.2), omega (arith, w.1, w.2))
   free_of s growth_left spent (inr w) = rw w.0 (refl, omega (arith, w.1), omega (arith, w.1))
 
--- the bucket is free, and a search for the hash reaches it
 abbrev pub IsFreeFor : {T : Type 0} → List ℕ → List (Option T) → ℕ → ℕ → Type 0
 IsFreeFor control entries hash b = Reaches (states_by control entries) hash b × (128 ≤ get_or control b 0)
 

@@ -87,7 +87,6 @@ power_cases n power p =
       | no r ↦ let f : k ≡ 0 = omega arith in let g : n ≡ 4 * 2 ^ 0 = e ∙ ap (λ j. 4 * 2 ^ j) f in omega arith
     ]
 
--- with n buckets, a bucket is visited in one of the first n steps
 abbrev pub IsMet : ℕ → ℕ → ℕ → Type 0
 IsMet n hash b = (s : ℕ) × (s < n) × (probed n hash s ≡ b)
 

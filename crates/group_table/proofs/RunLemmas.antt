@@ -1,4 +1,5 @@
--- Two runs of used buckets around b decide whether each run of 16 buckets around b contains an empty bucket.
+-- The numbers of used buckets before b and from b on decide whether each run of 16 buckets around b contains an empty
+-- bucket.
 use Rattle.std.proofs.Common.{◌≡◌, ◌≢◌, ℕ, ◌+◌, ◌-◌, ◌%◌, ◌<◌, ◌≤◌, List, get_or, refl, ap, sym, ◌∙◌, arith, nat_lt}
 use Rattle.std.proofs.Common.{MatchBool}
 use Rattle.std.specs.Prelude.{slice_index}

@@ -3,7 +3,7 @@ use Rattle.std.specs.Prelude.{◌≡◌, ℕ, ◌-◌, if◌then◌else◌, Bool
 use Rattle.std.specs.Prelude.{slice_index_or, nat_eq, Option, Some, None, IsTrue}
 use Rattle.group_table.specs.Sizes.{full_capacity}
 
--- A bucket is empty, deleted or full. A removal emptied a deleted bucket, and searches go on past it.
+-- A deleted bucket once held an entry, and searches go on past it.
 pub data Bucket (A : Type 0) : Type 0 where
   empty deleted : Bucket A
   full : A → Bucket A
@@ -13,11 +13,9 @@ pub record Tagged (T : Type 0) : Type 0 where
   pub tag : ℕ
   pub entry : T
 
--- a bucket; a full bucket contains an entry and its tag
 abbrev pub Slot : Type 0 → Type 0
 Slot T = Bucket (Tagged T)
 
--- the state of a bucket, without an entry
 abbrev pub BucketState : Type 0
 BucketState = Bucket (Unit {0})
 

@@ -1,4 +1,4 @@
--- What the parts of a block of places own and lend, if an entry is of type R.
+-- What a block of places for entries of type R owns and lends.
 use Rattle.std.specs.Prelude.{ℕ, ◌+◌, ◌*◌, ◌^◌, List, [], ◌∷◌, length, Option, Some, None}
 use Rattle.std.specs.Mem.{type_size}
 use base.Fraction.{full_share}

@@ -4,7 +4,6 @@ use Rattle.group_table.specs.Sizes.{IsPowerFromFour}
 use Rattle.group_table.specs.Bytes.{empty_byte, IsFreeByte}
 use Rattle.group_table.specs.Lanes.{IsRepeated}
 
--- the number of buckets is the number of control bytes minus 16
 abbrev pub buckets_of : List ℕ → ℕ
 buckets_of control = length control - 16
 

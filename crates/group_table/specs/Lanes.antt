@@ -7,7 +7,7 @@ use Rattle.std.specs.Int.{w16, bit_at, trailing_zeros}
 abbrev pub IsMaskOf : (ℕ → Type 0) → List ℕ → ℕ → Type 0
 IsMaskOf P bytes mask = (lane : ℕ) → (bit_at mask lane ≡ 1) ↔ ((lane < 16) × P (slice_index bytes lane))
 
--- bit i of the mask is set if and only if i is a lane of the group from `start` on, and its byte has the property
+-- `IsMaskOf` for the 16 bytes from `start` on
 abbrev pub IsMaskAt : (ℕ → Type 0) → List ℕ → ℕ → ℕ → Type 0
 IsMaskAt P bytes start mask = (lane : ℕ) → (bit_at mask lane ≡ 1) ↔ ((lane < 16) × P (slice_index bytes (start + lane)))
 

@@ -1,4 +1,4 @@
--- What the hash of an entry determines: the tag in its bucket, and in which order a search visits the buckets.
+-- What the hash of an entry determines: the tag in its bucket, and the order in which a search visits the buckets.
 use Rattle.std.specs.Prelude.{◌≡◌, ◌≢◌, ℕ, ◌+◌, ◌*◌, ◌/◌, ◌%◌, ◌^◌, ◌<◌, Bool, false, List, length, IsTrue}
 use Rattle.group_table.specs.Bucket.{Slot, BucketState, empty, full, bucket_at, is_full}
 
@@ -27,7 +27,7 @@ module _ (states : List BucketState) (hash : ℕ) where
   abbrev pub state_probed : ℕ → BucketState
   state_probed step = bucket_at states (probed (length states) hash step)
 
-  -- a search reaches bucket b, because no group before the group of b has an empty bucket, which would end the search
+  -- a search reaches bucket b: no group before the group of b has an empty bucket, which would end the search
   pub record Reaches (b : ℕ) : Type 0 where
     pub step : ℕ
     pub there : probed (length states) hash step ≡ b

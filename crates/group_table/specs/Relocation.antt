@@ -6,7 +6,7 @@ use Rattle.group_table.specs.Bucket.{Slot, entry_at, entry_count, IsFull}
 use Rattle.group_table.specs.Fits.{Fits}
 
 module _ {N : Type 0} (number : N → ℕ) (none : N) where
-  -- by these links, the number of the bucket to which the entry of old bucket b moved
+  -- the number of the bucket to which these links moved the entry of old bucket b
   abbrev pub moved_to : List N → ℕ → ℕ
   moved_to links b = number (slice_index_or links b none)
 

@@ -48,8 +48,8 @@ module _ {T F : Type 0} (closure : Mut F (Bor T × Unit {0}) Bool) (slots : List
     pub accepted : Answers between b true last
 
   -- A search for the hash called f with the entries in the buckets `asked`, and f rejected each. `asked` contains each
-  -- bucket with the tag that a search reaches. For all hashes that fit, `asked` contains the bucket of each entry with
-  -- this hash.
+  -- bucket with the tag that a search reaches. For any hashes that fit the table, `asked` contains the bucket of each
+  -- entry with this hash.
   pub record FindsNone (hash : ℕ) (f : F) : Type 0 where
     pub asked : List ℕ
     pub search : IsSearch slots hash asked

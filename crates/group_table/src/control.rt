@@ -70,9 +70,8 @@ impl Control {
         self.last == 0
     }
 
-    // Returns whether there are no buckets. Without buckets, a search begins at bucket 0. With buckets, a search seldom
-    // begins there. So for most searches the first test is enough, and the search needs `hash & last` anyway. The sum
-    // in the second test keeps the compiler from joining the tests.
+    // With buckets, a search seldom begins at bucket 0, so the first test is mostly enough. The search needs
+    // `hash & last` anyway. The sum in the second test keeps the compiler from joining the tests.
     #[inline]
     pub(crate) fn is_empty_at(&self, hash: u64) -> bool
         ensures { result ≡ nat_eq (buckets_of self.now) 0 }
@@ -146,7 +145,7 @@ impl Control {
     }
 }
 
-// Returns the control byte of a bucket with an entry of this hash. The byte's top bit is clear.
+// Returns the control byte of a bucket with an entry of this hash.
 #[inline]
 pub(crate) fn tag_of(hash: u64) -> u8
     ensures value { result ≡ hash_tag hash }
@@ -155,8 +154,7 @@ pub(crate) fn tag_of(hash: u64) -> u8
     (hash >> 57) as u8
 }
 
-// Returns the control byte of a bucket whose entry was taken out: `EMPTY` if `gives_room` is all ones, and `DELETED` if
-// it is 0.
+// Returns the control byte of a bucket whose entry was taken out.
 #[inline]
 pub(crate) fn emptied_byte(gives_room: usize) -> u8
     ensures { (gives : Bool) → gives_room ≡ (if gives then 2 ^ 64 - 1 else 0) →

@@ -7,7 +7,7 @@ ghost use Rattle.group_table.specs.Link.{IsLinkType};
 /// A table with links of type `N` has fewer than `N::MAX` buckets, so the width of the links limits the size of the
 /// table. The trait is implemented for `u8`, `u16`, `u32` and `usize`.
 pub trait LinkType: Copy {
-    /// The link that means no bucket. Its number is at least 255, and greater than the number of every bucket.
+    /// The link that means no bucket. Its number is greater than the number of every bucket.
     const MAX: Self;
 
     /// `MAX`, as contracts see it.

@@ -36,7 +36,6 @@ fn ones_if_less(low: u32, high: u16) -> usize
     (difference >> 32).cast_unsigned() as usize
 }
 
-// Returns all ones if each run of 16 neighbouring buckets that includes b contains an empty bucket, and 0 otherwise.
 // Each run contains an empty bucket if fewer than 16 used buckets lie between the nearest empty buckets around b.
 #[inline]
 pub(crate) fn ones_if_empty_neighbours(control: &Control, b: usize) -> usize

@@ -37,7 +37,6 @@ not_less m n few = grind (arith, nat_tests, few)
 can : (limit sum c : ℕ) → sum + c ≤ limit → limit < 2 ^ 64 → can_add limit sum c ≡ true
 can limit sum c few small = grind (arith, nat_tests, few, small)
 
--- a map that got ready for a put has the same pairs and limiter
 ready_same : {key : List ℕ} {old ready : BytesMap} → IsReady key old ready → contents ready ≡ contents old
 ready_same (there found same) = ap contents same
 ready_same (reserved absent (unchanged nothing same)) = ap contents same
@@ -124,7 +123,6 @@ module _ (k v : Bytes) (old ready new : BytesMap) (result : Result Bool AllocErr
       → weight (length key) (length value) ≤ old.limiter.limit → IsReady key old ready → FindsMemory key ready
       → LeavesOthers key value old new
 
-  -- `adds` is the law of inserts with room
   module _ (adds : 0 < growth_left ready → lookup_entry (same_bytes k) ready.pairs ≡ None
       → AcceptsNew bytes_rules bytes_offers same_bytes k v (contents ready) (k, v)
       → IsAdded bytes_rules bytes_offers same_bytes k v (k, v) ready result new)
@@ -183,7 +181,6 @@ module _ (key : List ℕ) (map : BytesMap) where
       let some : 0 < others_weight key map = grind (arith, nat_tests, must) in
       oldest_of own _ (omega (arith, some, total-is cost (without (names_bytes key) map.pairs)))
 
-  -- what the entries of other keys weigh, and what the entry of the key weighs if there is one
   pub weight_split : IsWithinBudget map → others_weight key map + unwrap_or (option_map cost own) 0 ≡ map.limiter.cost
   weight_split within = omega (
     arith,

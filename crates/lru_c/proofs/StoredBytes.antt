@@ -20,7 +20,6 @@ no_value key map absent = ap (option_map vec_items)
 abbrev cost : Bytes × Bytes → ℕ
 cost pair = weighs pair.0 pair.1
 
--- A key that is longer than the budget has no value, because its entry would be over the budget.
 pub long_key_absent : (key : List ℕ) (map : BytesMap) → IsWithinBudget map → map.limiter.limit < length key
     → length key < 2 ^ 64 → value_of key map ≡ None
 long_key_absent key map (sum, within) long small =

@@ -41,7 +41,7 @@ fitting [] slots = 0
 fitting (pair ∷ pairs) [] = 0
 fitting (pair ∷ pairs) (slot ∷ slots) = suc (fitting pairs slots)
 
--- Notes the first pair of another key.
+-- notes the first pair of another key
 abbrev pub noting_other : ℕ → Option (ℕ × ℕ) → ℕ × ℕ → Option (ℕ × ℕ)
 noting_other key None pair = if nat_eq key pair.0 then None else Some pair
 noting_other key (Some noted) pair = Some noted
@@ -55,8 +55,8 @@ put_code (Ok true) = 0
 put_code (Ok false) = 1
 put_code (Err error) = 2
 
--- An insert, which turns the entry `place` into `left`. If the callback gets pairs of other keys, `left` is the first
--- of these pairs. Otherwise `left` is `place`.
+-- An insert. The caller's entry is `place` before, and `left` after. If the callback gets pairs of other keys, `left`
+-- is the first of these pairs. Otherwise `left` is `place`.
 pub record Inserts (key value : ℕ) (old : Map) (answer : Inserted) (place left : Entry) (new : Map) : Type 0 where
   pub result : Result Bool AllocError
   pub passed : List (ℕ × ℕ)

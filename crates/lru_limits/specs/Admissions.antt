@@ -1,7 +1,7 @@
 -- What a limiter accepts, if it changes no accepted entry.
 --     Terms K V S                  which entries the limiter accepts, and the limiter after an offer
 --     offers_of terms              the offers: an entry is stored unchanged if the terms accept it
---     never_changes admits         the terms of a limiter that never changes
+--     never_changes admits         the terms of a limiter that never changes, and accepts each new value
 --     offers_of-lawful             the laws of `Insertion`
 use Rattle.std.specs.Prelude.{ℕ, Bool, true}
 use Rattle.std.specs.Cmp.{IsEquivalence}
@@ -40,7 +40,6 @@ module _ {K V S : Type 0} (terms : Terms K V S) where
     keeps_key = λ s n k i v w named. e.refl k;
   }
 
--- the terms of a limiter that never changes and accepts every new value of a stored key
 abbrev pub never_changes : {K V S : Type 0} → (S → K → V → Bool) → Terms K V S
 never_changes admits = record {
   accepts = λ s n k v. admits s k v;

@@ -25,7 +25,7 @@ abbrev pub both_own : {K V : Type 0} → (K → ℕ) → (V → ℕ) → K → V
 both_own of_k of_v k v = in_word (of_k k + of_v v)
 
 pub record Bytes : Type 0 where
-  -- the limit of `owned` plus `table`
+  -- the limit of `owned + table`
   pub limit : ℕ
   -- the sum of the bytes that the entries own
   pub owned : ℕ
@@ -41,7 +41,7 @@ grown_owns true b n = refl
 grown_owns false b n = refl
 
 module _ {K V : Type 0} (bytes_of : K → V → ℕ) where
-  -- A table is permitted if its bytes plus `owned` are at most the limit. The old table is not counted.
+  -- A table is permitted if `owned` plus its bytes is at most the limit. The old table is not counted.
   abbrev pub by_bytes : Rules K V Bytes
   by_bytes = record {
     is_over_the_limit = λ b n. nat_lt (left_for_entries b) b.owned;

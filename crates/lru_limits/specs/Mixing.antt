@@ -1,5 +1,5 @@
 -- The hasher as functions.
---     Mixer                   the state, a key for words, and a key for the last bytes, fewer than eight
+--     Mixer                   the state, a key for words, and a key for a rest of fewer than eight bytes
 --     folded a b              the xor of the two halves of the 128 bits of a * b
 --     joined key state word   the state after a word
 --     rest_word bytes         fewer than eight bytes as a word, whose top byte is their count

@@ -6,7 +6,7 @@
 --     answers s b                          the result b of `on_grow`, and the limiter s
 --     replaces s k v w                     the new value w is accepted, and the limiter is s
 --     given-is, given-names                the returned entry is the offered one
---     given-adds, refused-keeps, replaced-exchanges      the running total afterwards, for a `Summing` of your own
+--     given-adds, refused-keeps, replaced-exchanges      the running total after an offer, for a `Summing` of your own
 use Rattle.std.specs.Prelude.{◌≡◌, ◌≤◌, ◌+◌, ◌-◌, ℕ, Bool, true, false, Option, Some, None, IsTrue, if◌then◌else◌}
 use Rattle.std.specs.Prelude.{unwrap_or}
 use Rattle.std.proofs.Common.{ap, sym, ◌∙◌, subst, arith}
@@ -48,7 +48,7 @@ pub given-is : {S K V : Type 0} (accepts : Bool) (s : S) (k : K) (v : V) (t : S)
 given-is true s k v t p h = ap (λ o. unwrap_or o (k, v)) h.pair
 given-is false s k v t p h = let e = h.pair in cc
 
--- for a reflexive test E, the offered key and the returned key satisfy E
+-- if the test E is reflexive, it holds of the offered key and the returned key
 pub given-names : {S K V : Type 0} {accepts : Bool} {s t : S} {i k : K} {v w : V} (E : K → K → Bool)
     → ((x : K) → IsTrue (E x x)) → ReturnsPairIf accepts s i v t (Some (k, w)) → IsTrue (E i k)
 given-names {accepts} {s} {t} {i} {k} {v} {w} E reflexive h =

@@ -31,17 +31,17 @@ pub trait Limiter<K, V> {
     ///
     /// - Before an insert stores a new entry in a map that is not empty, with the map's length plus 1. `try_insert`
     ///   calls it on a copy of the limiter, even if the map is empty, and then evicts nothing.
-    /// - In `trim` and `set_limiter`, and after an insert or an update stored an entry or replaced a value, with the
-    ///   length of the map. Called again after each eviction, but not for an empty map.
+    /// - In `trim` and `set_limiter`, and after an insert or an update that stored an entry or replaced a value, with
+    ///   the map's length. Called again after each eviction, but not for an empty map.
     fn is_over_the_limit(&self, length: usize) -> bool
         ensures { result ≡ rules.is_over_the_limit self.now length };
 
     /// Called with each entry that is evicted, removed, popped or taken by an iterator, as soon as the entry is out of
     /// the map. The limiter may write to the key and the value before the caller of the map gets them.
     ///
-    /// Also called with an entry that `on_insert` returned but the map cannot store, and with an entry that is removed
-    /// because `on_replace` returned false. Not called for entries that a clear or a `Drain` drops. Entries that are
-    /// dropped with the map or with an `IntoIter` cause no call, either, but no contract says so.
+    /// Also called with an entry that `on_insert` returned but the map cannot store. Not called for entries that a
+    /// clear or a `Drain` drops. Entries that are dropped with the map or with an `IntoIter` cause no call, either, but
+    /// no contract says so.
     fn on_removed(&mut self, key: &mut K, value: &mut V)
         ensures limiter { self.new ≡ (rules.on_removed self.old key.old value.old).limiter }
         ensures key { key.new ≡ (rules.on_removed self.old key.old value.old).key }
@@ -96,7 +96,7 @@ pub trait Insertion<K: Eq + Hash, V, I: LookupKey<K>>: Limiter<K, V> {
 
     /// Called by an insert or an update before `new_value` replaces `old_value`. The map has `length` entries, and
     /// `new_key` names the stored `old_key`. The limiter may change `old_key` only to an equal key. Returns whether the
-    /// new value is accepted. If not, the map removes the entry and calls `on_removed` with it.
+    /// new value is accepted. If not, the map removes the entry.
     fn on_replace(
         &mut self,
         length: usize,

@@ -22,7 +22,7 @@
 --     none-found           if this search returns none, no pair of that key has the hash
 --     empty_is_map         `IsMap` holds of a map without pairs and buckets
 --     has_tables           there are tables for the pairs if there is a table for eight times as many
---     tables_of_next       the same, if there is a table for one pair more, and an entry takes a byte or more
+--     tables_of_next       or if there is a table for one pair more, and an entry takes a byte or more
 --     shrink_contents      a shrink keeps the pairs and the limiter
 --     usage_bytes          the usage of a table with buckets is `bytes_of`
 --     value_removed        a `RemoveEntry` is a `Remove` that returns only the value

@@ -1,5 +1,5 @@
--- How an insert changes a list of pairs and a limiter. Unless memory runs out, the list, the limiter, what `on_insert`
--- returns and the report of the table determine how the insert ends.
+-- How an insert changes a list of pairs and a limiter. Unless memory runs out, its end is determined by the list, the
+-- limiter, what `on_insert` returns, and the report of the table.
 use Rattle.std.specs.Prelude.{◌≡◌, ◌≢◌, ℕ, ◌+◌, ◌-◌, ◌/◌, ◌<◌, ◌≤◌, nat_lt, nat_le, Bool, true, false, not}
 use Rattle.std.specs.Prelude.{if◌then◌else◌, ◌∷◌, length, Option, Some, None, MatchOption, Result, Ok, IsErr}
 use Rattle.std.specs.declared.alloc.AllocError.{AllocError}

@@ -16,7 +16,7 @@ use Rattle.lru_model.specs.Place.{Place, Outcome, placed, refused, no_memory}
 abbrev pub unkept_of : {K V S : Type 0} → Replaced K V S → V
 unkept_of r = if r.taken then r.old_value else r.new_value
 
--- the result of an insert, with only the flag `kept`
+-- the result of an insert, reduced to the flag `kept`
 abbrev pub kept_of : {V E : Type 0} → Result (Inserted V) E → Result Bool E
 kept_of (Ok inserted) = Ok inserted.kept
 kept_of (Err e) = Err e
@@ -65,8 +65,7 @@ module _ {K V S I : Type 0} (rules : Rules K V S) (offers : Offers K V S I) (nam
     limiter = (replacement pair i v c).limiter;
   }
 
-  -- the contents after the limiter rejected the new value: the pair is removed, and the limiter is notified of the
-  -- removal
+  -- the contents after the limiter rejected the new value: the pair is removed, and the limiter is notified
   abbrev pub with_removed : K × V → I → V → Contents K V S → Contents K V S
   with_removed pair i v c = let r = replacement pair i v c in
       record { pairs = without (names i) c.pairs; limiter = (rules.on_removed r.limiter r.key r.old_value).limiter }

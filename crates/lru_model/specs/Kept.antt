@@ -46,7 +46,7 @@ module _ {K V S H I : Type 0} (rules : Rules K V S) (offers : Offers K V S I) (n
         (evicted : List (K × V)) → passed ≡ evicted ++ pair ∷ [] → new.pairs ++ reverse evicted ≡ old.pairs →
         LosesNothing i v old result passed new
 
-  -- The pair is added, and all other pairs stay. The number of buckets stays. The growth left falls by at most one.
+  -- the pair is added, and all other pairs stay
   pub record IsAdded (i : I) (v : V) (pair : K × V) (old : State K V S H) (result : Result Bool AllocError)
       (new : State K V S H) : Type 0 where
     pub answer : result ≡ Ok true

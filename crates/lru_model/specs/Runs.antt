@@ -24,9 +24,9 @@ AreAmong {K} named test = (key : K) → named key ≡ true → test key ≡ true
 
 module _ {K V S H I : Type 0} (rules : Rules K V S) (offers : Offers K V S I) (names : I → K → Bool)
     (hash_of : H → K → ℕ) where
-  -- How one call changes a map. A change of the limiter and a write through a reference are not included, but `AnyStep`
-  -- includes them. A call that only reads is no step. `gets` is a look-up by any type of key, or by a hash, that
-  -- promotes the pair it finds. All keys that calls insert or update have one type, I.
+  -- How one call changes a map. `AnyStep` adds changes of the limiter and writes through references. A call that only
+  -- reads is no step. `gets` is a look-up by any type of key, or by a hash, that promotes the pair it finds. All keys
+  -- that calls insert or update have one type, I.
   pub data Step (old new : State K V S H) : Type 0 where
     inserts : (key : I) (value : V) (result : Result Bool AllocError)
         → Insert rules offers names hash_of key value old result new → Step old new
@@ -78,7 +78,7 @@ module _ {K V S H I : Type 0} (rules : Rules K V S) (offers : Offers K V S I) (n
   NamesOnly test old new (writes named value e) = AreAmong named test
   NamesOnly test old new step = Unit {0}
 
-  -- a step that names only keys that pass the test (`NamesOnly`)
+  -- a step that names only keys that pass the test
   abbrev pub StepAmong : (K → Bool) → State K V S H → State K V S H → Type 0
   StepAmong test old new = (step : AnyStep old new) × NamesOnly test old new step
 

@@ -18,13 +18,13 @@ module _ {K V S H : Type 0} where
   abbrev pub shrink_counted : State K V S H → State K V S H
   shrink_counted st = record st { counts = record st.counts { shrunk = count_up st.counts.shrunk (length st.pairs) } }
 
-  -- If the table has more buckets than the pairs need, the pairs move into the least number of buckets that holds them.
+  -- how a shrink ends
   pub data Shrink (old : State K V S H) (result : Result Bool AllocError) (new : State K V S H) : Type 0 where
-    -- The table has no more buckets than the pairs need.
+    -- There is nothing to do.
     kept : IsTight old →
         result ≡ Ok false → new ≡ old →
         Shrink old result new
-    -- Or the pairs move. If there are no pairs, the table is freed, which needs no memory.
+    -- Or the pairs move into `count` buckets. If there are no pairs, the table is freed, which needs no memory.
     shrunk : (count : ℕ) → IsLooseFor count old →
         result ≡ Ok true → MovesTo count (shrink_counted old) new →
         Shrink old result new

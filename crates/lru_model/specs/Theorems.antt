@@ -97,7 +97,7 @@ module _ {K V S H I : Type 0} (rules : Rules K V S) (offers : Offers K V S I) (n
 
   -- How an insert ends. The result says whether the key is in the map (`says`). If the key is in the map, the newest
   -- pair is the pair that the insert stored (`stores`). If memory runs out, the key is new (`out_of_memory`), and only
-  -- the oldest pairs may have been evicted (`keeps`). The hasher stays (`hasher`).
+  -- the oldest pairs may have been evicted (`keeps`).
   pub record InsertEnds (hash_of : H → K → ℕ) (i : I) (v : V) (old : State K V S H) (result : Result Bool AllocError)
       (new : State K V S H) : Type 0 where
     pub says : SaysWhether rules (names i) result new

@@ -45,16 +45,16 @@ module _ {K V S : Type 0} (terms : Terms K V S) (rules : Rules K V S) where
         unready : lookup_entry (eq key) old.pairs ≡ None → can_store key value (contents old) ≡ true →
             IsUnready new → result ≡ Err (key, value) →
             TryInsert result new
-        -- `can_store` is true, and the pair is inserted.
+        -- Otherwise the pair is inserted.
         inserted : lookup_entry (eq key) old.pairs ≡ None → can_store key value (contents old) ≡ true →
             (ready : State K V S H) → IsReady rules old ready → can_store key value (contents ready) ≡ true →
             result ≡ Ok tt → Insert rules (offers_of terms) eq hash_of key value ready (Ok true) new →
             TryInsert result new
 
       -- How `try_insert` ends. At an `Ok`, the pair is the newest, nothing is evicted (`added`), and the limiter is
-      -- within its limit (`within`). At an `Err`, the key and the value come back (`returned`), and the pairs stay
-      -- (`keeps`). If growth was left, nothing has changed (`unchanged`). The hasher stays (`hasher`). In a run, the
-      -- call counts as at most two steps: a reservation, and an insert (`calls`).
+      -- within its limit (`within`). At an `Err`, the key and the value come back (`returned`), the pairs stay
+      -- (`keeps`), and if growth was left, nothing has changed (`unchanged`). In a run, the call counts as at most two
+      -- steps: a reservation, and an insert (`calls`).
       pub record TryInsertEnds (result : Result (Unit {0}) (K × V)) (new : State K V S H) : Type 0 where
         pub calls : Run (Step rules (offers_of terms) eq hash_of) new old
         pub added : OnOk result (new.pairs ≡ (key, value) ∷ old.pairs)

@@ -37,7 +37,7 @@ module _ {K V S I : Type 0} (rules : Rules K V S) (offers : Offers K V S I) (nam
         result ≡ Absent v → new ≡ old →
         Update i v old result new
 
--- An update that passes the pairs `passed` to its callback. It is defined as `InsertPasses` is.
+-- an update that passes the pairs `passed` to its callback
 abbrev pub UpdatePasses : {K V S H I : Type 0} → Rules K V S → Offers K V S I → (I → K → Bool) → I → V → State K V S H
     → Updated V → List (K × V) → State K V S H → Type 0
 UpdatePasses rules offers names i v old result passed new =

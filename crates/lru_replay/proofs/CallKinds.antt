@@ -16,7 +16,6 @@ use Rattle.lru_replay.specs.declared.calls.Call.TheVariants as calls
 
 module _ {K V S H : Type 0} (rules : Rules K V S) (offers : Offers K V S K) (eq : K → K → Bool)
     (hash_of : H → K → ℕ) (old new : State K V S H) where
-  -- a step names only keys that the call names
   abbrev pub Names : Call K V S → AnyStep rules offers eq hash_of old new → Type 0
   Names call step = (test : K → Bool) → NamesAmong rules offers eq hash_of test call
       → NamesOnly rules offers eq hash_of test old new step

@@ -12,7 +12,6 @@ use Rattle.lru_model.specs.State.{Contents, notified_of, pop, trim, trim_from}
 use Rattle.lru_theory.specs.Budgets.{affordable}
 use Rattle.lru_theory.proofs.Affordable.{spent, affords_all}
 
--- If the items together cost more than n, the same items are affordable without the last item.
 pub fewer : {X : Type 0} (cost : X → ℕ) (n : ℕ) (xs : List X) → n < spent cost xs
     → affordable cost n (without_last xs) ≡ affordable cost n xs
 fewer cost n [] over = refl
@@ -30,7 +29,6 @@ module _ {K V : Type 0} (weight : K → V → ℕ) where
   abbrev pub worth : K × V → ℕ
   worth pair = weight pair.0 pair.1
 
-  -- all pairs together cost what the pair of a key costs, plus what the others cost
   pub spent_without : (test : K → Bool) (pairs : List (K × V)) (p : K × V) → lookup_entry test pairs ≡ Some p
       → spent worth pairs ≡ worth p + spent worth (without test pairs)
   spent_without test [] p e = absurd cc
@@ -83,12 +81,10 @@ module _ {K V : Type 0} (weight : K → V → ℕ) where
           (ap holding (sym (affords_all worth n (x ∷ pairs) within)))
     ]
 
-    -- a trim removes the oldest pairs while the pairs together cost too much
     pub trimmed_is : (pairs : List (K × V)) → trim (by_weight weight) (holding pairs) ≡ holding (affordable worth n pairs)
     unfolding trim
     trimmed_is pairs = trimmed_from (length pairs) pairs refl
 
-  -- each pair costs what its key costs
   module _ (cost : K → ℕ) where
     abbrev pub Each : List (K × V) → Type 0
     Each = AllByRecursion (λ pair. weight pair.0 pair.1 ≡ cost pair.0)

@@ -51,7 +51,6 @@ module _ {K V H : Type 0} {eq : K → K → Bool} (laws : IsEquivalence eq) (wei
       )) in
       has_tables (8 * (keeps.most + 1)) st keeps.tables (omega (arith, few, length-keys_of st.pairs)) keeps.sized
 
-  -- If the map `old` keeps to its cost, and `new` has these pairs and counts their cost, `new` keeps to its cost.
   module _ (old new : State K V Budget H) (keeps : Keeps old) (pairs : List (K × V))
       (is : contents new ≡ holding weight old.limiter.limit pairs) (each : Each weight cost pairs)
       (few : spent (worth weight) pairs ≤ old.limiter.limit) (sized : IsSized new) (max : new.max ≡ old.max)

@@ -27,7 +27,6 @@ accepted : {K V S : Type 0} (accepts : Bool) (s more : S) (key : K) (v : V) (t :
 accepted true s more key v t given e h = (h.limiter, h.pair)
 accepted false s more key v t given e h = absurd cc
 
--- A key of this cost is inserted into pairs that are within the limit.
 module _ {K V : Type 0} (weight : K → V → ℕ) (n : ℕ) (fits : n < 2 ^ 63) (eq : K → K → Bool) (key : K) (v : V)
     (pairs : List (K × V)) (cheap : weight key v ≤ n)
     (alike : (other : K) → eq key other ≡ true → weight other v ≡ weight key v)
@@ -38,7 +37,7 @@ module _ {K V : Type 0} (weight : K → V → ℕ) (n : ℕ) (fits : n < 2 ^ 63)
   abbrev Left : Type 0
   Left = Contents K V Budget
 
-  -- the contents after the insert: the new pair first, and then the other pairs that the limit permits
+  -- the contents after the insert
   abbrev pub left : Left
   left = holding weight n (affordable costs n ((stored_key (eq key) key pairs, v) ∷ without (eq key) pairs))
 
@@ -95,7 +94,6 @@ module _ {K V : Type 0} (weight : K → V → ℕ) (n : ℕ) (fits : n < 2 ^ 63)
       (spending weight n (spent costs pairs + weight key v)) key v s given (can (spent costs pairs) (weight key v) few cheap)
       gives
 
-  -- The insert leaves `left`, and returns true if the key is new.
   pub record Ends (flag : Bool) (new : Left) : Type 0 where
     pub leaves : new ≡ left
     pub says : lookup_entry (eq key) pairs ≡ None → ◌≡◌ {A = Result Bool AllocError} (Ok flag) (Ok true)

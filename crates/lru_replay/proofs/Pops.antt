@@ -70,7 +70,6 @@ module _ {K V S : Type 0} {one : Contents K V S → Contents K V S} {gives : Con
 module _ {K V S H : Type 0} {one : Contents K V S → Contents K V S} {gives : Contents K V S → List (K × V)}
     {many : ℕ → Contents K V S → Contents K V S} {all : ℕ → Contents K V S → List (K × V)}
     (p : ArePops one gives many all) (start : List (K × V)) (old mid new : State K V S H) (k : ℕ) where
-  -- a map after k pops and one more
   pub one_popped : (done taken : List (K × V)) → done ≡ start ++ all k (contents old) → taken ≡ gives (contents mid)
       → Leaves old (many k (contents old)) mid → Leaves mid (one (contents mid)) new
       → (done ++ taken ≡ start ++ all (k + 1) (contents old)) × Leaves old (many (k + 1) (contents old)) new

@@ -21,7 +21,6 @@ module _ {K V : Type 0} (eq : K → K → Bool) (key : K) where
       let p = value_there (eq key) pairs value found in
       ap (λ b. cond b 0 1) (sym (there (eq key) pairs p.0 p.1))
 
-  -- After a reference, the newest pairs of a map have the keys of a cache after the same reference.
   pub keys_referred : (n : ℕ) (value : V) (pairs : List (K × V))
       → keys_of (take n ((key, value) ∷ without (eq key) pairs)) ≡ refer eq n key (keys_of pairs)
   keys_referred n value pairs =
@@ -34,7 +33,6 @@ module _ {K V S H : Type 0} {cache : Cache K V S H} {old : State K V S H} {trace
   pub loop_begins : cache.Keeps old → Loops cache old trace 0 0 old
   loop_begins keeps = record { run = begins; limit = refl; keeps = keeps; few = omega arith }
 
-  -- one more reference, which missed `more` times
   pub loop_goes_on : {i missed : ℕ} {key : K} {mid new : State K V S H} (more : ℕ) → Loops cache old trace i missed mid
       → i < length trace → key ≡ get_or trace i key → Reference cache key mid new
       → more ≡ fault cache.eq key (keys_of mid.pairs) → Loops cache old trace (i + 1) (missed + more) new

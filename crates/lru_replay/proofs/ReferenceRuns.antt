@@ -17,8 +17,7 @@ use Rattle.lru_theory.proofs.LongerTraces.{cached_more, faults_more, called_more
 use Rattle.lru_replay.specs.References.{Cache, Referenced, begins, refers, reads, of_length, of_cost}
 use Rattle.lru_replay.specs.References.{Did, nothing, does_more}
 
--- What is proved of a kind of cache. If two caches have equal keys, they have equal keys after the same references,
--- too.
+-- What is proved of a kind of cache.
 pub record IsCache {K V S H : Type 0} (cache : Cache K V S H) : Type 0 where
   pub laws : IsEquivalence cache.eq
   pub alike : (n : ℕ) (key : K) (xs ys : List K) → AreEqual cache.eq xs ys
@@ -35,7 +34,6 @@ module _ {K V S H : Type 0} {cache : Cache K V S H} (is : IsCache cache) (old : 
   abbrev n : ℕ
   n = cache.limit old.limiter
 
-  -- After the trace, the map has the keys of the cache, and counted the misses.
   pub record After (trace : List K) (missed : ℕ) (st : State K V S H) : Type 0 where
     pub keys : AreEqual cache.eq (keys_of st.pairs) (cached_by (cache.refer n) (keys_of old.pairs) trace)
     pub limit : cache.limit st.limiter ≡ n

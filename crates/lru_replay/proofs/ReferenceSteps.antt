@@ -78,7 +78,6 @@ module _ {K V S H : Type 0} {cache : Cache K V S H} {terms : Terms K V S} {rules
   makes_refers makes key old flag new keeps sized admits (got w found is same) =
       subst (Reference cache key old) (sym same) (known.get key w old keeps found)
 
-  -- If memory does not run out, a memo that remembers a value makes a reference.
   pub remembers_refers : (key : K) (v : V) (old : State K V S H) (kept : Result Bool AllocError) (new : State K V S H)
       → cache.Keeps old → IsSized new → IsOk kept → Admits old.limiter key v
       → MakesNewest rules (offers_of terms) cache.eq hash_of (λ made. made ≡ v) key old kept new
@@ -87,7 +86,6 @@ module _ {K V S H : Type 0} {cache : Cache K V S H} {terms : Terms K V S} {rules
       sized (λ w is. subst (Admits old.limiter key) (sym is) admits) h
   remembers_refers key v old (Err e) new keeps sized ok admits h = absurd cc
 
-  -- `makes_refers`, if the closure may fail
   pub makes_if_made : {E : Type 0} (makes : Result V E → Type 0) (key : K) (old : State K V S H) (flag : Bool)
       (new : State K V S H) → cache.Keeps old → IsSized new → ((v : V) → makes (Ok v) → Admits old.limiter key v)
       → MakesNewestIfMade rules (offers_of terms) cache.eq hash_of makes key old (Ok flag) new
@@ -151,7 +149,6 @@ module _ {K V : Type 0} {eq : K → K → Bool} (laws : IsEquivalence eq) where
       go None e = laws.refl key
       go (Some p) e = laws.symm p.0 key ∙ found_named (eq key) xs p e
 
--- What is proved of each call of a map with a maximum length.
 pub record KnownLengths {K H : Type 0} (V : Type 0) (eq : K → K → Bool) (hash_of : H → K → ℕ) : Type 0 where
   pub newest : (key : K) (value : V) (old : State K V ℕ H) (result : Result Bool AllocError) (new : State K V ℕ H)
       → KeepsToLength old → Insert length_rules length_offers eq hash_of key value old result new

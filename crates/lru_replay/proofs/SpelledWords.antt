@@ -20,7 +20,6 @@ use Rattle.lru_replay.specs.Grammar.{call_words, limit_words}
 abbrev pub IsWithin : ℕ → List ℕ → Type 0
 IsWithin most word = (0 < length word) × (length word ≤ most)
 
--- the line is not empty, and not longer than the longest line with a meaning
 abbrev pub IsShort : List ℕ → Type 0
 IsShort line = IsWithin LONGEST line
 
@@ -62,7 +61,6 @@ module _ {X : Type 0} (words : Words X) where
       let (make, found, same) = from_map (λ make. make k v) (lookup (bytes_eq word) words.two) x is in
       subst P same (found_row (λ w make. (k v : ℕ) → P (make k v)) word words.two rows.2 make found k v)
 
-  -- each word has at least one byte, and has at most `LONGEST` bytes with its numbers
   abbrev pub AreShort : Type 0
   AreShort = AllByRecursion (λ row. IsWithin LONGEST row.0) words.alone
       × AllByRecursion (λ row. IsWithin 27 row.0) words.one × AllByRecursion (λ row. IsWithin 6 row.0) words.two

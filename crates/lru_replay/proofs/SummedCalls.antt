@@ -11,7 +11,6 @@ use Rattle.lru_replay.proofs.CallKinds.{Kind, calls_map, stays, writes_value, se
 
 module _ {K V S H : Type 0} (rules : Rules K V S) (offers : Offers K V S K) (eq : K → K → Bool)
     (hash_of : H → K → ℕ) (cost : K → V → ℕ) (account : S → ℕ) where
-  -- each run of calls and of writes that keep the cost keeps the sum
   abbrev pub RunsKeepSums : Type 0
   RunsKeepSums = (old new : State K V S H) → Run (StepOrKeptWrite rules offers eq hash_of cost) new old
       → IsSummed cost account old → IsSummed cost account new

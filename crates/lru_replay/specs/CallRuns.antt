@@ -27,7 +27,7 @@ module _ {K V S : Type 0} where
   StoresPairs (calls.Drain front back) = Unit {0}
   StoresPairs call = ⊥
 
-  -- The call makes its step, or there is no memory for the returned pairs, and nothing changes.
+  -- the call makes its step, or there is no memory for the returned pairs, and nothing changes
   abbrev pub StepIfMemory : {A : Type 0} → (A → Call K V S → Reply K V → A → Type 0) → A → Call K V S → Reply K V → A
       → Type 0
   StepIfMemory IsStep old call reply new = IsStep old call reply new

@@ -20,7 +20,6 @@ abbrev pub lines_of : List ℕ → List (List ℕ)
 lines_of [] = []
 lines_of (b ∷ bytes) = if b == 10 then [] ∷ lines_of bytes else onto_first b (lines_of bytes)
 
--- a line and its line feed
 abbrev pub fed : List ℕ → List ℕ
 fed line = line ++ 10 ∷ []
 

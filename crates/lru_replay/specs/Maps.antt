@@ -8,7 +8,6 @@ use Rattle.lru_model.specs.State.{State, empty_map}
 abbrev pub Map : Type 0 → Type 0
 Map S = State ℕ ℕ S Mixer
 
--- an empty map with this number of bytes for each entry, and links below max
 abbrev pub empty : {S : Type 0} → S → ℕ → ℕ → Map S
 empty limiter entry_bytes max = empty_map limiter (seeded (1 ∷ 2 ∷ 3 ∷ 4 ∷ [])) entry_bytes max
 

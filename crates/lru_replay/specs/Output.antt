@@ -21,7 +21,7 @@ Begins old new text = (part : List ℕ) × IsFront part text × Appends old new 
 abbrev pub Fails : ReplayError → Option (List ℕ) → Option (List ℕ) → List ℕ → Type 0
 Fails e old new text = (e ≡ errors.Write) × Begins old new text
 
--- The text was written, or a write failed after a beginning of the text.
+-- the text was written, or a write failed after a beginning of the text
 abbrev pub Writes : {A : Type 0} → Option (List ℕ) → Option (List ℕ) → Result A ReplayError → List ℕ → Type 0
 Writes old new (Ok _) text = Appends old new text
 Writes old new (Err e) text = Fails e old new text

@@ -17,7 +17,6 @@ pub data Reply (K V : Type 0) : Type 0 where
   updated : Updated V → Reply K V
   value : Option V → Reply K V
   pair : Option (K × V) → Reply K V
-  -- pairs, in order
   listed : List (K × V) → Reply K V
   reserved : Result (Unit {0}) ReserveError → Reply K V
   -- whether the table has fewer buckets

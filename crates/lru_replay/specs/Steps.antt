@@ -1,5 +1,5 @@
--- What each call does: to a map, and to a list of pairs (newest first) with a limiter, as if there were no table and a
--- bucket were always free.
+-- What each call does to a map, and to a list of pairs (newest first) with a limiter and no table, as if a bucket were
+-- always free.
 --     rules, offers       the limiter's `Rules` and `Offers` (`lru_limits`)
 --     eq                  when two keys are equal
 --     hash_of h k         the hash of k by the hasher h
@@ -53,7 +53,7 @@ module _ {K V S H : Type 0} where
   abbrev pub bare : H → Contents K V S → State K V S H
   bare h c = record (empty_map c.limiter h 0 0) { pairs = c.pairs }
 
-  -- The contents determine the reply, and the map becomes `after` of itself.
+  -- The contents determine the reply, and `after` changes the map.
   abbrev pub turns : Named K → (Contents K V S → Reply K V) → (State K V S H → State K V S H) → Does K V S H
   turns names says after = record {
     names = names;
@@ -64,7 +64,7 @@ module _ {K V S H : Type 0} where
   abbrev pub reads : (Contents K V S → Reply K V) → Does K V S H
   reads says = turns nothing says (λ old. old)
 
-  -- The contents determine the reply, and become `after` of themselves. Pairs may leave the map.
+  -- The contents determine the reply, and `after` changes them. Pairs may be evicted or removed.
   abbrev pub takes : Named K → (Contents K V S → Reply K V) → (Contents K V S → Contents K V S) → Does K V S H
   takes names says after = record {
     names = names;
@@ -72,7 +72,6 @@ module _ {K V S H : Type 0} where
     on_list = λ h c reply d. (reply ≡ says c) × (d ≡ after c);
   }
 
-  -- The two steps say which results, maps and contents are permitted.
   abbrev pub gives : {R : Type 0} → Named K → (R → Reply K V) → (State K V S H → R → State K V S H → Type 0)
       → (H → Contents K V S → R → Contents K V S → Type 0) → Does K V S H
   gives {R} names says IsStep IsListStep = record {
@@ -97,7 +96,7 @@ beside list c = record { pairs = c.pairs; limiter = (c.limiter, list) }
 
 module _ {K V S H : Type 0} (rules : Rules K V S) (offers : Offers K V S K) (eq : K → K → Bool)
     (hash_of : H → K → ℕ) where
-  -- The call searches by a hash, and the map becomes `after` of the result and of itself.
+  -- The call searches by a hash. `after` changes the map, depending on the result.
   abbrev pub finds : Named K → ℕ → K → (Option V → State K V S H → State K V S H) → Does K V S H
   finds names hash key after = gives names value
       (λ old result new. FindsByHash eq (hash_of old.hasher) hash key old.pairs result × (new ≡ after result old))
@@ -157,7 +156,6 @@ module _ {K V S H : Type 0} (rules : Rules K V S) (offers : Offers K V S K) (eq 
   abbrev pub ReplyStep : State K V S H → Call K V S → Reply K V → State K V S H → Type 0
   ReplyStep old call reply new = (does call).on_map old reply new
 
--- the step of a call on a list
 abbrev pub ListStep : {K V S : Type 0} → Rules K V S → Offers K V S K → (K → K → Bool) → (K → ℕ) → Contents K V S
     → Call K V S → Reply K V → Contents K V S → Type 0
 ListStep rules offers eq hash_of c call reply d =

@@ -1,4 +1,4 @@
-//! The calls of a run, and their answers.
+//! Calls, and their answers.
 ghost use Rattle.std.specs.Prelude.{◌≡◌, IfOk};
 ghost use Rattle.std.specs.Result.{OnErr};
 ghost use Rattle.lru_model.specs.State.{IsMap};
@@ -103,7 +103,7 @@ pub enum Answer<K, V> {
     CostDiffers,
 }
 
-/// Carries out the calls on the map, one after another, and returns one answer for each.
+/// Carries out the calls on the map, one after another, and returns their answers.
 ///
 /// ```
 /// let mut map: LruMap<u64, u64> = LruMap::new(alloc, ByLength::new(3), [1, 2, 3, 4], 16);

@@ -110,11 +110,11 @@ module _ {K V N : Type 0} (number : N → ℕ) (link : ℕ → N) (none : N) whe
     pub same : length slots ≡ length before
     pub others : (c : ℕ) → c ≢ b → bucket_at slots c ≡ bucket_at before c
 
-  -- the links of a chain keep this order
+  -- `IsChain` of the fields of a chain
   abbrev pub KeepsOrder : Chain K V N → List ℕ → Type 0
   KeepsOrder chain = IsChain chain.table.slots chain.newest chain.oldest
 
-  -- bucket b with these two links is about to be taken out of a chain with this order
+  -- `IsGap` of the fields of a chain
   abbrev pub HasGap : Chain K V N → List ℕ → ℕ → N → N → Type 0
   HasGap chain = IsGap chain.table.slots chain.newest chain.oldest
 

@@ -11,11 +11,9 @@ use Rattle.group_table.specs.Table.{Insertions, IsTable}
 use Rattle.group_table.specs.Fits.{Fits}
 
 pub record OrderedTable (K V : Type 0) : Type 0 where
-  -- the buckets; a full bucket contains a pair
   pub slots : List (Slot (K × V))
   -- the full buckets, newest first
   pub order : List ℕ
-  -- how many insertions the table has made
   pub insertions : Insertions
 
 abbrev pub without_bucket : ℕ → List ℕ → List ℕ
@@ -25,12 +23,10 @@ abbrev pub in_front : Option ℕ → List ℕ → List ℕ
 in_front None order = order
 in_front (Some b) order = b ∷ without_bucket b order
 
--- the bucket after b in the order, if there is one
 abbrev pub bucket_after : ℕ → List ℕ → Option ℕ
 bucket_after b [] = None
 bucket_after b (c ∷ cs) = if nat_eq c b then first cs else bucket_after b cs
 
--- the bucket before b in the order, if there is one
 abbrev pub bucket_before : ℕ → List ℕ → Option ℕ
 bucket_before b [] = None
 bucket_before b (c ∷ []) = None
@@ -66,7 +62,7 @@ module _ {K V : Type 0} where
     pub insertions : new.insertions ≡ one_placed old.insertions
     pub growth_left : growth_left (bucket_states new.slots) + growth_left_at (bucket_states old.slots) b ≡ growth_left (bucket_states old.slots)
 
-  -- the pair was taken out of bucket b, and the other pairs keep their order
+  -- the pair was taken out of bucket b; the other pairs keep their order
   pub record Takes (old new : OrderedTable K V) (b : ℕ) (taken : K × V) : Type 0 where
     pub pair : entry_at old.slots b ≡ Some taken
     pub removed : Removes old.slots new.slots b

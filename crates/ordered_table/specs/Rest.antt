@@ -13,7 +13,7 @@ module _ {K V : Type 0} (t : OrderedTable K V) where
   abbrev pub rest_of : ℕ → ℕ → List (K × V)
   rest_of front left = entries_in t.slots (take left (from_bucket front t.order))
 
-  -- The walk returned the entries of `before` from the front and those of `after` from the back. The entries of
+  -- The walk returned the entries of `before` from the front, and the entries of `after` from the back. The entries of
   -- `middle` are left.
   pub record IsRest (front back left : ℕ) : Type 0 where
     pub linked : IsLinked t

@@ -37,7 +37,6 @@ pub(crate) struct Entry<K, V, N> {
     older: N,
 }
 
-// A table whose full buckets are in the order that their links show, newest first.
 pub(crate) struct LinkedTable<K, V, N: LinkType> {
     chain: Chain<K, V, N>,
 }

@@ -1,4 +1,3 @@
-//! Rows of a data file.
 use crate::escapes::unescape;
 use std::alloc::Global;
 use std::fmt::Write;

@@ -127,7 +127,6 @@ pub fn error_at(at: usize) -> ErrorKind {
     }
 }
 
-/// Returns the first `lines` lines of a text.
 pub fn front_lines(text: &[u8], lines: usize) -> &[u8] {
     let mut left = lines;
     for (i, byte) in text.iter().enumerate() {

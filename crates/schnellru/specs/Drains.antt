@@ -6,11 +6,10 @@ use Rattle.lru_model.specs.State.{State}
 use Rattle.schnellru.specs.declared.walk.drain.Drain.{Drain}
 
 module _ {K V L S N H : Type 0} where
-  -- the current state of the map that a drain takes from
   abbrev pub drain_map : Drain K V L S N H → State K V L S
   drain_map d = d.map.now
 
-  -- the ghost name of the reference to this map
+  -- the ghost name of the reference to the map
   abbrev pub drain_lender : Drain K V L S N H → GName
   drain_lender d = d.map.ghost_name
 

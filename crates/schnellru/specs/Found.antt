@@ -21,7 +21,6 @@ module _ {K V L S N H : Type 0} {equal : equality.Ghosts K} {input : hashing.Gho
     {links : link_type.Ghosts N}
     {keyed : key_hasher.Ghosts S K H} {build : builder.Ghosts S H} {hash : hasher.Ghosts H}
     (entry : OccupiedEntry K V L S N H equal input limits links keyed build hash) where
-  -- the current map, and the ghost name of the reference to it
   abbrev pub entry_map : State K V L S
   entry_map = entry.map.now
 
@@ -57,11 +56,10 @@ module _ (K V L S N H : RattleType) (key : HashMembers K.Denot)
   keeps_if_none m r = RestsIfNone (map_row K V L S N H key limits links hashed hash) m (λ e. entry_lender e) r
       (λ n. n ≡ m.now)
 
-  -- after the loan the entry has the last value written through r
+  -- after the loan the entry (in `lends_into` the map) has the last value written through r
   abbrev pub lends_found : MutBor Entry → MutBor V.Denot → Fml
   lends_found e r = Lends entry_row V e r (λ last. entry_written e.now last)
 
-  -- after the loan the map has the last value written through r
   abbrev pub lends_into : Entry → MutBor V.Denot → Fml
   lends_into e r = Lends (map_row K V L S N H key limits links hashed hash) V e.map r
       (λ last. entry_map (entry_written e last))

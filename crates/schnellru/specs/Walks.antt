@@ -21,7 +21,6 @@ use mathlib.Core.Option as maybe
 pub one_less : (n m : ℕ) → n ≤ m → n - 1 ≤ m
 one_less n m h = omega (arith, h)
 
--- the ghost name of the lent value, if there is one
 abbrev pub lent_name : {K V : Type 0} → Option (Bor K × MutBor V) → maybe.Option GName
 lent_name (Some pair) = maybe.some pair.1.ghost_name
 lent_name None = maybe.none
@@ -31,7 +30,6 @@ module _ {K V L S N H : Type 0} {equal : equality.Ghosts K} {input : hashing.Gho
     {links : link_type.Ghosts N}
     {keyed : key_hasher.Ghosts S K H} {build : builder.Ghosts S H} {hash : hasher.Ghosts H}
     (walk : IterMut K V L S N H equal input limits links keyed build hash) where
-  -- the current map, and the ghost name of the reference to it
   abbrev pub walk_map : State K V L S
   walk_map = walk.map.now
 
@@ -67,7 +65,6 @@ module _ {K V L S N H : Type 0} {equal : equality.Ghosts K} {input : hashing.Gho
     last = refl;
   }
 
-  -- the pair that `next` lends, and the pair that `next_back` lends
   abbrev pub next_pair : Option (K × V)
   next_pair = if nat_lt walk.start walk.end then slice_get walk.map.now.pairs walk.start else None
 
@@ -87,14 +84,13 @@ module _ (K V L S N H : RattleType) (key : HashMembers K.Denot)
       (record { hash_input = key.hash_input }) limits
       links (record { hash_of = hashed.hash_of })
       (record { build_hasher = hashed.build_hasher }) hash)) where
-    -- if a pair was left, the first one is lent until the borrow r ends
+    -- if a pair was left, the first one (in `lends_next_back` the last one) is lent until the borrow r ends
     abbrev pub lends_next : Option (Bor K.Denot × MutBor V.Denot) → Fml
     lends_next r = follows_if walk_row V walk.ghost_name (lent_name r) (λ w. walk_after_first walk.now w) walk.now
 
     abbrev pub lends_first : Bor K.Denot × MutBor V.Denot → Fml
     lends_first r = follows walk_row V walk.ghost_name r.1.ghost_name (λ w. walk_after_first walk.now w)
 
-    -- if a pair was left, the last one is lent until the borrow r ends
     abbrev pub lends_next_back : Option (Bor K.Denot × MutBor V.Denot) → Fml
     lends_next_back r = follows_if walk_row V walk.ghost_name (lent_name r) (λ w. walk_after_last walk.now w) walk.now
 

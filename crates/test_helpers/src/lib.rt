@@ -1,11 +1,4 @@
 //! What tests share.
-//!
-//! - [`check`], [`all`]: end a test if a condition is false, and join conditions.
-//! - [`Hog`]: takes all memory, so that the requests of others fail.
-//! - [`LinkedBy`], [`Alternating`], [`Blanking`]: limiters of maps from numbers to numbers.
-//! - [`InsertKey`] and [`Counting`]: texts that become a `String` when they are stored, and a limiter for them.
-//! - [`Random`]: random numbers, the same in each run.
-//! - [`LastByte`]: a hasher.
 #![tactic(auto)]
 
 mod hashers;

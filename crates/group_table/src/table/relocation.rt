@@ -23,9 +23,8 @@ impl<T> Table<T> {
     /// A table without entries may move to 0 buckets, which frees its memory.
     ///
     /// The result contains a link for each old bucket: the number of its entry's new bucket, or `MAX` if the old bucket
-    /// was free. The result is empty for a table without entries. `hash_of` is called once for each entry. The count
-    /// `moved` rises by the number of entries, and `placed` stays. Afterwards no bucket is deleted. Takes time O(old
-    /// buckets + new buckets).
+    /// was free. The result is empty for a table without entries. `hash_of` is called once for each entry. Afterwards
+    /// no bucket is deleted. Takes time O(old buckets + new buckets).
     ///
     /// # Errors
     ///
@@ -84,8 +83,7 @@ impl<T> Table<T> {
 
     /// Moves all entries within the table, so that no bucket is deleted afterwards. Returns what `relocate` returns.
     ///
-    /// `hash_of` is called once for each entry. The count `moved` rises by the number of entries, and `placed` stays.
-    /// Takes time O(buckets).
+    /// `hash_of` is called once for each entry.
     ///
     /// # Errors
     ///

@@ -87,7 +87,6 @@ pub fn put(alloc: Global, map: &mut BytesMap, key: &[u8], value: &[u8]) -> u32
     }
 }
 
-// If the key is not in the map, reserves growth for it. Returns whether there was enough memory.
 fn get_ready_for(map: &mut BytesMap, key: &[u8]) -> bool
     ensures ready { result ≡ true → IsReady key.now map.old map.new }
     ensures finds { result ≡ true → FindsMemory key.now map.new }
@@ -198,7 +197,6 @@ pub fn show(pair: Option<(&Vec<u8>, &Vec<u8>)>, key: &mut [u8], value: &mut [u8]
     }
 }
 
-/// Returns a copy of the map, or `None` if memory ran out.
 pub fn copied(alloc: Global, map: &BytesMap) -> Option<Box<BytesMap>>
     ensures { IfSome result (λ copy. Copies map.now copy.value) }
 {

@@ -15,7 +15,6 @@ use Rattle.lru_model.specs.State.{State}
 use Rattle.lru_model.proofs.States.LeavingPairs.{length-without_last}
 
 module _ {X : Type 0} where
-  -- each element of the second list is in the first
   abbrev pub Covers : List X → List X → Type 0
   Covers xs ys = (x : X) → Contains ys x → Contains xs x
 

@@ -37,7 +37,6 @@ module _ {K V S : Type 0} (terms : Terms K V S) (rules : Rules K V S) (eq : K â†
       (rules.is_over_the_limit (terms.admit c.limiter n key value) (n + 1)) place in
       offers_of-accepts terms rules eq key value c yes.0 yes.1
 
-  -- what an insert of the pair leaves
   pub record Adds {H : Type 0} (old : State K V S H) (result : Result Bool AllocError) (new : State K V S H)
       : Type 0 where
     pub answer : result â‰¡ Ok true

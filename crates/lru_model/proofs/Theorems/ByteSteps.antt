@@ -87,7 +87,6 @@ module _ {K V H : Type 0} (bytes_of : K → V → ℕ) (most : ℕ) where
     quiet : Calm bytes_of most old new → Ends new
     quiet c = calm_ends old new c k w
 
-    -- the limiter rejects a new value for this pair
     removed_calm : (pair : K × V) (value : V) (left : Contents K V Bytes)
         → left.limiter ≡ (let r = (offers bytes_of).on_replace old.limiter (length old.pairs) pair.0 pair.0 pair.1 value in
         ((rules bytes_of).on_removed r.limiter r.key r.old_value).limiter)

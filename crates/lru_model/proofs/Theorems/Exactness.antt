@@ -126,7 +126,6 @@ trimmed_is rules mid c result new r l =
     ∙ ap (λ x. (x, contents new)) (sym r)
 
 module _ {K V S H : Type 0} (rules : Rules K V S) (old : State K V S H) where
-  -- the contents after the limiter returned a pair and became s, and after `make_room`
   abbrev pub way : S → Contents K V S
   way s = make_room rules (record { pairs = old.pairs; limiter = s })
 

@@ -1,5 +1,4 @@
--- If growth is left, an insert changes the pairs as it would change a list without a table. The same holds if the
--- limiter permits every growth and there are tables.
+-- For the laws `granted_inserts_are_exact` and `inserts_with_room_are_exact`.
 use Rattle.std.proofs.Common.{◌≡◌, ◌≢◌, ℕ, ◌+◌, ◌⊎◌, inl, inr, Bool, true, false, cond, length, Some, Result}
 use Rattle.std.proofs.Common.{refl, sym, ap, ◌∙◌, subst, arith, ◌<◌, ◌≤◌}
 use Rattle.std.specs.declared.alloc.AllocError.{AllocError}
@@ -60,7 +59,6 @@ module _ {K V S H I : Type 0} (rules : Rules K V S) (offers : Offers K V S I) (n
   abbrev EndsSo : Type 0
   EndsSo = InsertsInList rules offers names i v (contents old) result (contents new)
 
-  -- the map after the limiter returned a pair, and after `make_room`
   abbrev Ready : S → State K V S H → Type 0
   Ready s ready = Leaves (record old { limiter = s }) (make_room rules (record { pairs = old.pairs; limiter = s })) ready
 

@@ -1,5 +1,5 @@
--- Searches by a hash, whose closure tests each pair and changes nothing. If it tests for a key, the search finds the pair
--- of this key.
+-- Searches by a hash, whose closure tests each pair and changes nothing. If it tests for a key, the search finds the
+-- key's pair.
 use Rattle.std.proofs.Common.{◌≡◌, ℕ, zero, suc, Bool, true, false, cond, List, [], ◌∷◌, ◌++◌, Some, refl}
 use Rattle.std.proofs.Common.{sym, ap, ◌∙◌, subst, arith}
 use Rattle.std.specs.Prelude.{Contains, unwrap_or}
@@ -15,7 +15,6 @@ use Rattle.lru_model.specs.Lists.{lookup_entry}
 use Rattle.lru_model.proofs.PairLists.DistinctKeys.{AreDistinct, all_of}
 use Rattle.lru_model.proofs.Theorems.Fronts.{found_named}
 
--- The closure tests each pair, and changes nothing.
 abbrev pub Tests : {K V F : Type 0} → Mut F (Bor K × (Bor V × Unit {0})) Bool → F → (K × V → Bool) → Type 0
 Tests {K} {V} {F} closure f test = (key : Bor K) (value : Bor V) (r : Bool) (g : F)
     → Called closure f (key, (value, tt)) r g → (r ≡ test (key.now, value.now)) × (g ≡ f)

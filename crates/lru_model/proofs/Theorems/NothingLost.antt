@@ -1,4 +1,4 @@
--- After an insert, the stored pair and each old pair of another key are in the map, or were passed to the callback.
+-- For the law `nothing_is_lost`.
 use Rattle.std.proofs.Common.{◌≡◌, ℕ, Bool, true, false, List, [], ◌∷◌, ◌++◌, reverse, Some, None, Result, Ok}
 use Rattle.std.proofs.Common.{refl, sym, ap, ◌∙◌, subst, append-nil, ◌⊎◌, inl, inr, cond, arith}
 use Rattle.std.proofs.lemmas.List.{reverse-append, reverse-reverse}

@@ -26,7 +26,6 @@ unfolding growth_left_of
 no_growth_left states e = omega (arith, full_capacity-at_most (length states))
 
 module _ {K V S H : Type 0} (rules : Rules K V S) (hash_of : H → K → ℕ) (pair : K × V) (old : State K V S H) where
-  -- there is no growth left, and there are no buckets or there is a pair
   abbrev pub LacksTable : Type 0
   LacksTable = (growth_left old ≡ 0) × ((buckets old ≡ 0) ⊎ (0 < length old.pairs))
 

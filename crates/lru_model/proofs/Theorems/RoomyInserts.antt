@@ -1,5 +1,4 @@
--- If growth is left, or a deleted bucket takes the pair, an insert of an accepted pair evicts nothing, and passes
--- nothing to the callback.
+-- For the laws `inserts_with_room_are_exact` and `deleted_buckets_serve`: nothing is evicted or passed.
 use Rattle.std.proofs.Common.{◌≡◌, ℕ, ◌+◌, ◌<◌, ◌≤◌, Bool, false, List, [], length, Some, None, Result, Ok, refl}
 use Rattle.std.proofs.Common.{sym, ap, ◌∙◌, subst, arith}
 use Rattle.std.specs.Prelude.{not, unwrap_or}

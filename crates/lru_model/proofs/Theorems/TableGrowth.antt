@@ -153,7 +153,6 @@ module _ {K V S H : Type 0} (rules : Rules K V S) (R : Contents K V S → Conten
   abbrev pub Reaches : State K V S H → S → Type 0
   Reaches old s = (pairs : List (K × V)) × R (contents old) (record { pairs = pairs; limiter = s })
 
-  -- how a call changes the pairs, the limiter and the table
   pub record Changes (more anew : ℕ) (old new : State K V S H) : Type 0 where
     pub moves : R (contents old) (contents new)
     pub tables : Tables rules (Reaches old) more anew old new

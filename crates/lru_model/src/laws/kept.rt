@@ -21,10 +21,9 @@ use lru_limits::{ByLength, Insertion, KeyHasher, Limiter, LookupKey};
 use std::hash::Hash;
 
 /// If the limiter changes no evicted or removed entry (`ChangesNoPair`), an insert loses no entry. `LosesNothing` says,
-/// for each result, where the new entry and the old entries are afterwards (`all`). Suppose that the result is true.
-/// Then the map has the stored entry and the newest entries of other keys, and the callback got the oldest entries,
-/// oldest first (`stored`). In each case, every old entry of another key is in the map or was passed to the callback
-/// (`others`).
+/// for each result, where the new entry and the old entries are afterwards (`all`). If the result is true, the map has
+/// the stored entry and the newest entries of other keys, and the callback got the oldest entries, oldest first
+/// (`stored`). In each case, every old entry of another key is in the map or was passed to the callback (`others`).
 pub fn nothing_is_lost<K: Eq + Hash, V, I: LookupKey<K>, L: Insertion<K, V, I>, S: KeyHasher<K>>()
     ensures all { (key : I) (value : V) (old : State K V L S) (result : Result Bool AllocError)
         (passed : List (K × V)) (new : State K V L S) →

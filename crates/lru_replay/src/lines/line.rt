@@ -1,4 +1,4 @@
-//! The lines of the input, one at a time, in a fixed array.
+//! Reads lines, one at a time, into a fixed array.
 ghost use Rattle.std.specs.Prelude.{◌≡◌, ℕ, ◌<◌, ◌≤◌, List, [], ◌∷◌, ◌++◌, length, take, MatchBool, IfOk, IfErr, OnErr};
 ghost use Rattle.lru_replay.specs.Lines.{TakesPiece, TakesLine, TakesPart};
 

@@ -1,4 +1,4 @@
-//! What a line means: the first line means the limit of the map, and each other line means a call.
+//! What lines mean: the first line is the limit of the map, and each other line is a call.
 ghost use Rattle.std.specs.Prelude.{◌≡◌, ℕ, List, IfSome, IfNone, true, false};
 ghost use Rattle.lru_replay.specs.Grammar.{SpellsNumber, SpellsPair, StartsAsNumber, IsSplit, said_of, call_words};
 ghost use Rattle.lru_replay.specs.Grammar.{SpellsCall, limit_words, FitsLimit, SpellsLimit};

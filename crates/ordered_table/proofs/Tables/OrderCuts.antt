@@ -10,7 +10,6 @@ use Rattle.ordered_table.proofs.Chains.Orders.{Lacks, lacks_unless, without-lack
 use Rattle.ordered_table.specs.OrderedTable.{without_bucket, entries_in}
 use Rattle.lru_model.specs.Lists.{first as first_bucket, last as last_bucket}
 
--- the buckets before b, and the buckets after b
 pub record Cut (b : ℕ) (order : List ℕ) : Type 0 where
   pub before : List ℕ
   pub after : List ℕ

@@ -21,7 +21,6 @@ pub(crate) struct Chain<K, V, N> {
 }
 
 impl<K, V, N: LinkType> Chain<K, V, N> {
-    // Takes a bucket out of the chain.
     #[inline]
     pub(crate) fn unlink(&mut self, b: usize)
         requires { InChain N.number N.link N.MAX self.old b }

@@ -6,7 +6,6 @@ use Rattle.std.proofs.lemmas.List.{length-append}
 use Rattle.std.specs.Fn.{Mut, Called}
 use Rattle.lru_model.specs.Callbacks.{CalledWith}
 
--- the pair was added, if there was space for it
 pub record IsKept {K V : Type 0} (old new : MutBor (Vec (K × V) Global)) (pair : K × V) : Type 0 where
   pub same : new.ghost_name ≡ old.ghost_name
   pub capacity : vec_capacity new.now ≡ vec_capacity old.now

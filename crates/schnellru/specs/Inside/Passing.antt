@@ -7,8 +7,8 @@ use Rattle.lru_model.specs.State.{State}
 
 module _ {K V F : Type 0} (closure : Mut F (K × (V × Unit {0})) (Unit {0})) where
   -- This part of a call turns the map `old` into `new` as `step` says, and the callback f into g. The callback gets the
-  -- pairs of which the limiter is notified: `before` are all pairs that it got before this part, and `after` all that
-  -- it got by its end.
+  -- pairs of which the limiter is notified. `before` lists the pairs that it got before this part, and `after` the
+  -- pairs that it got by the end.
   abbrev pub Passes : {S H : Type 0} → Rules K V S → F → F → State K V S H → State K V S H
       → (Rules K V (S × List (K × V)) → State K V (S × List (K × V)) H → State K V (S × List (K × V)) H → Type 0)
       → Type 0

@@ -1,4 +1,4 @@
--- How a pair in a bucket changes: its value is replaced, or the pair is removed. No public clause cites this module.
+-- How a pair in a bucket changes: its value is replaced, or it is taken out. No public clause cites this module.
 use Rattle.std.specs.Prelude.{◌≡◌, ℕ, ◌+◌, Bool, true, false, Some}
 use Rattle.group_table.specs.Bucket.{bucket_states, growth_left as growth_left_of, growth_left_at}
 use Rattle.group_table.specs.Change.{Removes}
@@ -44,6 +44,6 @@ pub record IsOffered {K V S H I : Type 0} (rules : Rules K V S) (offers : Offers
   pub taken : (replacement rules offers names pair i v (contents old)).taken ≡ result.0
   pub unkept : result.1 ≡ unkept_of (replacement rules offers names pair i v (contents old))
   pub accepted : result.0 ≡ true → Leaves old (with_updated rules offers names pair i v (contents old)) new
-  -- after an accepted value, each pair stays in its bucket
+  -- if the value is accepted, each pair stays in its bucket
   pub place : result.0 ≡ true → new.table.places ≡ old.table.places
   pub rejected : result.0 ≡ false → Leaves old (with_removed rules offers names pair i v (contents old)) new

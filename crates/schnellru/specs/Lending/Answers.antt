@@ -23,13 +23,12 @@ module _ {V E : Type 0} where
   abbrev pub NoneLent : Result (Option (MutBor V)) E → Type 0
   NoneLent r = is_kept r ≡ Ok true → ⊥
 
-  -- the value that is lent, if there is one
   abbrev pub value_lent : Result (Option (MutBor V)) E → Option V
   value_lent (Ok (Some x)) = Some x.now
   value_lent (Ok None) = None
   value_lent (Err e) = None
 
-  -- the ghost name of the lent reference, if there is one
+  -- the ghost name of the lent reference
   abbrev pub name_lent : Result (Option (MutBor V)) E → maybe.Option GName
   name_lent (Ok (Some x)) = maybe.some x.ghost_name
   name_lent (Ok None) = maybe.none

@@ -29,12 +29,12 @@ module _ (K V L S N H : RattleType) (key : HashMembers K.Denot)
   abbrev pub LendsNone : Result (Option (MutBor V.Denot)) E → State K.Denot V.Denot L.Denot S.Denot → Type 0
   LendsNone r n = Step (is_kept r) n × IsMap key.eq n
 
-  -- the map after the loan; the result is `NotKept` if no value is lent and no error occurred
+  -- the map after the loan; r is `NotKept` if no value is lent and no error occurred
   abbrev pub lends_or : Result (MutBor V.Denot) (NotLent E) → Fml
   lends_or r = LendsSoOk (map_row K V L S N H key limits links hashed hash) V m r
       (λ n w. Made (lent_or_none r) n w) (λ n. LendsNone (lent_or_none r) n)
 
-  -- the map after the loan; the result is `Ok None` if no value is lent and no error occurred
+  -- the map after the loan; r is `Ok None` if no value is lent and no error occurred
   abbrev pub lends_made : Result (Option (MutBor V.Denot)) E → Fml
   lends_made r = follows_so (map_row K V L S N H key limits links hashed hash) V m.ghost_name
       (name_lent r)

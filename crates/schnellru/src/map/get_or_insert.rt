@@ -102,7 +102,6 @@ impl<K: Eq + Hash + Drop, V: Drop, L: Limiter<K, V>, S: KeyHasher<K>> LruMap<K, 
         }
     }
 
-    // Lends the newest value if `kept` is `Ok(true)`.
     #[inline]
     fn lend_if_kept<E>(&mut self, kept: Result<bool, E>) -> Result<&mut V, NotLent<E>>
         requires { kept ≡ Ok true → 0 < length self.old.pairs }

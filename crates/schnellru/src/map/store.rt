@@ -47,7 +47,6 @@ impl<K: Eq + Hash, V, L: Limiter<K, V>, S: KeyHasher<K>> LruMap<K, V, L, S> {
         Ok(())
     }
 
-    // Returns whether the entry is stored.
     pub(super) fn store_without_bucket<F: FnMut(K, V)>(
         &mut self,
         hash: u64,
@@ -96,7 +95,6 @@ impl<K: Eq + Hash, V, L: Limiter<K, V>, S: KeyHasher<K>> LruMap<K, V, L, S> {
         }
     }
 
-    // Evicts the oldest entries until the new entry can be stored. If the map is empty, does not store the entry.
     fn store_without_growth<F: FnMut(K, V)>(
         &mut self,
         hash: u64,

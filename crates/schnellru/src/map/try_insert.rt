@@ -27,8 +27,7 @@ impl<K: Eq + Hash + Drop, V: Drop, L: Admission<K, V> + Copy, S: KeyHasher<K>> L
     ///
     /// # Errors
     ///
-    /// Returns the key and the value for one of five reasons. The `Err` does not say which. `contains` recognises only
-    /// the first:
+    /// Returns the key and the value, for one of five reasons. Only the first can be recognised, by `contains`:
     ///
     /// - The key is there.
     /// - The limiter rejects the entry, before or after the table grew.
@@ -49,7 +48,7 @@ impl<K: Eq + Hash + Drop, V: Drop, L: Admission<K, V> + Copy, S: KeyHasher<K>> L
         self.try_insert_hashed(hash, key, value)
     }
 
-    /// Does what `try_insert` does, but gets the hash of the key from the caller. For the hash, see `insert_hashed`.
+    /// Does what `try_insert` does, but gets the hash of the key from the caller, as `insert_hashed` does.
     ///
     /// ```
     /// let hash = map.hasher().hash_named(&4);
@@ -102,7 +101,6 @@ impl<K: Eq + Hash + Drop, V: Drop, L: Admission<K, V> + Copy, S: KeyHasher<K>> L
         Ok(())
     }
 
-    // Reserves growth if none is left. Returns false if the reservation fails, or if `can_store` is false afterwards.
     fn get_ready_for(&mut self, key: &K, value: &V) -> bool
         requires storable { can_store L.terms L.rules key.now value.now (contents self.old) ≡ true }
         ensures ready { IsTrue result → IsReady L.rules self.old self.new }

@@ -7,8 +7,8 @@ use crate::rattle_std::prelude::*;
 use crate::erased::group_table::control::{DELETED, EMPTY};
 use crate::rattle_std::simd::prelude::*;
 
-/// Returns the lanes of the tag in the control bytes of sixteen neighbouring buckets. Bit i of the result is set if and
-/// only if byte i is the tag. `docs/TABLE.md` shows masks.
+/// Returns which of sixteen neighbouring control bytes are the tag: bit i of the result is set if and only if byte i is
+/// the tag. `docs/TABLE.md` shows masks.
 ///
 /// ```text
 /// let bytes: [u8; 16] = [0, 255, 128, 5, 255, 255, 255, 255, 255, 255, 255, 255, 255, 255, 255, 255];

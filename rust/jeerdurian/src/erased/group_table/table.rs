@@ -23,8 +23,8 @@ mod relocation;
 /// A table sees no key and stores no hash. The caller passes the hash, and a search calls the caller's closure. An
 /// entry keeps its bucket until the entry is taken out, or all entries are moved. `docs/TABLE.md` explains the rules.
 ///
-/// Only `with_buckets`, `relocate`, `rehash` and `clone_with` allocate. `new`, `get`, `get_mut`, `take` and figures
-/// such as `len` take O(1). `find`, `place` and `try_place` take O(1) if the hashes are spread, and at worst O(B) for B
+/// Only `with_buckets`, `relocate`, `rehash` and `clone_with` allocate. `new`, `get`, `get_mut`, `take` and reads such
+/// as `len` take O(1). `find`, `place` and `try_place` take O(1) if the hashes are spread, and at worst O(B) for B
 /// buckets. All other calls take O(B).
 ///
 /// ```text
@@ -55,11 +55,11 @@ impl<T> Table<T> {
         }
     }
 
-    /// Makes a table of `buckets` empty buckets. `buckets` must be 0, or a power of two from 4 on. `buckets` + 16 must
-    /// be at most `isize::MAX`.
+    /// Makes a table of `buckets` empty buckets. `buckets` must be 0, or a power of two from 4 on, and `buckets` + 16
+    /// at most `isize::MAX`.
     ///
-    /// Allocates twice: a `T` for each bucket, and then `buckets` + 16 control bytes. Takes time O(buckets). With 0
-    /// buckets it allocates nothing.
+    /// Allocates twice: a `T` for each bucket, and then `buckets` + 16 control bytes. With 0 buckets it allocates
+    /// nothing.
     ///
     /// # Errors
     ///

@@ -18,7 +18,7 @@ pub use by_weight::ByWeight;
 pub use owned_bytes::OwnedBytes;
 
 /// A value with a cost. An unsigned number of up to 64 bits costs itself. A text costs the number of its bytes, and a
-/// vector costs the number of its items.
+/// vector the number of its items.
 ///
 /// The limiter reads the cost again when the entry is evicted or removed, or when the value is replaced. So if the cost
 /// of a stored value changes, the running total is no longer the sum of the costs.

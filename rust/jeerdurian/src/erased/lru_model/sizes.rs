@@ -27,8 +27,7 @@ pub fn bytes_of(entry_bytes: usize, buckets: usize) -> usize {
 
 /// Returns the number of buckets and the bytes of the larger table into which a table of `buckets` buckets grows for
 /// `pairs` entries. `pairs` must be more than half of the capacity of the old table. Returns `None` if the larger table
-/// would have `max` buckets or more, because links cannot number them. Also returns `None` if the larger table would
-/// take more than `isize::MAX - 15` bytes.
+/// would have `max` buckets or more, which links cannot number, or would take more than `isize::MAX - 15` bytes.
 
 pub fn larger_table(max: usize, entry_bytes: usize, buckets: usize, pairs: usize) -> Option<(usize, usize)> {
     let need = buckets_for_capacity(pairs, max)?;

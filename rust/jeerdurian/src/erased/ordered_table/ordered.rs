@@ -113,7 +113,8 @@ impl<K, V, N: LinkType> OrderedTable<K, V, N> {
         promoted::newer_unless_first(&self.linked, self.promoted, b)
     }
 
-    /// Lends the entry in a full bucket for writing. If a written key has the same hash, the keys still fit the table.
+    /// Lends the entry in a full bucket for writing. If the hash of the key stays the same, the keys still fit the
+    /// table.
     #[inline]
     pub fn pair_mut(&mut self, b: usize) -> &mut Pair<K, V> {
         self.linked.pair_mut(b)

@@ -107,7 +107,6 @@ impl Session {
         }
     }
 
-    /// Makes a checkpoint. Returns whether it succeeded.
     pub fn close(self) -> bool {
         let Session { mut store, changes: _ } = self;
         let is_written = store.checkpoint().is_ok();

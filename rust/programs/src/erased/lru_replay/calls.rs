@@ -1,5 +1,5 @@
 // Erased from crates/lru_replay/src/calls.rt: do not edit.
-//! The calls of a run, and their answers.
+//! Calls, and their answers.
 
 #[allow(unused_imports)]
 use crate::rattle_std::prelude::*;
@@ -105,7 +105,7 @@ pub enum Answer<K, V> {
     CostDiffers,
 }
 
-/// Carries out the calls on the map, one after another, and returns one answer for each.
+/// Carries out the calls on the map, one after another, and returns their answers.
 ///
 /// ```text
 /// let mut map: LruMap<u64, u64> = LruMap::new(alloc, ByLength::new(3), [1, 2, 3, 4], 16);

@@ -1,11 +1,10 @@
 // Erased from crates/lru_replay/src/lib.rt: do not edit.
 //! Runs of calls on an LRU map: as lists of calls, and as lines from a reader to a writer.
 //!
-//! [`run_calls`] carries out a list of calls on a map of any keys, values, limiter and hasher. [`run_summing`] does
-//! this under a limiter with a running total, and makes no call that would make the total wrong. [`replay`] reads lines
-//! that spell [`Call`]s, and writes their answers. `docs/REPLAY.md` lists the lines. All three functions carry out the
-//! same steps, which `docs/RUNS.md` explains. The theorems on runs are the contracts of the functions of [`laws`]. The
-//! theorems on programs that make references are in [`references`] and [`costs`] (`docs/THEORY.md`).
+//! [`run_calls`] carries out a list of calls on any map. [`run_summing`] does this under a limiter with a running
+//! total, and makes no call that would make the total wrong. [`replay`] reads lines that spell [`Call`]s
+//! (`docs/REPLAY.md`), and writes their answers. `docs/RUNS.md` explains the steps of all three. [`laws`] states
+//! theorems on runs, and [`references`] and [`costs`] on programs that make references (`docs/THEORY.md`).
 
 #[allow(unused_imports)]
 use crate::rattle_std::prelude::*;

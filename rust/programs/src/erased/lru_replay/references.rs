@@ -1,6 +1,5 @@
 // Erased from crates/lru_replay/src/references.rt: do not edit.
-//! Theorems on programs that make references on a map with `ByLength`. The functions do nothing; their contracts are
-//! the theorems. `docs/THEORY.md` explains each theorem.
+//! Theorems on programs that make references on a map with `ByLength`. `docs/THEORY.md` explains each.
 
 #[allow(unused_imports)]
 use crate::rattle_std::prelude::*;
@@ -47,8 +46,7 @@ pub fn programs_make_references<K: Eq + Hash, V, S: KeyHasher<K>>() {}
 /// After the references of a trace, the map contains the `max_length` keys that were referenced last (`keys`). A
 /// reference misses exactly if it is the first reference to its key, or if its reuse distance is at least `max_length`
 /// (`misses`). Keys that were in the map before count as referenced before the trace, the oldest key first. If
-/// `max_length` is not 0, the map counts the misses: `placed`, the count of entries that inserts stored, rises by the
-/// number of misses, up to `u64::MAX` (`stored`).
+/// `max_length` is not 0, the map counts the misses in `placed`, up to `u64::MAX` (`stored`).
 pub fn references_keep_the_newest<K: Eq + Hash, V, S: KeyHasher<K>>() {}
 
 /// More capacity never means more misses. Suppose that the references of one trace are made on two maps, by any calls.
@@ -62,11 +60,11 @@ pub fn more_capacity_never_misses_more<K: Eq + Hash, V, S: KeyHasher<K>>() {}
 /// the calls of `calls_change_the_keys`.
 pub fn a_smaller_map_is_included<K: Eq + Hash, V, S: KeyHasher<K>>() {}
 
-/// LRU is competitive, whichever calls make the references. Compare a map with `ByLength(k)`, which may contain any
-/// keys before, with any policy with h ≤ k places. The policy may know the trace in advance, begins with the keys
-/// `first`, and pays `paid` times for the same references. If the policy stores each referenced key, the map misses at
-/// most `k / (k + 1 - h) * paid + length first` times. The policy may load keys ahead (`loads`), or load on demand and
-/// begin with at most h keys (`demands`). If the policy need not store the key, and h < k, the map misses at most
+/// LRU is competitive, whichever calls make the references. Take a map with `ByLength(k)`, whatever keys it contains
+/// before, and any policy of h ≤ k places. The policy may know the trace in advance, begins with the keys `first`, and
+/// pays `paid` times for the same references. If the policy stores each referenced key, the map misses at most
+/// `k / (k + 1 - h) * paid + length first` times. The policy may load keys ahead (`loads`), or load on demand and begin
+/// with at most h keys (`demands`). If the policy need not store the key, and h < k, the map misses at most
 /// `k / (k - h) * paid + length first` times (`bypasses`).
 pub fn maps_are_competitive<K: Eq + Hash, V, S: KeyHasher<K>>() {
     references_keep_the_newest::<K, V, S>();

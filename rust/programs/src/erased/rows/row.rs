@@ -1,5 +1,4 @@
 // Erased from crates/rows/src/row.rt: do not edit.
-//! Rows of a data file.
 #[allow(unused_imports)]
 use crate::rattle_std::prelude::*;
 

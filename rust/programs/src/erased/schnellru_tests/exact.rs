@@ -8,9 +8,7 @@ use crate::erased::schnellru::{ByLength, Insertion, KeyHasher, LruMap, RandomSta
 use crate::rattle_std::alloc::AllocError;
 use crate::rattle_std::hash::Hash;
 
-/// Puts a pair into a map. The insert ends as the table reports (`reported`). The entries, the limiter and the report
-/// determine how the insert ends (`given`). In a table of up to 16 buckets the growth left determines the report
-/// (`small`).
+/// Puts a pair into a map.
 fn put_exactly<K: Eq + Hash, V, L: Insertion<K, V, K>, S: KeyHasher<K>>(
     map: &mut LruMap<K, V, L, S>,
     key: K,

@@ -1,12 +1,5 @@
 // Erased from crates/test_helpers/src/lib.rt: do not edit.
 //! What tests share.
-//!
-//! - [`check`], [`all`]: end a test if a condition is false, and join conditions.
-//! - [`Hog`]: takes all memory, so that the requests of others fail.
-//! - [`LinkedBy`], [`Alternating`], [`Blanking`]: limiters of maps from numbers to numbers.
-//! - [`InsertKey`] and [`Counting`]: texts that become a `String` when they are stored, and a limiter for them.
-//! - [`Random`]: random numbers, the same in each run.
-//! - [`LastByte`]: a hasher.
 
 #[allow(unused_imports)]
 use crate::rattle_std::prelude::*;

@@ -1,9 +1,5 @@
 // Erased from crates/test_maps/src/lib.rt: do not edit.
 //! Maps that tests share, and functions that look at them.
-//!
-//! - [`map_of`], [`insert_all`]: a map of numbers.
-//! - [`fill`], [`is_pair`], [`is_value`]: the map of the examples of the docs, and forms of their assertions that are
-//!   proved faster.
 
 #[allow(unused_imports)]
 use crate::rattle_std::prelude::*;

@@ -1,4 +1,3 @@
--- `get_or_insert` lends what `lend_or_insert` lends.
 use mathlib.Core.Path.{refl}
 use mathlib.Core.List.{[], ◌∷◌, ◌++◌}
 use base.Fml.{ftrue, flft}

@@ -1,4 +1,3 @@
--- `get_or_insert_fallible` lends what `lend_or_insert_fallible` lends.
 use mathlib.Core.Path.{refl}
 use mathlib.Core.List.{[], ◌∷◌, ◌++◌}
 use base.Fml.{ftrue, flft}

@@ -13,8 +13,7 @@ impl<T> Table<T> {
     /// Makes a table of the same buckets, with the entry that `f` returns for each entry.
     ///
     /// `f` is called in rising order of the buckets, once for each entry, until it returns an error. Deleted buckets
-    /// stay deleted, so the growth left is the same. The counts of insertions are copied. Takes time O(buckets), and
-    /// two allocations.
+    /// stay deleted, so the growth left is the same. The counts of insertions are copied. Allocates twice.
     ///
     /// # Errors
     ///

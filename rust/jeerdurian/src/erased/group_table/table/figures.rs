@@ -45,8 +45,7 @@ impl<T> Table<T> {
         self.placed.saturating_add(self.moved)
     }
 
-    /// Returns how many entries `place` and `try_place` have inserted. A moved entry is not counted again. The count
-    /// stops at `u64::MAX`.
+    /// Returns how many entries `place` and `try_place` have inserted. The count stops at `u64::MAX`.
     ///
     /// ```text
     /// let mut table = Table::with_buckets(alloc, 8)?;
@@ -58,7 +57,7 @@ impl<T> Table<T> {
         self.placed
     }
 
-    /// Returns how many bytes an entry takes in the table: the size of its type.
+    /// Returns the size of an entry's type in bytes.
     pub const fn entry_bytes() -> usize {
         bytes_of::<T>()
     }

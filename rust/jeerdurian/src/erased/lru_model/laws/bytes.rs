@@ -8,12 +8,12 @@ use crate::rattle_std::hash::Hash;
 /// `ByBytes` limits the bytes of the table plus the bytes that the entries own. If a map keeps to its limit
 /// (`KeepsBytes`), these bytes are at most the limit (`memory`). The map then keeps to its limit after each `Step`
 /// (`kept`) and each `try_insert` (`tried`). No `Step` changes the limit (`limit`). The limiter permits a growth only
-/// if the new table plus what the entries own is within the limit (`grown`). The old table is not counted. So while
-/// both tables exist, the map takes at most the limit, plus the bytes of the old table.
+/// if the new table plus what the entries own is within the limit (`grown`). While the old table still exists, the map
+/// takes its bytes, too.
 ///
-/// A new map is within its limit (`begins`). `set_limiter` may set a limiter with another limit. Suppose that this
-/// limiter counts the bytes of the map (`CountsBytes`), and that its bytes for the table are within its limit. Then the
-/// trim of `set_limiter` brings the map within this limit (`trimmed`).
+/// A new map is within its limit (`begins`). `set_limiter` may set another limit. If the new limiter counts the bytes
+/// of the map (`CountsBytes`), and its `table` is within its limit, the trim of `set_limiter` brings the map within
+/// this limit (`trimmed`).
 pub fn calls_keep_the_bytes<K: OwnedBytes + Eq + Hash, V: OwnedBytes, S: KeyHasher<K>>() {}
 
 /// Any `Step`s, one after another, keep a map within its limit (`kept`), and keep the limit (`limit`). Values may be

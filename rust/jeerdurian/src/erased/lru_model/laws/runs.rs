@@ -19,12 +19,11 @@ pub fn runs_keep_sums<K: Eq + Hash, V, I: LookupKey<K>, L: Insertion<K, V, I>, S
 /// each entry that a shrink rehashed. This holds until the count `placed` or `shrunk` reaches `u64::MAX`.
 pub fn runs_pay_for_moves<K: Eq + Hash, V, I: LookupKey<K>, L: Insertion<K, V, I>, S: KeyHasher<K>>() {}
 
-/// If no call is `pop_newest`, any calls evict only the oldest of the entries whose keys no call names. The newest of
-/// these entries stay, in their order.
+/// If no call is `pop_newest`, any calls evict only the oldest of the entries whose keys no call names.
 pub fn runs_evict_the_oldest<K: Eq + Hash, V, I: LookupKey<K>, L: Insertion<K, V, I>, S: KeyHasher<K>>() {}
 
-/// Each insert of a run evicts only the oldest entries, whatever the other calls of the run are. Or it removes only the
-/// entry of its key, because the limiter rejected the new value. The same holds for each get that inserts.
+/// `inserts_evict_the_oldest` holds of each insert of a run, and of each get that inserts, whatever the other calls of
+/// the run are.
 pub fn each_insert_of_a_run_evicts_the_oldest<
     K: Eq + Hash,
     V,

@@ -16,7 +16,6 @@ pub(crate) struct Chain<K, V, N> {
 }
 
 impl<K, V, N: LinkType> Chain<K, V, N> {
-    // Takes a bucket out of the chain.
     #[inline]
     pub(crate) fn unlink(&mut self, b: usize) {
         let entry = self.table.get(b);

@@ -65,7 +65,6 @@ pub(crate) fn newer_unless_first<K, V, N: LinkType>(
     }
 }
 
-// Writes the promotion, if there is one, into the links.
 #[inline(always)]
 pub(crate) fn settle<K, V, N: LinkType>(table: &mut LinkedTable<K, V, N>, promoted: &mut Option<usize>) {
     if let Some(b) = *promoted {

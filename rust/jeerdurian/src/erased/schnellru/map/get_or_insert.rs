@@ -75,7 +75,6 @@ impl<K: Eq + Hash, V, L: Limiter<K, V>, S: KeyHasher<K>> LruMap<K, V, L, S> {
         }
     }
 
-    // Lends the newest value if `kept` is `Ok(true)`.
     #[inline]
     fn lend_if_kept<E>(&mut self, kept: Result<bool, E>) -> Result<&mut V, NotLent<E>> {
         self.show_map();

@@ -89,8 +89,7 @@ impl<K: Eq + Hash, V, L: Limiter<K, V>, S: KeyHasher<K>> LruMap<K, V, L, S> {
         kept
     }
 
-    // Before the evictions, drops the value that the map does not keep, so that a limiter that counts live values no
-    // longer counts it.
+    // Drops the unkept value before the evictions, because a limiter may count live values.
     #[inline(always)]
     fn insert_or_drop<I: LookupKey<K>, F: FnMut(K, V)>(
         &mut self,
@@ -220,7 +219,6 @@ impl<K: Eq + Hash, V, L: Limiter<K, V>, S: KeyHasher<K>> LruMap<K, V, L, S> {
         kept
     }
 
-    // Unlike `insert_or_drop`, returns the value that the map does not keep.
     #[inline(always)]
     fn insert_or_replace<I: LookupKey<K>, F: FnMut(K, V)>(
         &mut self,

@@ -8,9 +8,9 @@ use crate::erased::schnellru::map::LruMap;
 use crate::rattle_std::alloc::AllocError;
 use crate::rattle_std::hash::Hash;
 
-// A small entry has at most this number of bytes, including its links. A larger entry is inserted inline, because a
-// call would copy its key and its value once more. A small entry is inserted by a call, because inline code would take
-// registers from the caller's loop.
+// The most bytes of a small entry, including its links. A larger entry is inserted inline, because a call would copy
+// its key and its value once more. A small entry is inserted by a call, because inline code would take registers from
+// the caller's loop.
 const SMALL: usize = 32;
 
 impl<K: Eq + Hash, V, L: Limiter<K, V>, S: KeyHasher<K>> LruMap<K, V, L, S> {
@@ -66,7 +66,6 @@ impl<K: Eq + Hash, V, L: Limiter<K, V>, S: KeyHasher<K>> LruMap<K, V, L, S> {
         }
     }
 
-    // Stores an entry that the limiter returned, with evictions before and after.
     fn insert_pair<F: FnMut(K, V)>(&mut self, hash: u64, pair: (K, V), sink: &mut F) -> Result<bool, AllocError> {
         self.settle();
         self.make_room(sink);
@@ -80,7 +79,7 @@ impl<K: Eq + Hash, V, L: Limiter<K, V>, S: KeyHasher<K>> LruMap<K, V, L, S> {
         Ok(self.evict_over_limit(sink))
     }
 
-    // Tries a deleted bucket first. Out of line, because only inserts without growth left call it.
+    // Out of line, because only inserts without growth left call it.
     #[cold]
     #[inline(never)]
     fn insert_without_growth<F: FnMut(K, V)>(

@@ -10,8 +10,6 @@ use crate::rattle_std::hash::Hash;
 use crate::rattle_std::mem;
 
 impl<K: Eq + Hash, V, L: Limiter<K, V>, S: KeyHasher<K>> LruMap<K, V, L, S> {
-    // Offers the limiter a new value for the entry in a bucket. If the limiter rejects the value, the entry is removed
-    // and passed to the callback.
     #[inline]
     pub(super) fn offer_at<I: LookupKey<K>, F: FnMut(K, V)>(
         &mut self,

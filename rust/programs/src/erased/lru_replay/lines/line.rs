@@ -1,5 +1,5 @@
 // Erased from crates/lru_replay/src/lines/line.rt: do not edit.
-//! The lines of the input, one at a time, in a fixed array.
+//! Reads lines, one at a time, into a fixed array.
 
 #[allow(unused_imports)]
 use crate::rattle_std::prelude::*;

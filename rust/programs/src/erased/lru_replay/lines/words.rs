@@ -1,5 +1,5 @@
 // Erased from crates/lru_replay/src/lines/words.rt: do not edit.
-//! What a line means: the first line means the limit of the map, and each other line means a call.
+//! What lines mean: the first line is the limit of the map, and each other line is a call.
 
 #[allow(unused_imports)]
 use crate::rattle_std::prelude::*;

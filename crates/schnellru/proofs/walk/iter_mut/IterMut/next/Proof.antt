@@ -1,4 +1,3 @@
--- `next` lends the pair that `lend_next` lends, or nothing.
 use mathlib.Core.List.{[], ◌∷◌}
 use mir.MapTy.{inst_fn}
 use mir.Syntax.{Args, dcons, dnil, a_type}

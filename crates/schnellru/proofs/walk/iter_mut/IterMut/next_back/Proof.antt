@@ -1,4 +1,3 @@
--- `next_back` lends the pair that `lend_next_back` lends, or nothing.
 use Prim.Native.Nat.{◌-◌}
 use mathlib.Core.List.{[], ◌∷◌}
 use mir.MapTy.{inst_fn}
