@@ -93,8 +93,7 @@ impl<K: Eq + Hash, V, L: Limiter<K, V>, S: KeyHasher<K>> LruMap<K, V, L, S> {
     pub fn get_index(&self, index: usize) -> Option<(&K, &V)>
         ensures { option_map deref_pair result ≡ slice_get self.now.pairs index }
     {
-        let pair = self.entries.pair(self.entries.at_index(index)?);
-        Some((&pair.key, &pair.value))
+        Some(self.entries.pair(self.entries.at_index(index)?))
     }
 
     /// Returns the index of a key in the order of use. The newest key has index 0.

@@ -50,7 +50,7 @@ pub(crate) fn bucket_or_hash<K: Hash + Eq, V, S: BuildHasher>(map: &Map<K, V, S>
 #[inline]
 pub(crate) fn replace<K, V, S>(map: &mut Map<K, V, S>, b: usize, value: V) -> V {
     map.entries.promote(b);
-    core::mem::replace(&mut map.entries.pair_mut(b).value, value)
+    core::mem::replace(map.entries.pair_mut(b).1, value)
 }
 
 /// Inserts a key that has this hash and is not there, as the newest. Lends its entry.
@@ -68,8 +68,7 @@ pub(crate) fn insert_absent<K: Hash + Eq, V, S: BuildHasher>(
         Ok(false) => panic!("capacity overflow"),
         Err(AllocError) => out_of_memory::<K, V>(),
     }
-    let pair = map.entries.pair_mut(map.entries.newest());
-    (&mut pair.key, &mut pair.value)
+    map.entries.entry_mut(map.entries.newest())
 }
 
 /// The entries of a table that was a map's, the oldest first.

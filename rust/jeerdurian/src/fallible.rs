@@ -89,7 +89,7 @@ where
         let hash = map.hasher().hash_named(&Named(&key));
         if let Some(b) = map.entries.find(hash, &Named(&key)) {
             map.entries.promote(b);
-            return Ok(Some(&mut map.entries.pair_mut(b).value));
+            return Ok(Some(map.entries.pair_mut(b).1));
         }
         let value = get().map_err(GetOrInsertError::Caller)?;
         let key = Offered(key.into());

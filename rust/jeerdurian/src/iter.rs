@@ -1,7 +1,7 @@
 //! Iterators over the entries of a map, the newest first.
 
 use crate::erased::lru_limits::LinkType;
-use crate::erased::ordered_table::{self, OrderedTable, Pair, Walk};
+use crate::erased::ordered_table::{self, OrderedTable, Walk};
 use crate::erased::schnellru as proved;
 use crate::limiter::{Calls, Limiter};
 use crate::map::LruMap;
@@ -178,18 +178,19 @@ impl<'a, K, V, N: LinkType> WalkMut<'a, K, V, N> {
     pub(crate) fn left(&self) -> impl Iterator<Item = (&K, &V)> {
         let newer = |&(b, left): &(usize, usize)| (left > 1).then(|| (self.entries.newer_unless_first(b), left - 1));
         core::iter::successors((self.left > 0).then_some((self.back, self.left)), newer).map(|(b, _)| {
-            let pair = self.entries.pair(b);
-            (&pair.key, &pair.value)
+            self.entries.pair(b)
         })
     }
 
     #[inline]
     fn lend(&mut self, b: usize) -> (&'a K, &'a mut V) {
-        let pair: *mut Pair<K, V> = self.entries.pair_mut(b);
+        let (key, value): (*const K, *mut V) = {
+            let (key, value) = self.entries.pair_mut(b);
+            (key, value)
+        };
         // SAFETY: each step lends another entry of a table that is borrowed for 'a, and no step reads an entry that an
         // earlier one lent.
-        let pair = unsafe { &mut *pair };
-        (&pair.key, &mut pair.value)
+        unsafe { (&*key, &mut *value) }
     }
 }
 

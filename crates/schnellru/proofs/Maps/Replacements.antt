@@ -1,5 +1,6 @@
 -- A pair in a bucket of a linked table, after the limiter wrote to it.
 use Rattle.std.proofs.Common.{◌≡◌, ℕ, suc, ◌+◌, Bool, true, false, refl, Some, sym, ap, ◌∙◌, subst, arith, length}
+use Rattle.std.specs.Prelude.{if◌then◌else◌}
 use Rattle.std.specs.Cmp.{IsEquivalence}
 use Rattle.std.proofs.lemmas.List.{length-set}
 use Rattle.std.proofs.lemmas.Option.{same_Some}
@@ -12,6 +13,7 @@ use Rattle.lru_limits.specs.Rules.{Rules, Replaced}
 use Rattle.lru_model.specs.Lists.{without, set_entry}
 use Rattle.ordered_table.specs.OrderedTable.{OrderedTable, IsLinked, KeysFit, with_pair, without_bucket, pairs_of}
 use Rattle.ordered_table.specs.OrderedTable.{entries_in}
+use Rattle.ordered_table.specs.Offers.{Offered}
 use Rattle.lru_model.specs.State.{State, Leaves}
 use Rattle.schnellru.specs.Inside.Fields.{Fields}
 use Rattle.schnellru.specs.Inside.Holds.{counts_of, state_of, Holds}
@@ -22,35 +24,44 @@ use Rattle.schnellru.proofs.Maps.Writes.{set_pairs}
 use Rattle.ordered_table.proofs.Tables.BucketPairs.{pairs-length, shorter, others_are, removed-entries}
 use Rattle.schnellru.proofs.Maps.HeldMaps.{frees_room, leaves_holds}
 
-module _ {K V S : Type 0} (rules : Rules K V S) (by : Replaced K V S) (old new : OrderedTable K V) (b : ℕ) (was : K × V)
-    (there : entry_at old.slots b ≡ Some was)
-    (k : K) (v : V) (key_is : k ≡ by.key) (value_is : v ≡ by.old_value) (s : S) (notified : s ≡ by.limiter)
-    (result : K × V) (l : S)
-    (out : IsTakenOut rules b (with_pair old b (k, v)) new s result l) where
-  pair_is : ◌≡◌ {A = K × V} (k, v) (by.key, by.old_value)
-  pair_is = λ i. (key_is i, value_is i)
+module _ {K V S : Type 0} {by : Replaced K V S} {accepts : Bool} {after : K × V} {s : S} {value : V}
+    (offered : Offered by accepts after s value) where
+  pub if_accepted : accepts ≡ true → after ≡ (by.key, by.new_value)
+  if_accepted e = offered.after_is
+      ∙ ap (λ taken. (by.key, if taken then by.new_value else by.old_value)) (sym offered.taken ∙ e)
 
-  taken_is : out.pair ≡ (k, v)
-  taken_is = same_Some out.pair (k, v)
-      (sym out.takes.pair ∙ entry_at-refilled old.slots b (k, v) (full_by_entry (bucket_at old.slots b) was there))
+  if_refused : accepts ≡ false → after ≡ (by.key, by.old_value)
+  if_refused e = offered.after_is
+      ∙ ap (λ taken. (by.key, if taken then by.new_value else by.old_value)) (sym offered.taken ∙ e)
 
-  pub is_removed : IsRemoved rules by b old new l
-  is_removed = record {
-    slots = subst (λ p. Removes (with_pair old b p).slots new.slots b) pair_is out.takes.removed;
-    order = out.takes.order;
-    insertions = out.takes.insertions;
-    growth_left = out.takes.growth_left ∙ ap (λ m. growth_left m + growth_left_at (bucket_states new.slots) b) (bucket_states-refilled old.slots b (k, v));
-    notified = out.notified ∙ (λ i.
-        (rules.on_removed (notified i) ((taken_is ∙ pair_is) i).0 ((taken_is ∙ pair_is) i).1).limiter);
-  }
+  module _ (rules : Rules K V S) (refused : accepts ≡ false) (old : OrderedTable K V) {mid new : OrderedTable K V}
+      {b : ℕ} {was : K × V} (there : entry_at old.slots b ≡ Some was) (table : mid ≡ with_pair old b after) {result : K × V} {l : S}
+      (takes : IsTakenOut rules b mid new s result l) where
+    out : IsTakenOut rules b (with_pair old b after) new s result l
+    out = subst (λ t. IsTakenOut rules b t new s result l) table takes
 
-  pub left_as_notified : let left = rules.on_removed by.limiter by.key by.old_value in
-      ◌≡◌ {A = K × V} result (left.key, left.value)
-  left_as_notified =
-      let was_left = rules.on_removed s out.pair.0 out.pair.1 in
-      same_Some result (was_left.key, was_left.value) out.left
-      ∙ (λ i. let left = rules.on_removed (notified i) ((taken_is ∙ pair_is) i).0 ((taken_is ∙ pair_is) i).1 in
-      (left.key, left.value))
+    taken_is : out.pair ≡ (by.key, by.old_value)
+    taken_is = same_Some out.pair after
+        (sym out.takes.pair ∙ entry_at-refilled old.slots b after (full_by_entry (bucket_at old.slots b) was there))
+        ∙ if_refused refused
+
+    pub is_removed : IsRemoved rules by b old new l
+    is_removed = record {
+      slots = subst (λ p. Removes (with_pair old b p).slots new.slots b) (if_refused refused) out.takes.removed;
+      order = out.takes.order;
+      insertions = out.takes.insertions;
+      growth_left = out.takes.growth_left ∙ ap (λ m. growth_left m + growth_left_at (bucket_states new.slots) b) (bucket_states-refilled old.slots b after);
+      notified = out.notified ∙ (λ i.
+          (rules.on_removed (offered.notified i) (taken_is i).0 (taken_is i).1).limiter);
+    }
+
+    pub left_as_notified : let left = rules.on_removed by.limiter by.key by.old_value in
+        ◌≡◌ {A = K × V} result (left.key, left.value)
+    left_as_notified =
+        let was_left = rules.on_removed s out.pair.0 out.pair.1 in
+        same_Some result (was_left.key, was_left.value) out.left
+        ∙ (λ i. let left = rules.on_removed (offered.notified i) (taken_is i).0 (taken_is i).1 in
+        (left.key, left.value))
 
 module _ {K V S H : Type 0} (by : Replaced K V S) (old new : OrderedTable K V) (b : ℕ) (l : S) (first : IsLinked old)
     (next : IsLinked new)

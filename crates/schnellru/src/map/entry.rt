@@ -111,7 +111,7 @@ impl<'a, K: Eq + Hash, V, L: Limiter<K, V>, S: KeyHasher<K>> OccupiedEntry<'a, K
         ensures { (names : K → Bool) → IsOn self.now names →
             (value : V) × (lookup_entry names (entry_map self.now).pairs ≡ Some (result.now, value)) }
     {
-        &self.map.pair_in(self.bucket).key
+        self.map.pair_in(self.bucket).0
     }
 
     /// Returns the value.
@@ -126,7 +126,7 @@ impl<'a, K: Eq + Hash, V, L: Limiter<K, V>, S: KeyHasher<K>> OccupiedEntry<'a, K
         ensures { (names : K → Bool) → IsOn self.now names →
             lookup names (entry_map self.now).pairs ≡ Some result.now }
     {
-        &self.map.pair_in(self.bucket).value
+        self.map.pair_in(self.bucket).1
     }
 
     /// Lends the value for writing. The order stays.

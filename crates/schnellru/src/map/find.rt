@@ -4,12 +4,12 @@ ghost use Rattle.lru_model.specs.Lists.{lookup_entry};
 ghost use Rattle.lru_model.specs.State.{place_in, Frees, IsMap};
 ghost use Rattle.lru_model.specs.Calls.{promoted, demoted, written, RemoveEntry};
 ghost use Rattle.std.specs.Borrow.{sem};
+ghost use Rattle.std.specs.Map.Iter.{deref_pair};
 ghost use Rattle.schnellru.specs.Lending.Values.{written_in};
 
 use crate::map::LruMap;
 use crate::map::remove::take_out;
 use lru_limits::{KeyHasher, Limiter, LookupKey};
-use ordered_table::Pair;
 use std::hash::Hash;
 
 impl<K: Eq + Hash, V, L: Limiter<K, V>, S: KeyHasher<K>> LruMap<K, V, L, S> {
@@ -36,11 +36,11 @@ impl<K: Eq + Hash, V, L: Limiter<K, V>, S: KeyHasher<K>> LruMap<K, V, L, S> {
     }
 
     #[inline]
-    pub(super) fn pair_in(&self, b: usize) -> &Pair<K, V>
+    pub(super) fn pair_in(&self, b: usize) -> (&K, &V)
         requires { Contains self.now.table.places b }
         ensures { (names : K → Bool) → ((x y : K) → IsTrue (names x) → names y ≡ K.eq x y) →
             place_in names self.now ≡ Some b →
-            lookup_entry names self.now.pairs ≡ Some (result.now.key, result.now.value) }
+            lookup_entry names self.now.pairs ≡ Some (deref_pair result) }
     {
         self.entries.pair(b)
     }
@@ -57,7 +57,7 @@ impl<K: Eq + Hash, V, L: Limiter<K, V>, S: KeyHasher<K>> LruMap<K, V, L, S> {
             written_in b last self.old ≡ written names last self.old }
         ensures map { (last : V) → IsMap K.eq (written_in b last self.old) }
     {
-        &mut self.entries.pair_mut(b).value
+        self.entries.pair_mut(b).1
     }
 
     #[inline]

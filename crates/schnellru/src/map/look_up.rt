@@ -62,8 +62,7 @@ impl<K: Eq + Hash, V, L: Limiter<K, V>, S: KeyHasher<K>> LruMap<K, V, L, S> {
     {
         let b = self.find(key)?;
         self.promote_at(b);
-        let pair = self.pair_in(b);
-        Some((&pair.key, &pair.value))
+        Some(self.pair_in(b))
     }
 
     /// Makes the entry of a key the newest, and returns whether the key is there.
@@ -148,7 +147,7 @@ impl<K: Eq + Hash, V, L: Limiter<K, V>, S: KeyHasher<K>> LruMap<K, V, L, S> {
         ensures map { (last : V) → IsMap K.eq (record self.old { pairs = set_newest self.old.pairs last }) }
     {
         let b = self.entries.newest();
-        &mut self.entries.pair_mut(b).value
+        self.entries.pair_mut(b).1
     }
 
     /// Returns whether a key is in the map.
@@ -181,7 +180,7 @@ impl<K: Eq + Hash, V, L: Limiter<K, V>, S: KeyHasher<K>> LruMap<K, V, L, S> {
         ensures { option_copied result ≡ lookup (Q.names key.now) self.now.pairs }
     {
         let b = self.find(key)?;
-        Some(&self.pair_in(b).value)
+        Some(self.pair_in(b).1)
     }
 
     /// Returns the entry of a key.
@@ -198,8 +197,7 @@ impl<K: Eq + Hash, V, L: Limiter<K, V>, S: KeyHasher<K>> LruMap<K, V, L, S> {
         ensures { option_map deref_pair result ≡ lookup_entry (Q.names key.now) self.now.pairs }
     {
         let b = self.find(key)?;
-        let pair = self.pair_in(b);
-        Some((&pair.key, &pair.value))
+        Some(self.pair_in(b))
     }
 
     /// Lends the value of a key for writing. The order stays.
@@ -240,8 +238,7 @@ impl<K: Eq + Hash, V, L: Limiter<K, V>, S: KeyHasher<K>> LruMap<K, V, L, S> {
         if self.is_empty() {
             return None;
         }
-        let pair = self.entries.pair(self.entries.oldest());
-        Some((&pair.key, &pair.value))
+        Some(self.entries.pair(self.entries.oldest()))
     }
 
     /// Returns the newest entry.
@@ -259,7 +256,6 @@ impl<K: Eq + Hash, V, L: Limiter<K, V>, S: KeyHasher<K>> LruMap<K, V, L, S> {
         if self.is_empty() {
             return None;
         }
-        let pair = self.entries.pair(self.entries.newest());
-        Some((&pair.key, &pair.value))
+        Some(self.entries.pair(self.entries.newest()))
     }
 }

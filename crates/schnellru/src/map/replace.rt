@@ -14,7 +14,6 @@ use crate::map::remove::take_out;
 use lru_limits::{Insertion, KeyHasher, Limiter, LookupKey};
 use ordered_table::OrderedTable;
 use std::hash::Hash;
-use std::mem;
 
 impl<K: Eq + Hash, V, L: Limiter<K, V>, S: KeyHasher<K>> LruMap<K, V, L, S> {
     #[inline]
@@ -70,11 +69,9 @@ pub(super) fn offer<K: Eq + Hash, V, I: LookupKey<K>, L: Insertion<K, V, I>, F: 
     ensures fits { (hash_of : K → ℕ) → ((x y : K) → IsTrue (K.eq x y) → hash_of x ≡ hash_of y) →
         KeysFit hash_of entries.old.slots → KeysFit hash_of entries.new.slots }
 {
-    let length = entries.len();
-    let pair = entries.pair_mut(b);
-    let taken = limiter.on_replace(length, &mut pair.key, key, &mut pair.value, &mut value);
-    if taken {
-        (true, mem::replace(&mut pair.value, value))
+    let accepted = entries.offer(b, limiter, key, &mut value);
+    if accepted {
+        (true, value)
     } else {
         let (key, old) = take_out(entries, limiter, b);
         sink(key, old);

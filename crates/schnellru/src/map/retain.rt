@@ -78,8 +78,8 @@ impl<K: Eq + Hash, V, L: Limiter<K, V>, S: KeyHasher<K>> LruMap<K, V, L, S> {
             × Asks F.FnMut keep.old pair result keep.new }
         ensures callable { F.IsAlwaysCallable keep.new }
     {
-        let pair = self.entries.pair(b);
-        keep(&pair.key, &pair.value)
+        let (key, value) = self.entries.pair(b);
+        keep(key, value)
     }
 
     #[inline]

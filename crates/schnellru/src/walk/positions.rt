@@ -54,7 +54,6 @@ impl<K: Eq + Hash, V, L: Limiter<K, V>, S: KeyHasher<K>> LruMap<K, V, L, S> {
             L.LinkType.LinkType S.KeyHasher S.Hasher.Hasher self.entry at result) }
         ensures value { slice_get self.old.pairs at ≡ Some (deref_pair_mut result) }
     {
-        let pair = self.entries.pair_mut(b);
-        (&pair.key, &mut pair.value)
+        self.entries.pair_mut(b)
     }
 }

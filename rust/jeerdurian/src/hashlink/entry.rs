@@ -88,28 +88,27 @@ macro_rules! occupied {
         impl<'a, K, V> $name<'a, K, V> {
             /// Returns the stored key.
             pub fn key(&self) -> &K {
-                &self.entries.pair(self.b).key
+                self.entries.pair(self.b).0
             }
 
             /// Returns the value.
             pub fn get(&self) -> &V {
-                &self.entries.pair(self.b).value
+                self.entries.pair(self.b).1
             }
 
             /// Lends the value for writing.
             pub fn get_mut(&mut self) -> &mut V {
-                &mut self.entries.pair_mut(self.b).value
+                self.entries.pair_mut(self.b).1
             }
 
             /// Lends the value for writing, as long as the cache is borrowed.
             pub fn into_mut(self) -> &'a mut V {
-                &mut self.entries.pair_mut(self.b).value
+                self.entries.pair_mut(self.b).1
             }
 
             fn into_newest(mut self) -> (&'a mut K, &'a mut V) {
                 self.to_back();
-                let pair = self.entries.pair_mut(self.b);
-                (&mut pair.key, &mut pair.value)
+                self.entries.entry_mut(self.b)
             }
 
             /// Makes the entry the newest.
@@ -165,7 +164,7 @@ impl<K, V> OccupiedEntry<'_, K, V> {
 
     /// Replaces the stored key by the given one. The order stays. Returns the old key.
     pub fn replace_key(self) -> K {
-        replace(&mut self.entries.pair_mut(self.b).key, self.key)
+        replace(self.entries.entry_mut(self.b).0, self.key)
     }
 }
 

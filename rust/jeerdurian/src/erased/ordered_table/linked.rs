@@ -8,20 +8,21 @@ use crate::rattle_std::prelude::*;
 use crate::erased::group_table::{LinkType, Table};
 use crate::erased::lru_limits::LookupKey;
 use crate::erased::ordered_table::linked::chain::Chain;
-use crate::erased::ordered_table::ordered::Pair;
 use crate::rattle_std::alloc::Global;
 use crate::rattle_std::hash::Hash;
 
 mod chain;
 mod copy;
 mod moves;
+mod offer;
 mod place;
 
-// A pair with links to its neighbours in the order. At an end of the order, the link is `MAX`. The value is between the
-// key and the links, so that a look-up or a step of a walk reads few cache lines.
+// A key and its value, with links to the neighbours in the order. At an end of the order, the link is `MAX`. The links
+// are beside the key and the value, so that they can fill the padding.
 
 pub(crate) struct Entry<K, V, N> {
-    pair: Pair<K, V>,
+    key: K,
+    value: V,
     newer: N,
     older: N,
 }
@@ -60,8 +61,9 @@ impl<K, V, N: LinkType> LinkedTable<K, V, N> {
     }
 
     #[inline]
-    pub(crate) fn pair(&self, b: usize) -> &Pair<K, V> {
-        &self.chain.table.get(b).pair
+    pub(crate) fn pair(&self, b: usize) -> (&K, &V) {
+        let entry = self.chain.table.get(b);
+        (&entry.key, &entry.value)
     }
 
     #[inline]
@@ -85,13 +87,19 @@ impl<K, V, N: LinkType> LinkedTable<K, V, N> {
     }
 
     #[inline]
-    pub(crate) fn pair_mut(&mut self, b: usize) -> &mut Pair<K, V> {
-        &mut self.chain.table.get_mut(b).pair
+    pub(crate) fn entry_mut(&mut self, b: usize) -> (&mut K, &mut V) {
+        let entry = self.chain.table.get_mut(b);
+        (&mut entry.key, &mut entry.value)
+    }
+    #[inline]
+    pub(crate) fn pair_mut(&mut self, b: usize) -> (&K, &mut V) {
+        let entry = self.chain.table.get_mut(b);
+        (&entry.key, &mut entry.value)
     }
 
     #[inline]
     pub(crate) fn find_by<F: FnMut(&K, &V) -> bool>(&self, hash: u64, mut f: F) -> Option<usize> {
-        self.chain.table.find(hash, move |entry: &Entry<K, V, N>| -> bool { f(&entry.pair.key, &entry.pair.value) })
+        self.chain.table.find(hash, move |entry: &Entry<K, V, N>| -> bool { f(&entry.key, &entry.value) })
     }
 
     #[inline]
@@ -115,9 +123,9 @@ impl<K, V, N: LinkType> LinkedTable<K, V, N> {
 
     #[inline(always)]
     pub(crate) fn take(&mut self, b: usize, last: bool) -> (K, V) {
-        let Entry { newer, older, pair } = self.chain.table.take(b);
+        let Entry { key, value, newer, older } = self.chain.table.take(b);
         self.chain.close_gap(newer, older, last);
-        (pair.key, pair.value)
+        (key, value)
     }
 }
 
@@ -132,6 +140,6 @@ impl<K, V, N: LinkType> LinkedTable<K, V, N> {
 impl<K: Eq + Hash, V, N: LinkType> LinkedTable<K, V, N> {
     #[inline]
     pub(crate) fn find<Q: LookupKey<K>>(&self, hash: u64, key: &Q) -> Option<usize> {
-        self.chain.table.find(hash, |entry| key.is_key(&entry.pair.key))
+        self.chain.table.find(hash, |entry| key.is_key(&entry.key))
     }
 }

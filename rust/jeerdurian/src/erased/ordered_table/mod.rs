@@ -11,6 +11,6 @@ mod linked;
 mod ordered;
 mod walk;
 
-pub use ordered::{OrderedTable, Pair};
+pub use ordered::OrderedTable;
 pub use walk::Walk;
 pub use walk::keys::{Keys, Values};

@@ -15,13 +15,6 @@ mod equal;
 mod index;
 mod promoted;
 
-/// A key and a value of a table.
-
-pub struct Pair<K, V> {
-    pub key: K,
-    pub value: V,
-}
-
 /// A table whose full buckets are in an order, newest first. `N` is the type of its links.
 ///
 /// A contract sees a table as its `slots`, the `order` of its full buckets, and its `insertions`. Only `move_to`
@@ -52,7 +45,7 @@ impl<K, V, N: LinkType> OrderedTable<K, V, N> {
         OrderedTable { linked: LinkedTable::new(alloc), promoted: None }
     }
 
-    /// Returns the size of an entry, which is a pair and two links.
+    /// Returns the size of an entry: a key, a value and two links.
     pub const fn entry_bytes() -> usize {
         LinkedTable::<K, V, N>::entry_bytes()
     }
@@ -83,7 +76,7 @@ impl<K, V, N: LinkType> OrderedTable<K, V, N> {
 
     /// Returns the entry in a full bucket.
     #[inline]
-    pub fn pair(&self, b: usize) -> &Pair<K, V> {
+    pub fn pair(&self, b: usize) -> (&K, &V) {
         self.linked.pair(b)
     }
 
@@ -113,10 +106,13 @@ impl<K, V, N: LinkType> OrderedTable<K, V, N> {
         promoted::newer_unless_first(&self.linked, self.promoted, b)
     }
 
-    /// Lends the entry in a full bucket for writing. If the hash of the key stays the same, the keys still fit the
-    /// table.
+    /// Lends the value of the entry in a full bucket for writing.
     #[inline]
-    pub fn pair_mut(&mut self, b: usize) -> &mut Pair<K, V> {
+    pub(crate) fn entry_mut(&mut self, b: usize) -> (&mut K, &mut V) {
+        self.linked.entry_mut(b)
+    }
+    #[inline]
+    pub fn pair_mut(&mut self, b: usize) -> (&K, &mut V) {
         self.linked.pair_mut(b)
     }
 

@@ -37,7 +37,7 @@ impl<'a, K, V, N: LinkType> Iterator for Walk<'a, K, V, N> {
         let pair = self.entries.pair(b);
         self.front = self.entries.older_unless_last(b);
         self.left -= 1;
-        Some((&pair.key, &pair.value))
+        Some(pair)
     }
 
     fn size_hint(&self) -> (usize, Option<usize>) {
@@ -55,7 +55,7 @@ impl<'a, K, V, N: LinkType> DoubleEndedIterator for Walk<'a, K, V, N> {
         let pair = self.entries.pair(b);
         self.back = self.entries.newer_unless_first(b);
         self.left -= 1;
-        Some((&pair.key, &pair.value))
+        Some(pair)
     }
 }
 

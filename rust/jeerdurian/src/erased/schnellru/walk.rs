@@ -79,8 +79,7 @@ impl<K: Eq + Hash, V, L: Limiter<K, V>, S: KeyHasher<K>> LruMap<K, V, L, S> {
     ///
     /// Follows `get_index` of the crate `indexmap`.
     pub fn get_index(&self, index: usize) -> Option<(&K, &V)> {
-        let pair = self.entries.pair(self.entries.at_index(index)?);
-        Some((&pair.key, &pair.value))
+        Some(self.entries.pair(self.entries.at_index(index)?))
     }
 
     /// Returns the index of a key in the order of use. The newest key has index 0.

@@ -19,4 +19,4 @@ returns g c =
     rw (← c.self.view_is)
     (sym (pair_at t.slots t.order c.args.index c.in_ok-at_index.field-0 _
     (all_full t.slots t.order c.self.invariant.linked.only) (sym c.at_index.ensures.at ∙ c.in_ok-at_index.was)
-    c.pair-pair.ensures.pair))
+    c.pair.ensures.pair))

@@ -32,7 +32,7 @@ returns g c =
         leaves = tt;
         value = sym (sym (front_found names old.pairs old.table.places c.in_ok-b.b at)
             ∙ ap (λ st. lookup_entry names st.pairs) (sym is)
-            ∙ c.pair_in-pair.ensures names one first);
+            ∙ c.pair_in.ensures names one first);
         map = promoted_is_map g.met.Q.LookupKey.laws c.args.key.now old c.find.ensures.map;
       },
     )

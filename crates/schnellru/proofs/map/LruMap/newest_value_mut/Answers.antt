@@ -9,10 +9,10 @@ invariant_of-self-lent g c = λ w.
     let t = m.entries in let holds = c.self.invariant in
     let hash_of = g.S.KeyHasher.hash_of in
     newest_holds t holds.linked c.newest-b.result
-    (c.pair_mut.result.now.key, c.pair_mut.result.now.value) c.pair_mut.ensures.pair c.newest-b.ensures.newest w
+    (c.pair_mut.result.0.now, c.pair_mut.result.1.now) c.pair_mut.ensures.pair c.newest-b.ensures.newest w
     _ g.met.K.Eq.laws hash_of holds
-    (c.pair_mut.ensures.linked (c.pair_mut.result.now.key, w))
-    (c.pair_mut.ensures.fits (hash_of m.hasher) holds.fits (c.pair_mut.result.now.key, w) refl)
+    (c.pair_mut.ensures.linked w)
+    (c.pair_mut.ensures.fits (hash_of m.hasher) holds.fits w)
 
 pub returns : goal.returns
 returns g c =
@@ -24,19 +24,19 @@ returns g c =
       (
         refl,
         λ w. newest_state t holds.linked c.newest-b.result
-            (c.pair_mut.result.now.key, c.pair_mut.result.now.value) c.pair_mut.ensures.pair first w
+            (c.pair_mut.result.0.now, c.pair_mut.result.1.now) c.pair_mut.ensures.pair first w
             _,
       ),
       record {
         writes_back = tt;
         value = newest_is t holds.linked c.newest-b.result
-            (c.pair_mut.result.now.key, c.pair_mut.result.now.value) c.pair_mut.ensures.pair first;
+            (c.pair_mut.result.0.now, c.pair_mut.result.1.now) c.pair_mut.ensures.pair first;
         map = λ w. subst (IsMap g.K.PartialEq.eq)
-            (newest_state t holds.linked c.newest-b.result (c.pair_mut.result.now.key, c.pair_mut.result.now.value)
+            (newest_state t holds.linked c.newest-b.result (c.pair_mut.result.0.now, c.pair_mut.result.1.now)
             c.pair_mut.ensures.pair first w _)
-            (newest_holds t holds.linked c.newest-b.result (c.pair_mut.result.now.key, c.pair_mut.result.now.value)
+            (newest_holds t holds.linked c.newest-b.result (c.pair_mut.result.0.now, c.pair_mut.result.1.now)
             c.pair_mut.ensures.pair first w _ g.met.K.Eq.laws hash_of holds
-            (c.pair_mut.ensures.linked (c.pair_mut.result.now.key, w))
-            (c.pair_mut.ensures.fits (hash_of m.hasher) holds.fits (c.pair_mut.result.now.key, w) refl)).map;
+            (c.pair_mut.ensures.linked w)
+            (c.pair_mut.ensures.fits (hash_of m.hasher) holds.fits w)).map;
       },
     )

@@ -7,11 +7,11 @@ pub returns-then-is_empty : goal.returns-then-is_empty
 returns-then-is_empty g c =
     sym (none_newest c.args.self.now.pairs (sym c.is_empty.ensures ∙ c.if-is_empty.true)).first
 
-pub pair-pair-requires : goal.pair-pair-requires
-pair-pair-requires g c = newest_full c.self.inside.entries c.self.invariant.linked c.newest.result
+pub pair-requires : goal.pair-requires
+pair-requires g c = newest_full c.self.inside.entries c.self.invariant.linked c.newest.result
     c.newest.ensures.newest
 
 pub returns : goal.returns
 returns g c = rw (← c.self.view_is)
     (sym (newest_is c.self.inside.entries c.self.invariant.linked c.newest.result c.newest.ensures.newest _
-    c.pair-pair.ensures.pair))
+    c.pair.ensures.pair))

@@ -1,4 +1,5 @@
 use Rattle.std.proofs.Common.{◌≡◌, true, refl, sym, ap, ◌∙◌, subst, unwrap_or}
+use Rattle.std.specs.Map.Iter.{deref_pair_mut}
 use Rattle.lru_model.specs.State.{IsMap}
 use Rattle.lru_model.proofs.States.Promotions.{written_is_map}
 use Rattle.ordered_table.specs.OrderedTable.{pairs_of}
@@ -15,26 +16,26 @@ pair_mut-requires g c = c.self.invariant.linked.only c.args.b (rw (← c.self.vi
 pub invariant_of-self-lent : goal.invariant_of-self-lent
 invariant_of-self-lent g c = λ w.
     let m = c.self.inside in
-    let holds = c.self.invariant in let now = c.pair_mut.result.now in let laws = g.met.K.Eq.laws in
+    let holds = c.self.invariant in let now = deref_pair_mut c.pair_mut.result in let laws = g.met.K.Eq.laws in
     let hash_of = g.S.KeyHasher.hash_of in
-    kept_holds m.entries holds.linked c.args.b (now.key, now.value) c.pair_mut.ensures.pair
-    (g.K.PartialEq.eq now.key) laws (λ x y h. laws.congr now.key x y h) (laws.refl now.key)
+    kept_holds m.entries holds.linked c.args.b now c.pair_mut.ensures.pair
+    (g.K.PartialEq.eq now.0) laws (λ x y h. laws.congr now.0 x y h) (laws.refl now.0)
     holds.map.distinct _ w hash_of holds
-    (c.pair_mut.ensures.linked (now.key, w)) (c.pair_mut.ensures.fits (hash_of m.hasher) holds.fits (now.key, w) refl)
+    (c.pair_mut.ensures.linked w) (c.pair_mut.ensures.fits (hash_of m.hasher) holds.fits w)
 
 pub returns : goal.returns
 returns g c =
     let m = c.self.inside in
     let rest = fields_of m (g.L.LinkType.LinkType.number g.L.LinkType.LinkType.MAX) in
-    let t = m.entries in let holds = c.self.invariant in let now = c.pair_mut.result.now in let b = c.args.b in
-    let laws = g.met.K.Eq.laws in let equal = g.K.PartialEq.eq now.key in
-    let one : (x y : _) → equal x ≡ true → equal y ≡ g.K.PartialEq.eq x y = λ x y h. laws.congr now.key x y h in
+    let t = m.entries in let holds = c.self.invariant in let now = deref_pair_mut c.pair_mut.result in let b = c.args.b in
+    let laws = g.met.K.Eq.laws in let equal = g.K.PartialEq.eq now.0 in
+    let one : (x y : _) → equal x ≡ true → equal y ≡ g.K.PartialEq.eq x y = λ x y h. laws.congr now.0 x y h in
     let pair = c.pair_mut.ensures.pair in let distinct = holds.map.distinct in
-    let place = place_found t holds.linked b (now.key, now.value) pair equal laws one distinct (laws.refl now.key) in
+    let place = place_found t holds.linked b now pair equal laws one distinct (laws.refl now.0) in
     rw (← c.self.view_is) (
       (
         refl,
-        λ w. kept_state t holds.linked b (now.key, now.value) pair equal laws one (laws.refl now.key) distinct rest w
+        λ w. kept_state t holds.linked b now pair equal laws one (laws.refl now.0) distinct rest w
             ∙ sym (ap (λ ps. record (state_of t rest) { pairs = ps })
             (written_there equal w (pairs_of t) t.order b holds.linked.distinct place)),
       ),
@@ -42,9 +43,9 @@ returns g c =
         writes_back = tt;
         pair = λ names named at.
             let (p, there, is) = pair_of_place t holds.linked names laws named distinct b at in
-            let key : p ≡ (now.key, now.value) = ap (λ o. unwrap_or o p) (sym there ∙ pair) in (
-              now.key,
-              pair_found t holds.linked b (now.key, now.value) pair names laws named distinct
+            let key : p ≡ now = ap (λ o. unwrap_or o p) (sym there ∙ pair) in (
+              now.0,
+              pair_found t holds.linked b now pair names laws named distinct
                   (subst (λ q. names q.0 ≡ true) key is),
             );
         written = λ names last at. ap (λ ps. record (state_of t rest) { pairs = ps })

@@ -1,69 +1,99 @@
-use Rattle.std.proofs.Common.{◌≡◌, ℕ, true, ap, sym, ◌∙◌, subst, [], ◌∷◌, Some}
+use Rattle.std.proofs.Common.{◌≡◌, true, false, ap, sym, ◌∙◌, subst, [], ◌∷◌, Some, length}
 use Rattle.std.specs.Fn.{Called}
 use Rattle.std.proofs.lemmas.Option.{same_Some}
-use Rattle.schnellru.specs.Inside.Steps.{IsRemoved}
+use Rattle.ordered_table.specs.OrderedTable.{with_pair}
+use Rattle.schnellru.specs.Inside.Steps.{IsReplaced, IsRemoved}
 use Rattle.schnellru.specs.Inside.Passing.{PassesRemoved}
-use Rattle.schnellru.proofs.Maps.Replacements.{is_removed, left_as_notified}
-use Rattle.lru_model.specs.MayTake.{MayTakeRejected}
+use Rattle.schnellru.proofs.Maps.Replacements.{if_accepted, is_removed, left_as_notified}
+use Rattle.lru_model.specs.Inserts.{unkept_of}
 use Rattle.lru_model.proofs.States.CallablePairs.{here, one_callable}
 use Rattle.schnellru.proofs.map.replace.offer.Goals as goal
 
-pub returns-else-taken-clause-removed : goal.returns-else-taken-clause-removed
-returns-else-taken-clause-removed g c = λ refusal pair there.
-    let k = c.pair_mut-pair.result.now.key in let v = c.pair_mut-pair.result.now.value in
-    let notified = c.on_replace-taken.ensures in let old = c.args.entries.now in
-    let same = same_Some (k, v) pair (sym c.pair_mut-pair.ensures.pair ∙ there) in
-    subst (λ n. IsRemoved g.L.Limiter.rules
-    (g.L.Insertion.offers.on_replace c.args.limiter.now n pair.0 c.args.key pair.1 c.args.value) c.args.b old
-    c.take_out-key.new.entries c.take_out-key.new.limiter)
-    c.len-length.ensures.len
-    (subst (λ p. IsRemoved g.L.Limiter.rules
-    (g.L.Insertion.offers.on_replace c.args.limiter.now c.len-length.result p.0 c.args.key p.1 c.args.value) c.args.b
-    old c.take_out-key.new.entries c.take_out-key.new.limiter)
-    same
-    (is_removed g.L.Limiter.rules _ old c.take_out-key.new.entries c.args.b (k, v) c.pair_mut-pair.ensures.pair
-    c.on_replace-taken.new.old_key c.on_replace-taken.new.old_value notified.old_key notified.old_value
-    c.on_replace-taken.new.self notified.limiter c.take_out-key.result c.take_out-key.new.limiter
-    c.take_out-key.ensures.taken))
+pub returns-then-accepted-clause-taken : goal.returns-then-accepted-clause-taken
+returns-then-accepted-clause-taken g c = λ pair there.
+    let done = c.offer-accepted.ensures.offered in
+    subst (λ p. true ≡ (g.L.Insertion.offers.on_replace c.args.limiter.now (length c.args.entries.now.order) p.0
+    c.args.key p.1 c.args.value).taken) (same_Some done.pair pair (sym done.there ∙ there))
+    (sym c.if-accepted.true ∙ done.offered.taken)
 
-pub returns-else-taken-clause-fits : goal.returns-else-taken-clause-fits
-returns-else-taken-clause-fits g c = λ hash_of alike fit.
-    let k = c.pair_mut-pair.result.now.key in let v = c.pair_mut-pair.result.now.value in
+pub returns-then-accepted-clause-unkept : goal.returns-then-accepted-clause-unkept
+returns-then-accepted-clause-unkept g c = λ pair there.
+    let done = c.offer-accepted.ensures.offered in
+    subst (λ p. c.offer-accepted.new.value ≡ unkept_of (g.L.Insertion.offers.on_replace c.args.limiter.now
+    (length c.args.entries.now.order) p.0 c.args.key p.1 c.args.value))
+    (same_Some done.pair pair (sym done.there ∙ there)) done.offered.unkept
+
+pub returns-then-accepted-clause-replaced : goal.returns-then-accepted-clause-replaced
+returns-then-accepted-clause-replaced g c = λ accepted pair there.
+    let done = c.offer-accepted.ensures.offered in
+    subst (λ p. IsReplaced (g.L.Insertion.offers.on_replace c.args.limiter.now (length c.args.entries.now.order) p.0
+    c.args.key p.1 c.args.value) c.args.b c.args.entries.now c.offer-accepted.new.self c.offer-accepted.new.limiter)
+    (same_Some done.pair pair (sym done.there ∙ there))
+    (record {
+      slots = ap (λ t. t.slots) done.table ∙ ap (λ p. (with_pair c.args.entries.now c.args.b p).slots)
+          (if_accepted done.offered c.if-accepted.true);
+      order = ap (λ t. t.order) done.table;
+      insertions = ap (λ t. t.insertions) done.table;
+      notified = done.offered.notified;
+    })
+
+pub returns-then-accepted-clause-fits : goal.returns-then-accepted-clause-fits
+returns-then-accepted-clause-fits g c = λ hash_of alike fit.
     let named = c.requires.there in
-    let same = same_Some named.0 (k, v) (sym named.1 ∙ c.pair_mut-pair.ensures.pair) in
-    let equal = g.met.L.Insertion.laws.keeps_key c.args.limiter.now c.len-length.result k c.args.key v c.args.value
-    (subst (λ p. g.I.LookupKey.names c.args.key p.0 ≡ true) same named.2) in
-    c.take_out-key.ensures.fits hash_of
-    (c.pair_mut-pair.ensures.fits hash_of fit (c.on_replace-taken.new.old_key, c.on_replace-taken.new.old_value)
-    (ap hash_of c.on_replace-taken.ensures.old_key ∙ sym (alike k _ equal)))
+    c.offer-accepted.ensures.fits hash_of fit (λ pair there. alike pair.0 _
+    (g.met.L.Insertion.laws.keeps_key c.args.limiter.now (length c.args.entries.now.order) pair.0 c.args.key pair.1
+    c.args.value (subst (λ p. g.I.LookupKey.names c.args.key p.0 ≡ true)
+    (same_Some named.0 pair (sym named.1 ∙ there)) named.2)))
 
-pub returns-else-taken-clause-passed : goal.returns-else-taken-clause-passed
-returns-else-taken-clause-passed g c = λ refusal pair there.
-    let k = c.pair_mut-pair.result.now.key in let v = c.pair_mut-pair.result.now.value in
-    let notified = c.on_replace-taken.ensures in let old = c.args.entries.now in let rules = g.L.Limiter.rules in
-    let by = λ (n : ℕ) (p : g.row.K.Denot × g.row.V.Denot). g.L.Insertion.offers.on_replace c.args.limiter.now n p.0
-    c.args.key p.1 c.args.value in
-    let same = same_Some (k, v) pair (sym c.pair_mut-pair.ensures.pair ∙ there) in
-    let left = left_as_notified rules (by c.len-length.result (k, v)) old c.take_out-key.new.entries c.args.b (k, v)
-    c.pair_mut-pair.ensures.pair c.on_replace-taken.new.old_key c.on_replace-taken.new.old_value notified.old_key
-    notified.old_value c.on_replace-taken.new.self notified.limiter c.take_out-key.result c.take_out-key.new.limiter
-    c.take_out-key.ensures.taken in
-    subst (λ n. PassesRemoved g.F.FnMut rules (by n pair) c.args.sink.now c.sink.new.self) c.len-length.ensures.len
-    (subst (λ p. PassesRemoved g.F.FnMut rules (by c.len-length.result p) c.args.sink.now c.sink.new.self) same
-    (subst (λ p. Called g.F.FnMut c.args.sink.now (p.0, (p.1, tt)) tt c.sink.new.self) left c.sink.ensures))
+pub returns-else-accepted-clause-taken : goal.returns-else-accepted-clause-taken
+returns-else-accepted-clause-taken g c = λ pair there.
+    let done = c.offer-accepted.ensures.offered in
+    subst (λ p. false ≡ (g.L.Insertion.offers.on_replace c.args.limiter.now (length c.args.entries.now.order) p.0
+    c.args.key p.1 c.args.value).taken) (same_Some done.pair pair (sym done.there ∙ there))
+    (sym c.if-accepted.false ∙ done.offered.taken)
+
+pub returns-else-accepted-clause-unkept : goal.returns-else-accepted-clause-unkept
+returns-else-accepted-clause-unkept g c = λ pair there.
+    let done = c.offer-accepted.ensures.offered in
+    subst (λ p. c.offer-accepted.new.value ≡ unkept_of (g.L.Insertion.offers.on_replace c.args.limiter.now
+    (length c.args.entries.now.order) p.0 c.args.key p.1 c.args.value))
+    (same_Some done.pair pair (sym done.there ∙ there)) done.offered.unkept
+
+pub returns-else-accepted-clause-removed : goal.returns-else-accepted-clause-removed
+returns-else-accepted-clause-removed g c = λ refusal pair there.
+    let done = c.offer-accepted.ensures.offered in
+    subst (λ p. IsRemoved g.L.Limiter.rules (g.L.Insertion.offers.on_replace c.args.limiter.now
+    (length c.args.entries.now.order) p.0 c.args.key p.1 c.args.value) c.args.b c.args.entries.now
+    c.take_out-key.new.entries c.take_out-key.new.limiter)
+    (same_Some done.pair pair (sym done.there ∙ there))
+    (is_removed done.offered g.L.Limiter.rules c.if-accepted.false c.args.entries.now done.there done.table c.take_out-key.ensures.taken)
+
+pub returns-else-accepted-clause-fits : goal.returns-else-accepted-clause-fits
+returns-else-accepted-clause-fits g c = λ hash_of alike fit.
+    let named = c.requires.there in
+    c.take_out-key.ensures.fits hash_of (c.offer-accepted.ensures.fits hash_of fit (λ pair there. alike pair.0 _
+    (g.met.L.Insertion.laws.keeps_key c.args.limiter.now (length c.args.entries.now.order) pair.0 c.args.key pair.1
+    c.args.value (subst (λ p. g.I.LookupKey.names c.args.key p.0 ≡ true)
+    (same_Some named.0 pair (sym named.1 ∙ there)) named.2))))
+
+pub returns-else-accepted-clause-passed : goal.returns-else-accepted-clause-passed
+returns-else-accepted-clause-passed g c = λ refusal pair there.
+    let done = c.offer-accepted.ensures.offered in let rules = g.L.Limiter.rules in
+    subst (λ p. PassesRemoved g.F.FnMut rules (g.L.Insertion.offers.on_replace c.args.limiter.now
+    (length c.args.entries.now.order) p.0 c.args.key p.1 c.args.value) c.args.sink.now c.sink.new.self)
+    (same_Some done.pair pair (sym done.there ∙ there))
+    (subst (λ p. Called g.F.FnMut c.args.sink.now (p.0, (p.1, tt)) tt c.sink.new.self)
+    (left_as_notified done.offered rules c.if-accepted.false c.args.entries.now done.there done.table c.take_out-key.ensures.taken)
+    c.sink.ensures)
 
 pub sink-requires : goal.sink-requires
 sink-requires g c =
-    let k = c.pair_mut-pair.result.now.key in let v = c.pair_mut-pair.result.now.value in
-    let notified = c.on_replace-taken.ensures in let old = c.args.entries.now in let rules = g.L.Limiter.rules in
-    let by = λ (n : ℕ). g.L.Insertion.offers.on_replace c.args.limiter.now n k c.args.key v c.args.value in
-    let replaced = by c.len-length.result in
-    let left = left_as_notified rules replaced old c.take_out-key.new.entries c.args.b (k, v)
-    c.pair_mut-pair.ensures.pair c.on_replace-taken.new.old_key c.on_replace-taken.new.old_value notified.old_key
-    notified.old_value c.on_replace-taken.new.self notified.limiter c.take_out-key.result c.take_out-key.new.limiter
+    let done = c.offer-accepted.ensures.offered in let rules = g.L.Limiter.rules in
+    let replaced = g.L.Insertion.offers.on_replace c.args.limiter.now (length c.args.entries.now.order) done.pair.0
+    c.args.key done.pair.1 c.args.value in
+    let left = left_as_notified done.offered rules c.if-accepted.false c.args.entries.now done.there done.table
     c.take_out-key.ensures.taken in
-    let may = subst (λ n. MayTakeRejected rules g.F.FnMut (by n) c.args.sink.now) (sym c.len-length.ensures.len)
-    (c.requires.callable (k, v) c.pair_mut-pair.ensures.pair) in
     one_callable rules g.F.FnMut ((replaced.key, replaced.old_value) ∷ []) replaced.limiter
     (replaced.key, replaced.old_value) c.take_out-key.result (here (replaced.key, replaced.old_value) []) (ap Some left)
-    c.args.sink.now (may (sym notified.taken ∙ c.if-taken.false))
+    c.args.sink.now
+    (c.requires.callable done.pair done.there (sym done.offered.taken ∙ c.if-accepted.false))

@@ -5,7 +5,6 @@ use crate::rattle_std::prelude::*;
 use crate::erased::group_table::LinkType;
 use crate::erased::ordered_table::linked::chain::Chain;
 use crate::erased::ordered_table::linked::{Entry, LinkedTable};
-use crate::erased::ordered_table::ordered::Pair;
 use crate::rattle_std::alloc::AllocError;
 
 impl<K, V, N: LinkType> LinkedTable<K, V, N> {
@@ -16,7 +15,8 @@ impl<K, V, N: LinkType> LinkedTable<K, V, N> {
     {
         let table = self.chain.table.clone_with(|entry| -> Result<Entry<K, V, N>, AllocError> {
             Ok(Entry {
-                pair: Pair { key: entry.pair.key.try_clone()?, value: entry.pair.value.try_clone()? },
+                key: entry.key.try_clone()?,
+                value: entry.value.try_clone()?,
                 newer: entry.newer,
                 older: entry.older,
             })

@@ -24,8 +24,8 @@ fn renumber_entries<K: Eq + Hash, V, N: LinkType, S: BuildHasher>(
     hasher: &S,
 ) -> Result<Vec<N>, AllocError> {
     if buckets == table.buckets() {
-        table.rehash(|entry| hasher.hash_by(&entry.pair.key))
+        table.rehash(|entry| hasher.hash_by(&entry.key))
     } else {
-        table.relocate(buckets, |entry| hasher.hash_by(&entry.pair.key))
+        table.relocate(buckets, |entry| hasher.hash_by(&entry.key))
     }
 }

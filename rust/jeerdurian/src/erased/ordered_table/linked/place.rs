@@ -4,7 +4,6 @@ use crate::rattle_std::prelude::*;
 
 use crate::erased::group_table::LinkType;
 use crate::erased::ordered_table::linked::{Entry, LinkedTable};
-use crate::erased::ordered_table::ordered::Pair;
 
 impl<K, V, N: LinkType> LinkedTable<K, V, N> {
     #[inline(always)]
@@ -21,7 +20,7 @@ impl<K, V, N: LinkType> LinkedTable<K, V, N> {
                 self.chain.link_placed(b, first);
                 Ok(())
             }
-            Err(entry) => Err((entry.pair.key, entry.pair.value)),
+            Err(entry) => Err((entry.key, entry.value)),
         }
     }
 }
@@ -29,5 +28,5 @@ impl<K, V, N: LinkType> LinkedTable<K, V, N> {
 #[inline]
 fn newest_entry<K, V, N: LinkType>(pair: (K, V), first: N) -> Entry<K, V, N> {
     let (key, value) = pair;
-    Entry { newer: N::MAX, older: first, pair: Pair { key, value } }
+    Entry { key, value, newer: N::MAX, older: first }
 }

@@ -6,7 +6,7 @@
 use crate::rattle_std::prelude::*;
 
 use crate::erased::group_table::LinkType;
-use crate::erased::lru_limits::KeyHasher;
+use crate::erased::lru_limits::{Insertion, KeyHasher, LookupKey};
 use crate::erased::ordered_table::ordered::OrderedTable;
 use crate::erased::ordered_table::ordered::promoted::settle;
 use crate::rattle_std::alloc::AllocError;
@@ -94,6 +94,20 @@ impl<K, V, N: LinkType> OrderedTable<K, V, N> {
 }
 
 impl<K: Eq + Hash, V, N: LinkType> OrderedTable<K, V, N> {
+    /// Offers a limiter a new value for the entry in a full bucket. Returns whether the limiter accepted the value. If
+    /// it did, the entry has this value afterwards, and `value` is the old one. The order stays.
+    #[inline]
+    pub fn offer<I: LookupKey<K>, L: Insertion<K, V, I>>(
+        &mut self,
+        b: usize,
+        limiter: &mut L,
+        key: I,
+        value: &mut V,
+    ) -> bool {
+        let length = self.len();
+        self.linked.offer(b, length, limiter, key, value)
+    }
+
     /// Moves all entries into a table of `buckets` buckets, in the same order. If the table already has `buckets`
     /// buckets, rehashes the entries in place.
     ///

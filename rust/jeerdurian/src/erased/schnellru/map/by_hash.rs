@@ -45,7 +45,7 @@ impl<K: Eq + Hash, V, L: Limiter<K, V>, S: KeyHasher<K>> LruMap<K, V, L, S> {
     #[inline]
     pub fn peek_by_hash<F: FnMut(&K, &V) -> bool>(&self, hash: u64, is_eq: F) -> Option<&V> {
         let b = self.find_by(hash, is_eq)?;
-        Some(&self.pair_in(b).value)
+        Some(self.pair_in(b).1)
     }
 
     /// Searches as `get_by_hash` does, and lends the value for writing. The order stays.

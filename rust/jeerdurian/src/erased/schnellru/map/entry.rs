@@ -80,7 +80,7 @@ impl<'a, K: Eq + Hash, V, L: Limiter<K, V>, S: KeyHasher<K>> OccupiedEntry<'a, K
     /// Cost: `O(1)`.
     #[inline]
     pub fn key(&self) -> &K {
-        &self.map.pair_in(self.bucket).key
+        self.map.pair_in(self.bucket).0
     }
 
     /// Returns the value.
@@ -92,7 +92,7 @@ impl<'a, K: Eq + Hash, V, L: Limiter<K, V>, S: KeyHasher<K>> OccupiedEntry<'a, K
     /// Cost: `O(1)`.
     #[inline]
     pub fn get(&self) -> &V {
-        &self.map.pair_in(self.bucket).value
+        self.map.pair_in(self.bucket).1
     }
 
     /// Lends the value for writing. The order stays.

@@ -5,7 +5,6 @@
 use crate::rattle_std::prelude::*;
 
 use crate::erased::lru_limits::{KeyHasher, Limiter, LookupKey};
-use crate::erased::ordered_table::Pair;
 use crate::erased::schnellru::map::LruMap;
 use crate::erased::schnellru::map::remove::take_out;
 use crate::rattle_std::hash::Hash;
@@ -22,13 +21,13 @@ impl<K: Eq + Hash, V, L: Limiter<K, V>, S: KeyHasher<K>> LruMap<K, V, L, S> {
     }
 
     #[inline]
-    pub(super) fn pair_in(&self, b: usize) -> &Pair<K, V> {
+    pub(super) fn pair_in(&self, b: usize) -> (&K, &V) {
         self.entries.pair(b)
     }
 
     #[inline]
     pub(super) fn value_in_mut(&mut self, b: usize) -> &mut V {
-        &mut self.entries.pair_mut(b).value
+        self.entries.pair_mut(b).1
     }
 
     #[inline]

@@ -44,8 +44,7 @@ impl<K: Eq + Hash, V, L: Limiter<K, V>, S: KeyHasher<K>> LruMap<K, V, L, S> {
     pub fn get_key_value<Q: LookupKey<K>>(&mut self, key: &Q) -> Option<(&K, &V)> {
         let b = self.find(key)?;
         self.promote_at(b);
-        let pair = self.pair_in(b);
-        Some((&pair.key, &pair.value))
+        Some(self.pair_in(b))
     }
 
     /// Makes the entry of a key the newest, and returns whether the key is there.
@@ -110,7 +109,7 @@ impl<K: Eq + Hash, V, L: Limiter<K, V>, S: KeyHasher<K>> LruMap<K, V, L, S> {
     #[inline]
     pub(crate) fn newest_value_mut(&mut self) -> &mut V {
         let b = self.entries.newest();
-        &mut self.entries.pair_mut(b).value
+        self.entries.pair_mut(b).1
     }
 
     /// Returns whether a key is in the map.
@@ -139,7 +138,7 @@ impl<K: Eq + Hash, V, L: Limiter<K, V>, S: KeyHasher<K>> LruMap<K, V, L, S> {
     #[inline]
     pub fn peek<Q: LookupKey<K>>(&self, key: &Q) -> Option<&V> {
         let b = self.find(key)?;
-        Some(&self.pair_in(b).value)
+        Some(self.pair_in(b).1)
     }
 
     /// Returns the entry of a key.
@@ -154,8 +153,7 @@ impl<K: Eq + Hash, V, L: Limiter<K, V>, S: KeyHasher<K>> LruMap<K, V, L, S> {
     #[inline]
     pub fn peek_key_value<Q: LookupKey<K>>(&self, key: &Q) -> Option<(&K, &V)> {
         let b = self.find(key)?;
-        let pair = self.pair_in(b);
-        Some((&pair.key, &pair.value))
+        Some(self.pair_in(b))
     }
 
     /// Lends the value of a key for writing. The order stays.
@@ -189,8 +187,7 @@ impl<K: Eq + Hash, V, L: Limiter<K, V>, S: KeyHasher<K>> LruMap<K, V, L, S> {
         if self.is_empty() {
             return None;
         }
-        let pair = self.entries.pair(self.entries.oldest());
-        Some((&pair.key, &pair.value))
+        Some(self.entries.pair(self.entries.oldest()))
     }
 
     /// Returns the newest entry.
@@ -206,7 +203,6 @@ impl<K: Eq + Hash, V, L: Limiter<K, V>, S: KeyHasher<K>> LruMap<K, V, L, S> {
         if self.is_empty() {
             return None;
         }
-        let pair = self.entries.pair(self.entries.newest());
-        Some((&pair.key, &pair.value))
+        Some(self.entries.pair(self.entries.newest()))
     }
 }

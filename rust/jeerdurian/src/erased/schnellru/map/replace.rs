@@ -7,7 +7,6 @@ use crate::erased::ordered_table::OrderedTable;
 use crate::erased::schnellru::map::LruMap;
 use crate::erased::schnellru::map::remove::take_out;
 use crate::rattle_std::hash::Hash;
-use crate::rattle_std::mem;
 
 impl<K: Eq + Hash, V, L: Limiter<K, V>, S: KeyHasher<K>> LruMap<K, V, L, S> {
     #[inline]
@@ -34,11 +33,9 @@ pub(super) fn offer<K: Eq + Hash, V, I: LookupKey<K>, L: Insertion<K, V, I>, F: 
     mut value: V,
     sink: &mut F,
 ) -> (bool, V) {
-    let length = entries.len();
-    let pair = entries.pair_mut(b);
-    let taken = limiter.on_replace(length, &mut pair.key, key, &mut pair.value, &mut value);
-    if taken {
-        (true, mem::replace(&mut pair.value, value))
+    let accepted = entries.offer(b, limiter, key, &mut value);
+    if accepted {
+        (true, value)
     } else {
         let (key, old) = take_out(entries, limiter, b);
         sink(key, old);

@@ -51,8 +51,8 @@ impl<K: Eq + Hash, V, L: Limiter<K, V>, S: KeyHasher<K>> LruMap<K, V, L, S> {
 
     #[inline]
     fn passes<F: FnMut(&K, &V) -> bool>(&self, at: usize, b: usize, keep: &mut F) -> bool {
-        let pair = self.entries.pair(b);
-        keep(&pair.key, &pair.value)
+        let (key, value) = self.entries.pair(b);
+        keep(key, value)
     }
 
     #[inline]

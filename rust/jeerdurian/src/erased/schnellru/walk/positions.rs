@@ -27,7 +27,6 @@ impl<K: Eq + Hash, V, L: Limiter<K, V>, S: KeyHasher<K>> LruMap<K, V, L, S> {
 
     #[inline]
     pub(crate) fn pair_at_mut(&mut self, at: usize, b: usize) -> (&K, &mut V) {
-        let pair = self.entries.pair_mut(b);
-        (&pair.key, &mut pair.value)
+        self.entries.pair_mut(b)
     }
 }
