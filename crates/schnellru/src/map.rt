@@ -62,7 +62,7 @@ pub(crate) mod update;
 ///
 /// An entry contains a key, a value and two links to its neighbours in the order of use. The links have the type `N`,
 /// the limiter's `LinkType`. `default`, `with_limiter` and `with_limiter_and_hasher` compute the entry's size. To the
-/// other constructors, pass `size_of::<(N, N, (K, V))>()` as `entry_bytes`.
+/// other constructors, pass `size_of::<(K, V, N, N)>()` as `entry_bytes`.
 ///
 /// `entry_bytes` does not change how much memory a table takes. If it is too small, `ByMemoryUsage` and `ByBytes`
 /// permit tables above their limit. If it is too great, they refuse tables that would fit.

@@ -5,7 +5,7 @@ mod refusing;
 use jeerdurian::caches::{FileDevice, OrderedMap, PageCache};
 use jeerdurian::tenants::TenantCache;
 use jeerdurian::trace::{Curve, report};
-use jeerdurian::{ByMemoryUsage, LruMap, More, ReserveError, Unlimited, UnlimitedCompact};
+use jeerdurian::{ByLength, ByMemoryUsage, LruMap, More, ReserveError, Unlimited, UnlimitedCompact};
 use refusing::{aligned, held, refused};
 use std::cell::Cell;
 use std::io::Cursor;
@@ -94,6 +94,31 @@ fn what_a_map_holds_is_its_memory_usage() {
         assert_eq!(held() - bytes, map.memory_usage() as i64);
     }
     assert!(map.memory_usage() <= 100_000 && map.len() >= 896);
+}
+
+// A key, a value and two links side by side, so that the links fill the padding.
+#[test]
+fn an_entry_is_as_large_as_its_parts_side_by_side() {
+    macro_rules! check {
+        ($($key:ty, $value:ty, $one:expr;)*) => {$({
+            let mut map: LruMap<$key, $value, ByLength> = LruMap::new(ByLength::new(3));
+            let one: ($key, $value) = $one;
+            map.insert(one.0, one.1);
+            let entries = (4 * size_of::<($key, $value, u32, u32)>()).next_multiple_of(16);
+            assert_eq!(map.memory_usage(), entries + 4 + 16, "{} {}", stringify!($key), stringify!($value));
+        })*};
+    }
+    check! {
+        u64, u64, (1, 2);
+        u128, u32, (1, 2);
+        u128, u64, (1, 2);
+        u64, u128, (1, 2);
+        u64, u8, (1, 2);
+        u8, u64, (1, 2);
+        u8, (), (1, ());
+        String, [u8; 3], (String::new(), [0; 3]);
+        (u128, u8), (u8, u128), ((1, 2), (3, 4));
+    }
 }
 
 #[test]
