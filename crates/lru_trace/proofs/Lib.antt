@@ -2,6 +2,7 @@ pub mod Logs
 pub mod NodeSums
 pub mod Numbered
 pub mod CurveSteps
+pub mod AnyCurves
 pub mod ReadLines
 pub mod Powers
 pub mod Cells

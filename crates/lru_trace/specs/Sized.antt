@@ -24,6 +24,11 @@ abbrev pub missed_within : ℕ → List (List ℕ × ℕ) → List (List ℕ × 
 missed_within limit warm trace =
     misses_within bytes_eq (size_in (warm ++ trace)) limit (past_after [] (keys_of warm)) (keys_of trace)
 
+-- how many bytes all keys take together
+abbrev pub bytes_of : List (List ℕ × ℕ) → List (List ℕ × ℕ) → ℕ
+bytes_of warm trace =
+    sum_by (size_in (warm ++ trace)) (recency bytes_eq (past_after (past_after [] (keys_of warm)) (keys_of trace)))
+
 pub record Sized : Type 0 where
   pub names : List (String Global × ℕ)
   pub recency : List ℕ

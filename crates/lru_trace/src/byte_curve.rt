@@ -6,7 +6,7 @@ ghost use Rattle.std.specs.Map.{keys_of};
 ghost use Rattle.std.specs.Set.{remove_key};
 ghost use Rattle.lru_theory.specs.Traces.{is_in};
 ghost use Rattle.lru_trace.specs.Counted.{number_in};
-ghost use Rattle.lru_trace.specs.Sized.{IsSizedOf, Made, KeepsSizes, exceeds, need_of, missed_within, total_of};
+ghost use Rattle.lru_trace.specs.Sized.{IsSizedOf, Made, KeepsSizes, exceeds, need_of, missed_within, bytes_of, total_of};
 ghost use Rattle.lru_trace.specs.Rows.{keys};
 ghost use Rattle.lru_trace.specs.Slots.{weight_in};
 
@@ -252,6 +252,14 @@ impl ByteCurve {
             result ≡ keys (keys_of warm) (keys_of trace) }
     {
         self.distances.referenced()
+    }
+
+    /// Returns how many bytes all referenced keys take together, also those of the warm-up.
+    pub fn bytes(&self) -> u64
+        ensures { (warm trace : List (List ℕ × ℕ)) → IsSizedOf warm trace self.now → result ≡ bytes_of warm trace }
+    {
+        let _names = &self.numbers;
+        self.total
     }
 
     /// Returns how many counted references miss in an LRU cache with this limit. If the curve does not have the limit,

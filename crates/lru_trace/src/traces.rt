@@ -1,11 +1,14 @@
 //! Reads a trace from lines, and writes its report.
-ghost use Rattle.std.specs.Prelude.{◌≡◌, ◌≢◌, [], IfOk, OnErr, IfErr, MatchOption, is_some};
-ghost use Rattle.lru_trace.specs.Counted.{IsOf};
+ghost use Rattle.std.specs.Prelude.{◌≡◌, ◌≢◌, [], IfOk, OnErr, IfErr, MatchOption, ◌≤◌};
+ghost use Rattle.lru_trace.specs.Curves.{IsCurveOf, keeps, measure_in};
+ghost use Rattle.lru_trace.specs.References.{wants_best, measure_of};
 ghost use Rattle.lru_trace.specs.Outcome.{Ends, TraceRead, NoSizesRead, SomeRead};
 
+use crate::byte_curve::ByteCurve;
 use crate::curve::Curve;
+use crate::curves::AnyCurve;
 use crate::lines::{Ending, Others, read_keys, read_line};
-use crate::options::Options;
+use crate::options::{Options, Policies};
 use crate::outcome::{TraceEnd, TraceError};
 use crate::output::write_bytes;
 use crate::progress::Progress;
@@ -17,18 +20,37 @@ use std::io::{BufRead, Write};
 #[derive(Drop)]
 struct Lines {
     sizes: Vec<usize>,
-    curve: Curve,
+    curve: AnyCurve,
     others: Others,
 }
 
-fn empty_curve(alloc: Global, best: bool) -> Result<Curve, AllocError>
-    ensures of { IfOk result (IsOf [] []) }
-    ensures keeps { IfOk result (λ curve. is_some curve.kept ≡ best) }
+/// Returns the limits that named sizes and powers of two stand for.
+fn limits_of(alloc: Global, sizes: &[usize], bits: u32) -> Result<Vec<u64>, AllocError>
+    requires { bits ≤ 20 }
 {
-    if best {
-        return Curve::keeping_references(alloc);
+    let mut limits = Vec::new(alloc);
+    for size in sizes {
+        limits.push(*size as u64 >> bits)?;
     }
-    Curve::new(alloc)
+    for level in bits..u64::BITS {
+        limits.push((1 << level) >> bits)?;
+    }
+    Ok(limits)
+}
+
+fn empty_curve(alloc: Global, options: Options, sizes: &[usize]) -> Result<AnyCurve, AllocError>
+    ensures of { IfOk result (IsCurveOf [] []) }
+    ensures keeps { IfOk result (λ curve. keeps curve ≡ wants_best options.policies) }
+    ensures measure { IfOk result (λ curve. measure_in curve ≡ measure_of options.policies) }
+{
+    match options.policies {
+        Policies::Lru { .. } => Ok(AnyCurve::Places(Curve::new(alloc)?)),
+        Policies::Best => Ok(AnyCurve::Places(Curve::keeping_references(alloc)?)),
+        Policies::Sized { .. } => {
+            let limits = limits_of(alloc, sizes, options.bits())?;
+            Ok(AnyCurve::Bytes(ByteCurve::new(alloc, limits)?))
+        }
+    }
 }
 
 fn read_trace<R: BufRead, P: Write>(
@@ -48,7 +70,7 @@ fn read_trace<R: BufRead, P: Write>(
     let Some(sizes) = sizes_of(alloc, &line)? else {
         return Ok(None);
     };
-    let mut curve = empty_curve(alloc, options.policies.best())?;
+    let mut curve = empty_curve(alloc, options, &sizes)?;
     let Ending::Feed = ending else {
         let others = Others {
             malformed: 0,

@@ -18,7 +18,7 @@ returns-in_default-ending g c =
       ok = only_sizes _ _ c.read_line.new.line.items c.args.options c.in_ok-ending.ending c.in-Some.sizes.items c.in_ok-curve.curve
           c.in_default-ending.not-Feed c.in_ok-ending.ensures.ok
           (named ∙ ap (sizes_from [] None) c.deref.ensures.value) c.in_ok-curve.ensures.of
-          (c.in_ok-curve.ensures.keeps ∙ c.best.ensures);
+          c.in_ok-curve.ensures.measure c.in_ok-curve.ensures.keeps;
       err = tt;
       kind = tt;
     }
@@ -35,4 +35,5 @@ returns-clause-ok g c =
     let named = rw c.in-Some.is at c.in_ok-sizes.ensures in
     with_keys _ _ c.read_line.new.line.items _ c.args.options c.in-Some.sizes.items c.read_keys.new.curve c.in_ok-others.others
     taken (named ∙ ap (sizes_from [] None) c.deref.ensures.value) c.in_ok-others.ensures.ok
-    (c.read_keys.ensures.keeps ∙ c.in_ok-curve.ensures.keeps ∙ c.best.ensures)
+    (c.read_keys.ensures.alike.measure ∙ c.in_ok-curve.ensures.measure)
+    (c.read_keys.ensures.alike.keeps ∙ c.in_ok-curve.ensures.keeps)

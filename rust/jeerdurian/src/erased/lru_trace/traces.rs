@@ -4,9 +4,11 @@
 #[allow(unused_imports)]
 use crate::rattle_std::prelude::*;
 
+use crate::erased::lru_trace::byte_curve::ByteCurve;
 use crate::erased::lru_trace::curve::Curve;
+use crate::erased::lru_trace::curves::AnyCurve;
 use crate::erased::lru_trace::lines::{Ending, Others, read_keys, read_line};
-use crate::erased::lru_trace::options::Options;
+use crate::erased::lru_trace::options::{Options, Policies};
 use crate::erased::lru_trace::outcome::{TraceEnd, TraceError};
 use crate::erased::lru_trace::output::write_bytes;
 use crate::erased::lru_trace::progress::Progress;
@@ -17,15 +19,31 @@ use crate::rattle_std::io::{BufRead, Write};
 
 struct Lines {
     sizes: Vec<usize>,
-    curve: Curve,
+    curve: AnyCurve,
     others: Others,
 }
 
-fn empty_curve(alloc: Global, best: bool) -> Result<Curve, AllocError> {
-    if best {
-        return Curve::keeping_references(alloc);
+/// Returns the limits that named sizes and powers of two stand for.
+fn limits_of(alloc: Global, sizes: &[usize], bits: u32) -> Result<Vec<u64>, AllocError> {
+    let mut limits = Vec::new(alloc);
+    for size in sizes {
+        limits.push(*size as u64 >> bits)?;
     }
-    Curve::new(alloc)
+    for level in bits..u64::BITS {
+        limits.push((1 << level) >> bits)?;
+    }
+    Ok(limits)
+}
+
+fn empty_curve(alloc: Global, options: Options, sizes: &[usize]) -> Result<AnyCurve, AllocError> {
+    match options.policies {
+        Policies::Lru { .. } => Ok(AnyCurve::Places(Curve::new(alloc)?)),
+        Policies::Best => Ok(AnyCurve::Places(Curve::keeping_references(alloc)?)),
+        Policies::Sized { .. } => {
+            let limits = limits_of(alloc, sizes, options.bits())?;
+            Ok(AnyCurve::Bytes(ByteCurve::new(alloc, limits)?))
+        }
+    }
 }
 
 fn read_trace<R: BufRead, P: Write>(
@@ -39,7 +57,7 @@ fn read_trace<R: BufRead, P: Write>(
     let Some(sizes) = sizes_of(alloc, &line)? else {
         return Ok(None);
     };
-    let mut curve = empty_curve(alloc, options.policies.best())?;
+    let mut curve = empty_curve(alloc, options, &sizes)?;
     let Ending::Feed = ending else {
         let others = Others { malformed: 0, skipped: 0 };
         return Ok(Some(Lines { sizes, curve, others }));
