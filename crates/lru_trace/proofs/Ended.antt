@@ -1,13 +1,13 @@
 use Rattle.std.proofs.Common.{◌≡◌, ℕ, List, [], ◌∷◌, ◌++◌, Option, Some, None, refl, sym, ap, ◌∙◌}
-use Rattle.std.proofs.Common.{subst, arith}
+use Rattle.std.proofs.Common.{subst, arith, drop}
 use Rattle.std.specs.Io.KnownBytes.{Consumes, Appends, Keeps}
 use Rattle.std.proofs.KnownBytes.{Consumes-trans, Appends-kept}
 use Rattle.std.specs.Option.{option_map}
 use Rattle.std.proofs.lemmas.List.{append-nil}
-use Rattle.lru_trace.specs.Curves.{IsCurveOf, measure_in, keeps}
+use Rattle.lru_trace.specs.Curves.{IsCurveOf, AreTooLarge, Fits}
 use Rattle.lru_trace.specs.declared.curves.AnyCurve.{AnyCurve}
 use Rattle.lru_trace.specs.Lines.{lines_of, fed, TakesLine}
-use Rattle.lru_trace.specs.References.{warm_in, counted_in, others_in, wants_best, measure_of}
+use Rattle.lru_trace.specs.References.{warm_in, counted_in, others_in}
 use Rattle.lru_trace.specs.declared.lines.Others.{Others}
 use Rattle.lru_trace.specs.Sizes.{sizes_from}
 use Rattle.lru_trace.specs.Report.{output, written}
@@ -17,7 +17,7 @@ use Rattle.std.specs.Result.{IsErr, IsErrAnd}
 use Rattle.lru_trace.specs.declared.outcome.TraceEnd.{TraceEnd}
 use Rattle.lru_trace.specs.declared.outcome.TraceError.{TraceError}
 use Rattle.lru_trace.specs.declared.outcome.TraceError.TheVariants as errors
-use Rattle.lru_trace.specs.Outcome.{KeysRead, TraceRead, NoSizesRead, Reported, Begins, SomeRead, Ends}
+use Rattle.lru_trace.specs.Outcome.{KeysRead, TraceRead, NoSizesRead, Reported, Begins, SomeRead, TooLargeRead, Ends}
 use Rattle.lru_trace.specs.declared.lines.Ending.{Ending}
 use Rattle.lru_trace.specs.declared.lines.Ending.TheVariants as endings
 use Rattle.lru_trace.proofs.ReadLines.{lines_of-fed, lines_of-last, ended_before, nothing_read, none_left_out}
@@ -58,12 +58,12 @@ module _ (from mid : Option (List ℕ)) (first : List ℕ) where
 
   pub only_sizes : (options : Options) (ending : Ending) (sizes : List ℕ) (curve : AnyCurve) → (ending ≡ endings.Feed → ⊥)
       → TakesLine from mid ending first → Some sizes ≡ sizes_from [] None first → IsCurveOf [] [] curve
-      → measure_in curve ≡ measure_of options.policies → keeps curve ≡ wants_best options.policies
+      → Fits options sizes curve
       → TraceRead from mid options sizes curve (record { malformed = 0; skipped = 0 })
-  only_sizes options endings.Feed sizes curve other taken named of measure same = absurd (other refl)
-  only_sizes options endings.Nothing sizes curve other (taken, nothing) named of measure same =
+  only_sizes options endings.Feed sizes curve other taken named of fits = absurd (other refl)
+  only_sizes options endings.Nothing sizes curve other (taken, nothing) named of fits =
       let e : Some sizes ≡ None = named ∙ ap (sizes_from [] None) nothing in absurd cc
-  only_sizes options endings.InputEnd sizes curve other (taken, some) named of measure same = record {
+  only_sizes options endings.InputEnd sizes curve other (taken, some) named of fits = record {
     input = first;
     first = first;
     rest = [];
@@ -72,17 +72,15 @@ module _ (from mid : Option (List ℕ)) (first : List ℕ) where
     lines = lines_of-last first taken.0 some;
     named = sym named;
     curve_of = nothing_read options curve of;
-    measure = measure;
-    keeps = same;
+    fits = fits;
     left_out = none_left_out options;
   }
 
   pub with_keys : (to : Option (List ℕ)) (options : Options) (sizes : List ℕ) (curve : AnyCurve) (others : Others)
       → TakesLine from mid endings.Feed first → Some sizes ≡ sizes_from [] None first
-      → KeysRead mid to options curve others → measure_in curve ≡ measure_of options.policies
-      → keeps curve ≡ wants_best options.policies
+      → KeysRead mid to options curve others → Fits options sizes curve
       → TraceRead from to options sizes curve others
-  with_keys to options sizes curve others taken named keys measure same = record {
+  with_keys to options sizes curve others taken named keys fits = record {
     input = fed first ++ keys.input;
     first = first;
     rest = lines_of keys.input;
@@ -91,9 +89,17 @@ module _ (from mid : Option (List ℕ)) (first : List ℕ) where
     lines = lines_of-fed first keys.input taken.0;
     named = sym named;
     curve_of = keys.curve_of;
-    measure = measure;
-    keeps = same;
+    fits = fits;
     left_out = keys.left_out;
+  }
+
+  pub too_large_behind : (to : Option (List ℕ)) (options : Options) → TakesLine from mid endings.Feed first
+      → TooLargeRead 0 mid to options → TooLargeRead 1 from to options
+  too_large_behind to options taken read = record {
+    input = fed first ++ read.input;
+    reads = Consumes-trans from mid to (fed first) read.input taken.1 read.reads;
+    large = subst (λ lines. AreTooLarge (warm_in options lines) (counted_in options lines))
+        (sym (ap (drop 1) (lines_of-fed first read.input taken.0))) read.large;
   }
 
 module _ {from to : Option (List ℕ)} (options : Options) {sizes : List ℕ} {curve : AnyCurve} {others : Others}

@@ -17,3 +17,4 @@ pub mod SizedCosts
 pub mod SizedSteps
 pub mod SizedKeys
 pub mod SizedRecency
+pub mod SizedTotals

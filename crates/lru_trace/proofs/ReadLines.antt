@@ -13,7 +13,7 @@ use Rattle.std.specs.Str.{IsUtf8, is_utf8}
 use Rattle.std.proofs.lemmas.List.{append-nil, length-append, take-append-le, drop-append-le, take_all, drop_all, take_more}
 use Rattle.std.proofs.lemmas.List.Elements.{recursion_from_All}
 use Rattle.std.proofs.lemmas.List.Elements.{filter-append, filter_map-append}
-use Rattle.lru_trace.specs.Curves.{IsCurveOf, Follows}
+use Rattle.lru_trace.specs.Curves.{IsCurveOf, AreTooLarge, Follows, Leads}
 use Rattle.lru_trace.specs.declared.curves.AnyCurve.{AnyCurve}
 use Rattle.lru_trace.specs.Lines.{lines_of, onto_first, fed, LacksFeed, EndsSo, TakesRest, TakesLine, is_key}
 use Rattle.lru_trace.specs.declared.options.Options.{Options}
@@ -23,7 +23,7 @@ use Rattle.lru_trace.specs.declared.lines.Others.{Others}
 use Rattle.lru_trace.specs.Samples.{sampled, skipped, is_sampled}
 use Rattle.lru_trace.specs.declared.lines.Ending.{Ending}
 use Rattle.lru_trace.specs.declared.lines.Ending.TheVariants as endings
-use Rattle.lru_trace.specs.Outcome.{KeysRead}
+use Rattle.lru_trace.specs.Outcome.{KeysRead, TooLargeRead}
 
 pub lines_of-fed : (line rest : List ℕ) → LacksFeed line
     → lines_of (fed line ++ rest) ≡ line ∷ lines_of rest
@@ -212,33 +212,34 @@ few_others options line warm = (few (λ line. not (is_some (reference_of options
     only true = omega arith
     only false = go (reference_of options line)
 
-module _ (bits w : ℕ) (keys more : List (List ℕ × ℕ)) (few : length more ≤ 1) (old new : AnyCurve) (is_warm : Bool)
-    (is : is_warm ≡ nat_lt (length keys) w) (follows : Follows is_warm old (sampled bits more) new) where
+module _ (bits w : ℕ) (keys more : List (List ℕ × ℕ)) (few : length more ≤ 1) (old : AnyCurve)
+    (Holds : List (List ℕ × ℕ) → List (List ℕ × ℕ) → Type 0) (is_warm : Bool)
+    (is : is_warm ≡ nat_lt (length keys) w) (follows : Leads is_warm old (sampled bits more) Holds) where
   one_more : IsCurveOf (sampled bits (take w keys)) (sampled bits (drop w keys)) old
-      → IsCurveOf (sampled bits (take w (keys ++ more))) (sampled bits (drop w (keys ++ more))) new
+      → Holds (sampled bits (take w (keys ++ more))) (sampled bits (drop w (keys ++ more)))
   one_more of = go is_warm refl
     where
       go : (b : Bool) → is_warm ≡ b
-          → IsCurveOf (sampled bits (take w (keys ++ more))) (sampled bits (drop w (keys ++ more))) new
+          → Holds (sampled bits (take w (keys ++ more))) (sampled bits (drop w (keys ++ more)))
       go true e =
           let less = ltb-true (length keys) w (sym is ∙ e) in
           let short : length (keys ++ more) ≤ w = omega (arith, less, few, length-append keys more) in
-          subst (λ ks. IsCurveOf (sampled bits ks) (sampled bits (drop w (keys ++ more))) new)
+          subst (λ ks. Holds (sampled bits ks) (sampled bits (drop w (keys ++ more))))
           (sym (take_all w (keys ++ more) short))
-          (subst (λ ks. IsCurveOf (sampled bits (keys ++ more)) (sampled bits ks) new)
+          (subst (λ ks. Holds (sampled bits (keys ++ more)) (sampled bits ks))
           (sym (drop_all w (keys ++ more) short))
-          (subst (λ ks. IsCurveOf ks [] new) (sym (filter-append (λ key. is_sampled bits key.0) keys more))
+          (subst (λ ks. Holds ks []) (sym (filter-append (λ key. is_sampled bits key.0) keys more))
           (follows.warmed e (sampled bits keys)
           (subst (λ ks. IsCurveOf (sampled bits ks) [] old) (take_all w keys (omega (arith, less)))
           (subst (λ ks. IsCurveOf (sampled bits (take w keys)) (sampled bits ks) old)
           (drop_all w keys (omega (arith, less))) of)))))
       go false e =
           let long = ltb-false (length keys) w (sym is ∙ e) in
-          subst (λ ks. IsCurveOf (sampled bits ks) (sampled bits (drop w (keys ++ more))) new)
+          subst (λ ks. Holds (sampled bits ks) (sampled bits (drop w (keys ++ more))))
           (sym (take-append-le w keys more long))
-          (subst (λ ks. IsCurveOf (sampled bits (take w keys)) (sampled bits ks) new)
+          (subst (λ ks. Holds (sampled bits (take w keys)) (sampled bits ks))
           (sym (drop-append-le w keys more long))
-          (subst (λ ks. IsCurveOf (sampled bits (take w keys)) ks new)
+          (subst (λ ks. Holds (sampled bits (take w keys)) ks)
           (sym (filter-append (λ key. is_sampled bits key.0) (drop w keys) more))
           (follows.counted e (sampled bits (take w keys)) (sampled bits (drop w keys)) of)))
 
@@ -266,58 +267,91 @@ module _ {from mid : Option (List ℕ)} {options : Options} {old : AnyCurve} {li
   abbrev it : List (List ℕ × ℕ)
   it = references_in options (line ∷ [])
 
-  module _ (new : AnyCurve) (is_warm : Bool) (is : is_warm ≡ nat_lt (lines - others.malformed) w)
-      (follows : Follows is_warm old (sampled bits it) new) where
-    abbrev more : Others
+  fed_lines : LacksFeed line → (rest : List ℕ)
+      → lines_of (so_far.bytes ++ (fed line ++ rest)) ≡ lines_of so_far.bytes ++ (line ∷ lines_of rest)
+  fed_lines lacks rest =
+      so_far.whole (fed line ++ rest) ∙ ap (λ ls. lines_of so_far.bytes ++ ls) (lines_of-fed line rest lacks)
+
+  fed_line : LacksFeed line → lines_of (so_far.bytes ++ fed line) ≡ lines_of so_far.bytes ++ line ∷ []
+  fed_line lacks = ap (λ bs. lines_of (so_far.bytes ++ bs)) (sym (append-nil (fed line))) ∙ fed_lines lacks []
+
+  last_line : LacksFeed line → 0 < length line → lines_of (so_far.bytes ++ line) ≡ lines_of so_far.bytes ++ line ∷ []
+  last_line lacks some = so_far.whole line ∙ ap (λ ls. lines_of so_far.bytes ++ ls) (lines_of-last line lacks some)
+
+  module _ (is_warm : Bool) (is : is_warm ≡ nat_lt (lines - others.malformed) w) where
+    warms : is_warm ≡ nat_lt (length (references_in options (lines_of so_far.bytes))) w
+    warms =
+        let read : lines - others.malformed ≡ length (references_in options (lines_of so_far.bytes)) =
+        omega (arith, so_far.all) in
+        is ∙ ap (λ n. nat_lt n w) read
+
+    longer : (bytes : List ℕ) → lines_of bytes ≡ lines_of so_far.bytes ++ line ∷ []
+        → references_in options (lines_of so_far.bytes) ++ it ≡ references_in options (lines_of bytes)
+    longer bytes same =
+        sym (ap (references_in options) same ∙ references_more options (lines_of so_far.bytes) line)
+
+    holds : (Holds : List (List ℕ × ℕ) → List (List ℕ × ℕ) → Type 0) → Leads is_warm old (sampled bits it) Holds
+        → (bytes : List ℕ) → lines_of bytes ≡ lines_of so_far.bytes ++ line ∷ []
+        → Holds (warm_in options (lines_of bytes)) (counted_in options (lines_of bytes))
+    holds Holds follows bytes same =
+        let before = lines_of so_far.bytes in
+        let one = one_line options before line in
+        subst (λ ks. Holds (sampled bits (take w ks)) (sampled bits (drop w ks))) (longer bytes same)
+        (one_more bits w (references_in options before) it (omega (arith, one)) old Holds is_warm warms follows
+        so_far.curve_of)
+
+    module _ (follows : Leads is_warm old (sampled bits it) AreTooLarge) where
+      pub large_line : TakesLine mid to endings.Feed line → TooLargeRead 0 from to options
+      large_line taken = record {
+        input = so_far.bytes ++ fed line;
+        reads = Consumes-trans from mid to so_far.bytes (fed line) so_far.reads taken.1;
+        large = holds AreTooLarge follows (so_far.bytes ++ fed line) (fed_line taken.0);
+      }
+
+      pub large_last : TakesRest mid to line → 0 < length line → TooLargeRead 0 from to options
+      large_last taken some = record {
+        input = so_far.bytes ++ line;
+        reads = Consumes-trans from mid to so_far.bytes line so_far.reads taken.1;
+        large = holds AreTooLarge follows (so_far.bytes ++ line) (last_line taken.0 some);
+      }
+
+    abbrev pub more : Others
     more = both others (others_so options (line ∷ []) is_warm)
 
-    counted : (bytes : List ℕ) → lines_of bytes ≡ lines_of so_far.bytes ++ line ∷ []
-        → IsCurveOf (warm_in options (lines_of bytes)) (counted_in options (lines_of bytes)) new
-        × (more ≡ others_in options (lines_of bytes))
-        × (lines + 1 ≡ more.malformed + length (references_in options (lines_of bytes)))
-    counted bytes same =
-        let before = lines_of so_far.bytes in
-        let keys = references_in options before in
-        let longer : keys ++ it ≡ references_in options (lines_of bytes) =
-        sym (ap (references_in options) same ∙ references_more options before line) in
-        let read : lines - others.malformed ≡ length keys = omega (arith, so_far.all) in
-        let one = one_line options before line in
-        let warms : is_warm ≡ nat_lt (length keys) w = is ∙ ap (λ n. nat_lt n w) read in (
-          subst (λ ks. IsCurveOf (sampled bits (take w ks)) (sampled bits (drop w ks)) new) longer
-              (one_more bits w keys it (omega (arith, one)) old new is_warm warms follows so_far.curve_of),
-          ap (λ o. both o (others_so options (line ∷ []) is_warm)) so_far.left_out
-              ∙ sym (others_more options before line is_warm warms) ∙ ap (others_in options) (sym same),
-          omega (arith, so_far.all, one, sym (ap length longer), length-append keys it),
-        )
+    left : (bytes : List ℕ) → lines_of bytes ≡ lines_of so_far.bytes ++ line ∷ [] → more ≡ others_in options (lines_of bytes)
+    left bytes same = ap (λ o. both o (others_so options (line ∷ []) is_warm)) so_far.left_out
+        ∙ sym (others_more options (lines_of so_far.bytes) line is_warm warms) ∙ ap (others_in options) (sym same)
 
-    pub line_read : TakesLine mid to endings.Feed line → ReadSoFar from to options new (lines + 1) more
-    line_read taken =
-        let one : (rest : List ℕ) → lines_of (so_far.bytes ++ (fed line ++ rest))
-        ≡ lines_of so_far.bytes ++ (line ∷ lines_of rest) = λ rest. so_far.whole (fed line ++ rest)
-        ∙ ap (λ ls. lines_of so_far.bytes ++ ls) (lines_of-fed line rest taken.0) in
-        let is : lines_of (so_far.bytes ++ fed line) ≡ lines_of so_far.bytes ++ line ∷ []
-        = ap (λ bs. lines_of (so_far.bytes ++ bs)) (sym (append-nil (fed line))) ∙ one [] in
-        let count = counted (so_far.bytes ++ fed line) is in
-        record {
-          bytes = so_far.bytes ++ fed line;
-          whole = λ rest. ap lines_of (append_assoc so_far.bytes (fed line) rest) ∙ one rest
-              ∙ sym (append_assoc (lines_of so_far.bytes) (line ∷ []) (lines_of rest))
-              ∙ ap (λ ls. ls ++ lines_of rest) (sym is);
-          reads = Consumes-trans from mid to so_far.bytes (fed line) so_far.reads taken.1;
-          curve_of = count.0;
-          left_out = count.1;
-          all = count.2;
-        }
+    module _ (new : AnyCurve) (follows : Follows is_warm old (sampled bits it) new) where
+      pub line_read : TakesLine mid to endings.Feed line → ReadSoFar from to options new (lines + 1) more
+      line_read taken =
+          let before = lines_of so_far.bytes in
+          let bytes = so_far.bytes ++ fed line in
+          let same = fed_line taken.0 in
+          record {
+            bytes = bytes;
+            whole = λ rest. ap lines_of (append_assoc so_far.bytes (fed line) rest) ∙ fed_lines taken.0 rest
+                ∙ sym (append_assoc before (line ∷ []) (lines_of rest)) ∙ ap (λ ls. ls ++ lines_of rest) (sym same);
+            reads = Consumes-trans from mid to so_far.bytes (fed line) so_far.reads taken.1;
+            curve_of = holds (λ w t. IsCurveOf w t new) follows bytes same;
+            left_out = left bytes same;
+            all = omega (
+              arith,
+              so_far.all,
+              one_line options before line,
+              sym (ap length (longer bytes same)),
+              length-append (references_in options before) it,
+            );
+          }
 
-    pub last_read : TakesRest mid to line → 0 < length line → KeysRead from to options new more
-    last_read taken some =
-        let is : lines_of (so_far.bytes ++ line) ≡ lines_of so_far.bytes ++ line ∷ []
-        = so_far.whole line ∙ ap (λ ls. lines_of so_far.bytes ++ ls) (lines_of-last line taken.0 some) in
-        let count = counted (so_far.bytes ++ line) is in
-        record {
-          input = so_far.bytes ++ line;
-          reads = Consumes-trans from mid to so_far.bytes line so_far.reads taken.1;
-          at_end = ended_before from mid to so_far.bytes so_far.reads taken.2;
-          curve_of = count.0;
-          left_out = count.1;
-        }
+      pub last_read : TakesRest mid to line → 0 < length line → KeysRead from to options new more
+      last_read taken some =
+          let bytes = so_far.bytes ++ line in
+          let same = last_line taken.0 some in
+          record {
+            input = bytes;
+            reads = Consumes-trans from mid to so_far.bytes line so_far.reads taken.1;
+            at_end = ended_before from mid to so_far.bytes so_far.reads taken.2;
+            curve_of = holds (λ w t. IsCurveOf w t new) follows bytes same;
+            left_out = left bytes same;
+          }

@@ -1,5 +1,5 @@
 -- How a trace ends: what was read and written.
-use Rattle.std.specs.Prelude.{◌≡◌, ℕ, ◌≤◌, List, [], ◌∷◌, ◌++◌, length, Option, OnSome, Some, None, Result, Ok, Err}
+use Rattle.std.specs.Prelude.{◌≡◌, ℕ, ◌≤◌, List, [], ◌∷◌, ◌++◌, length, drop, Option, OnSome, Some, None, Result, Ok, Err}
 use Rattle.std.specs.Io.KnownBytes.{Consumes, IsAtEnd, Appends, Keeps}
 use Rattle.lru_trace.specs.declared.options.Options.{Options}
 use Rattle.lru_trace.specs.declared.byte_curve.SizeError.{SizeError}
@@ -8,10 +8,10 @@ use Rattle.lru_trace.specs.declared.outcome.TraceEnd.{TraceEnd}
 use Rattle.lru_trace.specs.declared.outcome.TraceEnd.TheVariants as ends
 use Rattle.lru_trace.specs.declared.outcome.TraceError.{TraceError}
 use Rattle.lru_trace.specs.declared.outcome.TraceError.TheVariants as errors
-use Rattle.lru_trace.specs.Curves.{IsCurveOf, keeps, measure_in, limits_of}
+use Rattle.lru_trace.specs.Curves.{IsCurveOf, Fits, AreTooLarge}
 use Rattle.lru_trace.specs.declared.curves.AnyCurve.{AnyCurve}
 use Rattle.lru_trace.specs.Lines.{lines_of}
-use Rattle.lru_trace.specs.References.{warm_in, counted_in, others_in, wants_best, measure_of}
+use Rattle.lru_trace.specs.References.{warm_in, counted_in, others_in}
 use Rattle.lru_trace.specs.declared.lines.Others.{Others}
 use Rattle.lru_trace.specs.Report.{output}
 use Rattle.lru_trace.specs.Sizes.{sizes_from}
@@ -36,8 +36,7 @@ pub record TraceRead (from to : Option (List ℕ)) (options : Options) (sizes : 
   pub lines : lines_of input ≡ first ∷ rest
   pub named : sizes_from [] None first ≡ Some sizes
   pub curve_of : IsCurveOf (warm_in options rest) (counted_in options rest) curve
-  pub measure : measure_in curve ≡ measure_of options.policies
-  pub keeps : keeps curve ≡ wants_best options.policies
+  pub fits : Fits options sizes curve
   pub left_out : others ≡ others_in options rest
 
 -- At most one line was read, and it names no sizes.
@@ -49,6 +48,12 @@ pub record NoSizesRead (from to : Option (List ℕ)) : Type 0 where
 
 abbrev pub SomeRead : Option (List ℕ) → Option (List ℕ) → Type 0
 SomeRead from to = (part : List ℕ) × Consumes from to part
+
+-- Behind the first n lines, the keys that were read together take 2 ^ 64 bytes or more.
+pub record TooLargeRead (n : ℕ) (from to : Option (List ℕ)) (options : Options) : Type 0 where
+  pub input : List ℕ
+  pub reads : Consumes from to input
+  pub large : AreTooLarge (warm_in options (drop n (lines_of input))) (counted_in options (drop n (lines_of input)))
 
 -- A writer's bytes were `old` and are `new`: a beginning of the text was written.
 abbrev pub Begins : Option (List ℕ) → Option (List ℕ) → List ℕ → Type 0
@@ -70,7 +75,7 @@ Ends options from to old new (Ok ends.Done) = Reported from to options (Appends 
 Ends options from to old new (Ok ends.NoSizes) = NoSizesRead from to × Keeps old new
 Ends options from to old new (Err errors.Read) = SomeRead from to × Keeps old new
 Ends options from to old new (Err errors.Memory) = SomeRead from to × Keeps old new
-Ends options from to old new (Err errors.TooLarge) = SomeRead from to × Keeps old new
+Ends options from to old new (Err errors.TooLarge) = TooLargeRead 1 from to options × Keeps old new
 Ends options from to old new (Err errors.Write) = Reported from to options (Begins old new)
 
 abbrev pub error_of : SizeError → TraceError

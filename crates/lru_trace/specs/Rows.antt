@@ -1,5 +1,5 @@
 -- The numbers that are written for each size.
-use Rattle.std.specs.Prelude.{ℕ, zero, suc, max, ◌+◌, ◌*◌, ◌/◌, ◌^◌, nat_lt, nat_le, ◌==◌, if◌then◌else◌, List, [], ◌∷◌, length, drop}
+use Rattle.std.specs.Prelude.{ℕ, zero, suc, max, ◌+◌, ◌*◌, ◌/◌, ◌^◌, nat_lt, nat_le, ◌==◌, if◌then◌else◌, List, [], ◌∷◌, ◌++◌, length, drop}
 use Rattle.std.specs.Prelude.{Bool, true, false, Option, Some, None}
 use Rattle.std.specs.List.{fold}
 use Rattle.std.specs.Option.{unwrap_or}
@@ -33,7 +33,7 @@ missed Bytes warm trace size = missed_within size warm trace
 -- the size of a cache for all keys
 abbrev pub needed : Measure → List (List ℕ × ℕ) → List (List ℕ × ℕ) → ℕ
 needed Places warm trace = keys (keys_of warm) (keys_of trace)
-needed Bytes warm trace = bytes_of warm trace
+needed Bytes warm trace = bytes_of (warm ++ trace)
 
 -- the powers of two from 2 ^ level to the first power that is at least `most`, but at most n powers
 unfoldable pub powers : ℕ → ℕ → ℕ → List ℕ

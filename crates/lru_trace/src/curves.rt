@@ -1,7 +1,7 @@
 //! A curve in either measure.
-ghost use Rattle.std.specs.Prelude.{◌≡◌, ◌+◌, ◌-◌, ◌<◌, ◌≤◌, ◌^◌, ℕ, List, [], ◌∷◌, ◌++◌, IfOk, OnOk, IfSome, is_some, length};
+ghost use Rattle.std.specs.Prelude.{◌≡◌, ◌+◌, ◌-◌, ◌<◌, ◌≤◌, ◌^◌, ℕ, List, [], ◌∷◌, ◌++◌, IfOk, OnOk, IfErr, is_some, length};
 ghost use Rattle.std.specs.Map.{keys_of};
-ghost use Rattle.lru_trace.specs.Curves.{IsCurveOf, AreAlike, Follows, measure_in, references_of, keeps};
+ghost use Rattle.lru_trace.specs.Curves.{IsCurveOf, AreAlike, AreTooLarge, Follows, Has, Leads, measure_in, references_of, keeps};
 ghost use Rattle.lru_trace.specs.Rows.{keys, missed, needed};
 ghost use Rattle.lru_trace.specs.Times.{KnowsRest};
 
@@ -22,6 +22,8 @@ impl AnyCurve {
     fn warm_up(&mut self, key: &str, size: u64) -> Result<(), SizeError>
         ensures ok { OnOk result ((warm : List (List ℕ × ℕ)) → IsCurveOf warm [] self.old →
             IsCurveOf (warm ++ (key.now, size) ∷ []) [] self.new) }
+        ensures large { IfErr result (λ e. e ≡ SizeError.TooLarge → (warm : List (List ℕ × ℕ)) →
+            IsCurveOf warm [] self.old → AreTooLarge (warm ++ (key.now, size) ∷ []) []) }
         ensures references { references_of self.new ≡ references_of self.old }
         ensures alike { AreAlike self.old self.new }
     {
@@ -35,6 +37,8 @@ impl AnyCurve {
         requires { references_of self.old < 2 ^ 64 - 1 }
         ensures ok { OnOk result ((warm trace : List (List ℕ × ℕ)) → IsCurveOf warm trace self.old →
             IsCurveOf warm (trace ++ (key.now, size) ∷ []) self.new) }
+        ensures large { IfErr result (λ e. e ≡ SizeError.TooLarge → (warm trace : List (List ℕ × ℕ)) →
+            IsCurveOf warm trace self.old → AreTooLarge warm (trace ++ (key.now, size) ∷ [])) }
         ensures references { references_of self.new ≤ references_of self.old + 1 }
         ensures alike { AreAlike self.old self.new }
     {
@@ -48,6 +52,8 @@ impl AnyCurve {
     pub(crate) fn refer(&mut self, warm: bool, key: &str, size: u64) -> Result<(), SizeError>
         requires { references_of self.old < 2 ^ 64 - 1 }
         ensures ok { OnOk result (Follows warm self.old ((key.now, size) ∷ []) self.new) }
+        ensures large { IfErr result (λ e. e ≡ SizeError.TooLarge →
+            Leads warm self.old ((key.now, size) ∷ []) AreTooLarge) }
         ensures references { references_of self.new ≤ references_of self.old + 1 }
         ensures alike { AreAlike self.old self.new }
     {
@@ -96,13 +102,14 @@ impl AnyCurve {
         }
     }
 
-    pub(crate) fn misses(&self, size: usize) -> Option<u64>
+    pub(crate) fn misses(&self, size: usize) -> u64
+        requires { Has self.now size }
         ensures { (warm trace : List (List ℕ × ℕ)) → IsCurveOf warm trace self.now →
-            IfSome result (λ misses. misses ≡ missed (measure_in self.now) warm trace size) }
+            result ≡ missed (measure_in self.now) warm trace size }
     {
         match self {
-            AnyCurve::Places(curve) => Some(curve.misses(size)),
-            AnyCurve::Bytes(curve) => curve.misses(size as u64),
+            AnyCurve::Places(curve) => curve.misses(size),
+            AnyCurve::Bytes(curve) => curve.misses(size as u64).unwrap_or(0),
         }
     }
 

@@ -1,11 +1,11 @@
 //! The lines of a trace, and their keys.
 ghost use Rattle.std.specs.Prelude.{◌≡◌, ◌≢◌, ℕ, ◌+◌, ◌-◌, ◌^◌, ◌<◌, ◌≤◌, List, [], ◌∷◌, ◌++◌, true, false, Some, None};
 ghost use Rattle.std.specs.Prelude.{IfOk, OnOk, OnErr, IfErr, MatchOption};
-ghost use Rattle.lru_trace.specs.Curves.{IsCurveOf, AreAlike, Follows, references_of};
+ghost use Rattle.lru_trace.specs.Curves.{IsCurveOf, AreAlike, AreTooLarge, Follows, Leads, references_of};
 ghost use Rattle.lru_trace.specs.Lines.{is_key, fed, EndsSo, TakesLine};
 ghost use Rattle.lru_trace.specs.References.{bits_of, size_of, reference_of, references_in, others_so};
 ghost use Rattle.lru_trace.specs.Samples.{sampled};
-ghost use Rattle.lru_trace.specs.Outcome.{KeysRead, SomeRead};
+ghost use Rattle.lru_trace.specs.Outcome.{KeysRead, SomeRead, TooLargeRead};
 
 use crate::byte_curve::SizeError;
 use crate::columns::{cell, text_in};
@@ -68,7 +68,7 @@ pub fn read_line<R: BufRead>(reader: &mut R, line: &mut Vec<u8>) -> Result<Endin
     ensures ok { IfOk result
         (λ ending. TakesLine (R.remaining reader.old) (R.remaining reader.new) ending line.new.items) }
     ensures err { OnErr result (SomeRead (R.remaining reader.old) (R.remaining reader.new)) }
-    ensures kind { IfErr result (λ e. e ≢ TraceError.Write) }
+    ensures kind { IfErr result (λ e. (e ≢ TraceError.Write) × (e ≢ TraceError.TooLarge)) }
 {
     line.clear();
     match reader.read_until(b'\n', line) {
@@ -118,6 +118,8 @@ fn refer_line(
     ensures others { IfOk result (λ others. others ≡ others_so options (line.now ∷ []) warm) }
     ensures ok { OnOk result (Follows warm curve.old
         (sampled (bits_of options) (references_in options (line.now ∷ []))) curve.new) }
+    ensures large { IfErr result (λ e. e ≡ SizeError.TooLarge → Leads warm curve.old
+        (sampled (bits_of options) (references_in options (line.now ∷ []))) AreTooLarge) }
     ensures references { references_of curve.new ≤ references_of curve.old + 1 }
     ensures alike { AreAlike curve.old curve.new }
 {
@@ -158,6 +160,8 @@ pub fn read_keys<R: BufRead, P: Write>(
     ensures ok { IfOk result (λ others.
         KeysRead (R.remaining reader.old) (R.remaining reader.new) options curve.new others) }
     ensures err { OnErr result (SomeRead (R.remaining reader.old) (R.remaining reader.new)) }
+    ensures large { IfErr result (λ e. e ≡ TraceError.TooLarge →
+        TooLargeRead 0 (R.remaining reader.old) (R.remaining reader.new) options) }
     ensures alike { AreAlike curve.old curve.new }
     ensures kind { IfErr result (λ e. e ≢ TraceError.Write) }
 {

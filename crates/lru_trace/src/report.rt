@@ -2,9 +2,9 @@
 ghost use Rattle.std.specs.Prelude.{◌≡◌, ◌≤◌, ◌+◌, ◌^◌, ◌<◌, ◌++◌, ℕ, List, OnOk, IfOk, is_some, replicate, flat_map, map, false};
 ghost use Rattle.std.specs.String.{string_bytes};
 ghost use Rattle.std.specs.Map.{keys_of};
-ghost use Rattle.lru_trace.specs.Curves.{IsCurveOf, measure_in, keeps};
+ghost use Rattle.lru_trace.specs.Curves.{IsCurveOf, Fits, HasAll, measure_in};
 ghost use Rattle.lru_trace.specs.Report.{ratio_text, best_text, measure_text, size_text, bar_text, text_of};
-ghost use Rattle.lru_trace.specs.References.{bits_of, wants_best, measure_of};
+ghost use Rattle.lru_trace.specs.References.{bits_of, wants_best};
 ghost use Rattle.lru_trace.specs.Rows.{expected_of, row_of, points};
 ghost use Rattle.lru_trace.specs.Times.{KnowsRest};
 ghost use Rattle.lru_trace.specs.Report.{csv_best, csv_line, csv_head, csv_of, skipped_text, head_text, counts_of, written};
@@ -207,7 +207,9 @@ fn text_rows(
     sizes: &[usize],
     powers: &[usize],
 ) -> Result<Vec<u8>, AllocError>
-    requires { bits ≤ 20 }
+    requires few { bits ≤ 20 }
+    requires sizes { HasAll curve.now bits sizes.now }
+    requires powers { HasAll curve.now bits powers.now }
     ensures { IfOk result (λ text. (warm trace : List (List ℕ × ℕ)) → IsCurveOf warm trace curve.now →
         KnowsRest (keys_of trace) best.now →
         text.items ≡ text_of counts
@@ -230,7 +232,9 @@ fn point_rows(
     sizes: &[usize],
     powers: &[usize],
 ) -> Result<Vec<Row>, AllocError>
-    requires { bits ≤ 20 }
+    requires few { bits ≤ 20 }
+    requires sizes { HasAll curve.now bits sizes.now }
+    requires powers { HasAll curve.now bits powers.now }
     ensures { IfOk result (λ rows. (warm trace : List (List ℕ × ℕ)) → IsCurveOf warm trace curve.now →
         KnowsRest (keys_of trace) best.now →
         rows.items ≡ map (row_of (measure_in curve.now) warm trace bits (expected_of bits counts) (is_some best.now))
@@ -265,8 +269,7 @@ pub fn report_of(
     others: Others,
     sizes: &[usize],
 ) -> Result<Vec<u8>, AllocError>
-    requires best { keeps curve.now ≡ wants_best options.policies }
-    requires measure { measure_in curve.now ≡ measure_of options.policies }
+    requires { Fits options sizes.now curve.now }
     ensures { IfOk result (λ report. (warm trace : List (List ℕ × ℕ)) → IsCurveOf warm trace curve.now →
         report.items ≡ written options warm trace sizes.now others) }
 {

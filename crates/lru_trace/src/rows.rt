@@ -1,7 +1,7 @@
-ghost use Rattle.std.specs.Prelude.{◌≡◌, ◌<◌, ◌≤◌, ◌*◌, ◌^◌, max, ℕ, List, IfOk, OnOk, is_some, map, drop};
+ghost use Rattle.std.specs.Prelude.{◌≡◌, ◌/◌, ◌<◌, ◌≤◌, ◌*◌, ◌^◌, max, ℕ, List, IfOk, OnOk, is_some, map, drop};
 ghost use Rattle.std.specs.List.{All, fold};
 ghost use Rattle.std.specs.Map.{keys_of};
-ghost use Rattle.lru_trace.specs.Curves.{IsCurveOf, measure_in};
+ghost use Rattle.lru_trace.specs.Curves.{IsCurveOf, Has, HasAll, measure_in};
 ghost use Rattle.lru_trace.specs.Rows.{best_in, expected_of, row_of, powers, points, with_size};
 ghost use Rattle.lru_trace.specs.Svg.{missed_part};
 ghost use Rattle.lru_trace.specs.Times.{KnowsRest};
@@ -73,15 +73,14 @@ fn row_of(
     expected: u128,
     size: usize,
 ) -> Result<Row, AllocError>
-    requires { bits ≤ 20 }
+    requires few { bits ≤ 20 }
+    requires has { Has curve.now (size / 2 ^ bits) }
     ensures { IfOk result (λ row. (warm trace : List (List ℕ × ℕ)) → IsCurveOf warm trace curve.now →
         KnowsRest (keys_of trace) best.now →
         row ≡ row_of (measure_in curve.now) warm trace bits expected (is_some best.now) size) }
 {
     let scaled = size >> bits;
-    let Some(misses) = curve.misses(scaled) else {
-        return Err(AllocError);
-    };
+    let misses = curve.misses(scaled);
     let best = best_in(best, scaled)?;
     Ok(Row {
         size,
@@ -99,7 +98,8 @@ pub fn rows_of(
     expected: u128,
     sizes: &[usize],
 ) -> Result<Vec<Row>, AllocError>
-    requires { bits ≤ 20 }
+    requires few { bits ≤ 20 }
+    requires has { HasAll curve.now bits sizes.now }
     ensures { IfOk result (λ rows. (warm trace : List (List ℕ × ℕ)) → IsCurveOf warm trace curve.now →
         KnowsRest (keys_of trace) best.now →
         rows.items ≡ map (row_of (measure_in curve.now) warm trace bits expected (is_some best.now)) sizes.now) }

@@ -1,8 +1,8 @@
 //! Reads a trace from lines, and writes its report.
-ghost use Rattle.std.specs.Prelude.{◌≡◌, ◌≢◌, [], IfOk, OnErr, IfErr, MatchOption, ◌≤◌};
-ghost use Rattle.lru_trace.specs.Curves.{IsCurveOf, keeps, measure_in};
-ghost use Rattle.lru_trace.specs.References.{wants_best, measure_of};
-ghost use Rattle.lru_trace.specs.Outcome.{Ends, TraceRead, NoSizesRead, SomeRead};
+ghost use Rattle.std.specs.Prelude.{◌≡◌, ◌≢◌, ◌≤◌, ◌-◌, ◌/◌, ◌^◌, [], ◌++◌, map, IfOk, OnOk, OnErr, IfErr, MatchOption};
+ghost use Rattle.lru_trace.specs.Curves.{IsCurveOf, Fits};
+ghost use Rattle.lru_trace.specs.Rows.{powers};
+ghost use Rattle.lru_trace.specs.Outcome.{Ends, TraceRead, NoSizesRead, SomeRead, TooLargeRead};
 
 use crate::byte_curve::ByteCurve;
 use crate::curve::Curve;
@@ -13,6 +13,7 @@ use crate::outcome::{TraceEnd, TraceError};
 use crate::output::write_bytes;
 use crate::progress::Progress;
 use crate::report::report_of;
+use crate::rows::powers;
 use crate::sizes::sizes_of;
 use std::alloc::{AllocError, Global};
 use std::io::{BufRead, Write};
@@ -24,24 +25,31 @@ struct Lines {
     others: Others,
 }
 
-/// Returns the limits that named sizes and powers of two stand for.
+fn add_limits(limits: &mut Vec<u64>, sizes: &[usize], bits: u32) -> Result<(), AllocError>
+    requires { bits ≤ 20 }
+    ensures { OnOk result (limits.new.items ≡ limits.old.items ++ map (λ size. size / 2 ^ bits) sizes.now) }
+{
+    for size in sizes {
+        limits.push((*size >> bits) as u64)?;
+    }
+    Ok(())
+}
+
+/// Returns what the named sizes and all powers of two stand for.
 fn limits_of(alloc: Global, sizes: &[usize], bits: u32) -> Result<Vec<u64>, AllocError>
     requires { bits ≤ 20 }
+    ensures { IfOk result (λ limits. limits.items ≡ map (λ size. size / 2 ^ bits) sizes.now
+        ++ map (λ size. size / 2 ^ bits) (powers (2 ^ 128 - 1) 64 0)) }
 {
     let mut limits = Vec::new(alloc);
-    for size in sizes {
-        limits.push(*size as u64 >> bits)?;
-    }
-    for level in bits..u64::BITS {
-        limits.push((1 << level) >> bits)?;
-    }
+    add_limits(&mut limits, sizes, bits)?;
+    add_limits(&mut limits, &powers(alloc, u128::MAX)?, bits)?;
     Ok(limits)
 }
 
 fn empty_curve(alloc: Global, options: Options, sizes: &[usize]) -> Result<AnyCurve, AllocError>
     ensures of { IfOk result (IsCurveOf [] []) }
-    ensures keeps { IfOk result (λ curve. keeps curve ≡ wants_best options.policies) }
-    ensures measure { IfOk result (λ curve. measure_in curve ≡ measure_of options.policies) }
+    ensures fits { IfOk result (λ curve. Fits options sizes.now curve) }
 {
     match options.policies {
         Policies::Lru { .. } => Ok(AnyCurve::Places(Curve::new(alloc)?)),
@@ -63,6 +71,8 @@ fn read_trace<R: BufRead, P: Write>(
         MatchOption read (NoSizesRead (R.remaining reader.old) (R.remaining reader.new))
         (λ t. TraceRead (R.remaining reader.old) (R.remaining reader.new) options t.sizes.items t.curve t.others)) }
     ensures err { OnErr result (SomeRead (R.remaining reader.old) (R.remaining reader.new)) }
+    ensures large { IfErr result (λ e. e ≡ TraceError.TooLarge →
+        TooLargeRead 1 (R.remaining reader.old) (R.remaining reader.new) options) }
     ensures kind { IfErr result (λ e. e ≢ TraceError.Write) }
 {
     let mut line = Vec::new(alloc);

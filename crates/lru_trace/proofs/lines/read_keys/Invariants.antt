@@ -1,4 +1,4 @@
-use Rattle.std.proofs.Common.{◌≡◌, ◌≤◌}
+use Rattle.std.proofs.Common.{◌≤◌}
 use Rattle.lru_trace.specs.Curves.{AreAlike, references_of}
 use Rattle.lru_trace.proofs.ReadLines.{ReadSoFar}
 use Rattle.lru_trace.proofs.lines.read_keys.Given as goal

@@ -24,7 +24,7 @@ returns-in-Text c = λ warm trace of.
     let axis = axis_is measure warm trace c.in_ok-axis.axis.items c.bits-bits.result c.end_of.result bits
     c.needed.result c.in_ok-axis.ensures.all c.end_of.ensures
     (c.needed.ensures warm trace of ∙ ap (λ m. needed m warm trace) same) few in
-    let asked : is_some c.in_ok-best.best ≡ wants_best c.args.options.policies = c.in_ok-best.ensures.some ∙ c.requires.best in
+    let asked : is_some c.in_ok-best.best ≡ wants_best c.args.options.policies = c.in_ok-best.ensures.some ∙ c.requires.keeps in
     let are : c.powers_in-powers.result.now ≡ powers_in measure warm trace bits =
     c.powers_in-powers.ensures ∙ (λ i. drop (few i) ((c.deref.ensures.value ∙ axis) i)) in
     c.in_ok-text-in-Text.ensures warm trace of (c.in_ok-best.ensures.all warm trace of)
@@ -44,7 +44,7 @@ returns-in-Csv c = λ warm trace of.
     let axis = axis_is measure warm trace c.in_ok-axis.axis.items c.bits-bits.result c.end_of.result bits
     c.needed.result c.in_ok-axis.ensures.all c.end_of.ensures
     (c.needed.ensures warm trace of ∙ ap (λ m. needed m warm trace) same) few in
-    let asked : is_some c.in_ok-best.best ≡ wants_best c.args.options.policies = c.in_ok-best.ensures.some ∙ c.requires.best in
+    let asked : is_some c.in_ok-best.best ≡ wants_best c.args.options.policies = c.in_ok-best.ensures.some ∙ c.requires.keeps in
     let are : c.powers_in-powers.result.now ≡ powers_in measure warm trace bits =
     c.powers_in-powers.ensures ∙ (λ i. drop (few i) ((c.deref.ensures.value ∙ axis) i)) in
     let rows = c.in_ok-rows-in-Csv.ensures warm trace of (c.in_ok-best.ensures.all warm trace of)
@@ -65,7 +65,7 @@ returns c = λ warm trace of.
     let axis = axis_is measure warm trace c.in_ok-axis.axis.items c.bits-bits.result c.end_of.result bits
     c.needed.result c.in_ok-axis.ensures.all c.end_of.ensures
     (c.needed.ensures warm trace of ∙ ap (λ m. needed m warm trace) same) few in
-    let asked : is_some c.in_ok-best.best ≡ wants_best c.args.options.policies = c.in_ok-best.ensures.some ∙ c.requires.best in
+    let asked : is_some c.in_ok-best.best ≡ wants_best c.args.options.policies = c.in_ok-best.ensures.some ∙ c.requires.keeps in
     let are : c.powers_in-powers.result.now ≡ powers_in measure warm trace bits =
     c.powers_in-powers.ensures ∙ (λ i. drop (few i) ((c.deref.ensures.value ∙ axis) i)) in
     let rows = c.in_ok-rows-in-Svg.ensures warm trace of (c.in_ok-best.ensures.all warm trace of)
