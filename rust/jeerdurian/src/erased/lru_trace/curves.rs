@@ -69,10 +69,10 @@ impl AnyCurve {
         }
     }
 
-    pub(crate) fn misses(&self, size: usize) -> Option<u64> {
+    pub(crate) fn misses(&self, size: usize) -> u64 {
         match self {
-            AnyCurve::Places(curve) => Some(curve.misses(size)),
-            AnyCurve::Bytes(curve) => curve.misses(size as u64),
+            AnyCurve::Places(curve) => curve.misses(size),
+            AnyCurve::Bytes(curve) => curve.misses(size as u64).unwrap_or(0),
         }
     }
 

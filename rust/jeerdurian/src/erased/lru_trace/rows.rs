@@ -56,9 +56,7 @@ fn best_in(best: &Option<Best>, size: usize) -> Result<Option<BestMisses>, Alloc
 
 fn row_of(curve: &AnyCurve, best: &Option<Best>, bits: u32, expected: u128, size: usize) -> Result<Row, AllocError> {
     let scaled = size >> bits;
-    let Some(misses) = curve.misses(scaled) else {
-        return Err(AllocError);
-    };
+    let misses = curve.misses(scaled);
     let best = best_in(best, scaled)?;
     Ok(Row { size, expected, misses, best })
 }

@@ -13,6 +13,7 @@ use crate::erased::lru_trace::outcome::{TraceEnd, TraceError};
 use crate::erased::lru_trace::output::write_bytes;
 use crate::erased::lru_trace::progress::Progress;
 use crate::erased::lru_trace::report::report_of;
+use crate::erased::lru_trace::rows::powers;
 use crate::erased::lru_trace::sizes::sizes_of;
 use crate::rattle_std::alloc::{AllocError, Global};
 use crate::rattle_std::io::{BufRead, Write};
@@ -23,15 +24,18 @@ struct Lines {
     others: Others,
 }
 
-/// Returns the limits that named sizes and powers of two stand for.
+fn add_limits(limits: &mut Vec<u64>, sizes: &[usize], bits: u32) -> Result<(), AllocError> {
+    for size in sizes {
+        limits.push((*size >> bits) as u64)?;
+    }
+    Ok(())
+}
+
+/// Returns what the named sizes and all powers of two stand for.
 fn limits_of(alloc: Global, sizes: &[usize], bits: u32) -> Result<Vec<u64>, AllocError> {
     let mut limits = Vec::new(alloc);
-    for size in sizes {
-        limits.push(*size as u64 >> bits)?;
-    }
-    for level in bits..u64::BITS {
-        limits.push((1 << level) >> bits)?;
-    }
+    add_limits(&mut limits, sizes, bits)?;
+    add_limits(&mut limits, &powers(alloc, u128::MAX)?, bits)?;
     Ok(limits)
 }
 
