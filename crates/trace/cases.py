@@ -3,6 +3,7 @@
 NAME.args has the arguments of a case. `rt try --cases cases` and the tests of rust/programs run them."""
 import math
 import pathlib
+import re
 
 HERE = pathlib.Path(__file__).resolve().parent
 FOLDER = HERE / "cases"
@@ -26,6 +27,18 @@ CASES = {
     "columns": b"1 2 3\n" + b"".join(b"%d,k%d,%d\r\n" % (i, i * i % 5, i % 3) for i in range(20))
     + b"alone\n,,\n0,,1\n0,k0\n0," + b"x" * 65 + b",2\n0,k1,2,3\n",
     "steps": b"1 2 4 8\n" + b"".join(b"%d\n" % (i * i % 17) for i in range(200)),
+    "bytes": b"0 1 100 1000 4500 18446744073709551615\n" + b"".join(b"%d,k%d\n" % (i * i % 31 * 37, i * i % 17)
+                                                                    for i in range(200)),
+    "bytes_alone": b"5 3 5\n7,a\n7,a\n7,b\n7,a\n",
+    "bytes_changed": b"1 2 3 9\n1,a\n2,b\n9,a\n0,b\n5,c\n1,a\n",
+    "bytes_large": b"9 10 11\n5,a\n5,b\n20,c\n5,a\n5,b\n0,z\n20,c\n0,z\n5,a\n0,z\n",
+    "bytes_limits": b"18446744073709551615 9223372036854775808 0\n18446744073709551615,a\n0,b\n0,b\n"
+    b"18446744073709551615,a\n00,c\n0,b\n",
+    "bytes_malformed": b"1 20\n" + b"".join(b"%s,k\n" % size for size in
+                                            [b"", b"-1", b"+1", b" 1", b"1 ", b"0x1", b"1.0", b"18446744073709551616", b"x",
+                                             b"99999999999999999999999", b"007", b"7"]) + b"7\n7,\n7,\xff\nalone\n12,k,3\n",
+    "bytes_none": b"1 2\n-,a\n-,b\n",
+    "bytes_too_many": b"1\n18446744073709551615,a\n1,b\n",
 }
 
 BEST = ["one_key_often", "all_different", "cycle", "limits", "no_text", "steps"]
@@ -49,7 +62,6 @@ path{fill:none;stroke-width:28;stroke-linejoin:round;stroke-linecap:round}
 <text class='part' x='820' y='2670'>40 %</text>
 <text class='part' x='820' y='3310'>20 %</text>
 <text class='part' x='820' y='3950'>0 %</text>
-<text class='tick' x='4100' y='4400'>size of the cache, in entries</text>
 <text class='tick' transform='translate(250 2300) rotate(-90)'>references that miss</text>
 """
 LEGEND = {"lru": (900, "LRU"), "min": (2300, "MIN"), "bypass": (3700, "MIN with bypass")}
@@ -84,6 +96,20 @@ def misses(keys, places, warm_up=0):
     return count
 
 
+def misses_within(keys, sizes, limit, warm_up):
+    """Counts the misses behind the warm-up in a list of the newest keys, cut before the first key above the limit."""
+    cache, count = [], 0
+    for now, key in enumerate(keys):
+        if key in cache:
+            cache.remove(key)
+        elif now >= warm_up:
+            count += 1
+        cache.insert(0, key)
+        while sum(sizes[it] for it in cache) > limit:
+            cache.pop()
+    return count
+
+
 def best_misses(keys, places, bypass):
     """Counts the misses of MIN in a plain list, or those of MIN with bypass: it evicts the key that comes last again."""
     def comes(key, after):
@@ -103,10 +129,18 @@ def best_misses(keys, places, bypass):
     return count
 
 
+def cells(lines, column, separator):
+    """Returns a column of the lines, or the lines if there is no column."""
+    if not column:
+        return lines
+    found = [line.split(separator)[column - 1:][:1] for line in lines]
+    return [cell[0] if cell else b"" for cell in found]
+
+
 class Read:
     """What a trace says, or that its first line names no sizes."""
 
-    def __init__(self, trace, column=0, separator=b"", warm_up=0, sample=0):
+    def __init__(self, trace, column=0, separator=b"", warm_up=0, sample=0, size_column=0):
         lines = trace.split(b"\n")
         if lines[-1] == b"":
             lines.pop()
@@ -114,22 +148,27 @@ class Read:
         self.sizes = None
         if all(word.isdigit() and int(word) < 2**64 for word in words):
             self.sizes = [int(word) for word in words]
-        texts = lines[1:]
-        if column:
-            texts = [line.split(separator)[column - 1:][:1] for line in texts]
-            texts = [cells[0] if cells else b"" for cells in texts]
-        self.keys = [line for line in texts if text(line)]
+        texts = cells(lines[1:], column, separator)
+        sizes = cells(lines[1:], size_column, separator) if size_column else [b"1"] * len(texts)
+        read = [(key, int(size)) for key, size in zip(texts, sizes)
+                if text(key) and re.fullmatch(rb"[0-9]+", size) and int(size) < 2**64]
+        self.keys = [key for key, _ in read]
         self.malformed = len(lines) - 1 - len(self.keys)
         hit = [fnv_1a(key) & (1 << sample) - 1 == 0 for key in self.keys]
         self.skipped = hit[warm_up:].count(False) if sample else None
         self.warm_up = sum(hit[:warm_up])
         self.keys = [key for key, is_in in zip(self.keys, hit) if is_in]
+        self.first = dict(reversed([(key, size) for (key, size), is_in in zip(read, hit) if is_in]))
+        self.in_bytes = bool(size_column)
+        self.needed = sum(self.first.values())
+        if self.needed >= 2**64:
+            self.sizes = None
         self.references = len(self.keys) - self.warm_up
         self.different = len(set(self.keys))
         self.scale = 1 << sample
         self.expected = (self.references + (self.skipped or 0)) // self.scale
         self.axis = [1]
-        while self.axis[-1] < max(1, self.different) * self.scale:
+        while self.axis[-1] < min(max(1, self.needed) * self.scale, 2**63):
             self.axis.append(2 * self.axis[-1])
         self.powers = [power for power in self.axis if power >= self.scale]
 
@@ -142,6 +181,8 @@ class Read:
         return max(0, self.expected - missed)
 
     def misses(self, places):
+        if self.in_bytes:
+            return misses_within(self.keys, self.first, places // self.scale, self.warm_up)
         return misses(self.keys, places // self.scale, self.warm_up)
 
     def ratio(self, missed):
@@ -162,7 +203,7 @@ def report(read, best):
     out += "\n" if read.skipped is None else f" skipped {read.skipped}\n"
     for places in read.sizes:
         missed = read.misses(places)
-        out += f"places {places} hits {read.hits(missed)} misses {missed} ratio {read.ratio(missed)}"
+        out += f"{'bytes' if read.in_bytes else 'places'} {places} hits {read.hits(missed)} misses {missed} ratio {read.ratio(missed)}"
         if best:
             out += " min %d bypass %d" % read.best(places)
         out += "\n"
@@ -192,7 +233,9 @@ def svg(read, best):
         assert abs(log - 1000 * math.log2(size)) < 9
         return 900 + log * 6400 // (1000 * octaves)
 
-    out = FRAME + f"<text x='900' y='290'>{read.references} references to {read.different} keys, "
+    out = FRAME + "<text class='tick' x='4100' y='4400'>size of the cache, in "
+    out += "bytes</text>\n" if read.in_bytes else "entries</text>\n"
+    out += f"<text x='900' y='290'>{read.references} references to {read.different} keys, "
     out += f"{read.malformed} malformed lines" + ("" if read.skipped is None else f", {read.skipped} skipped")
     out += "</text>\n"
     for level, size in enumerate(read.axis):
@@ -212,12 +255,13 @@ def svg(read, best):
     return out + "</svg>\n"
 
 
-def write(name, trace, words, form=report, column=0, separator=b",", warm_up=None, sample=None):
+def write(name, trace, words, form=report, column=0, separator=b",", warm_up=None, sample=None, size_column=0):
     """Writes a case with these arguments, of which `words` names no column, no warm-up and no sample."""
-    read = Read(trace, column, separator, warm_up or 0, sample or 0)
+    read = Read(trace, column, separator, warm_up or 0, sample or 0, size_column)
     words = words + (["--warm-up", warm_up] if warm_up is not None else [])
     words += ["--sample", sample] if sample is not None else []
     words += ["--column", column] if column else []
+    words += ["--size-column", size_column] if size_column else []
     words += ["--separator", separator.decode()] if separator != b"," else []
     (FOLDER / name).write_bytes(trace)
     if words:
@@ -226,7 +270,10 @@ def write(name, trace, words, form=report, column=0, separator=b",", warm_up=Non
 
 
 for name, trace in CASES.items():
-    write(name, trace, [])
+    if name.startswith("bytes"):
+        write(name, trace, [], column=0 if name == "bytes_alone" else 2, size_column=1)
+    else:
+        write(name, trace, [])
 for name in BEST:
     write(f"{name}_best", CASES[name], ["--best"])
 for name in FORMS:
@@ -261,4 +308,14 @@ write("limits_sample", CASES["limits"], [], report, sample=1)
 write("limits_sample_none", CASES["limits"], [], report, sample=2)
 write("sizes_alone_sample", CASES["sizes_alone"], [], report, sample=4)
 write("columns_sample", CASES["columns"], ["--csv"], csv, 2, sample=1)
+for name, form in ("csv", csv), ("svg", svg):
+    for trace in "bytes", "bytes_large", "bytes_limits", "bytes_none":
+        write(f"{trace}_{name}", CASES[trace], [f"--{name}"], form, 2, size_column=1)
+write("bytes_warm_up", CASES["bytes"], [], report, 2, warm_up=40, size_column=1)
+write("bytes_changed_warm_up", CASES["bytes_changed"], [], report, 2, warm_up=2, size_column=1)
+write("bytes_sample", CASES["bytes"], [], report, 2, sample=1, size_column=1)
+write("bytes_sample_svg", CASES["bytes"], ["--svg"], svg, 2, warm_up=20, sample=2, size_column=1)
+write("bytes_limits_sample", CASES["bytes_limits"], ["--csv"], csv, 2, sample=1, size_column=1)
+write("bytes_of_semicolons", CASES["bytes"].replace(b",", b";"), [], report, 2, b";", size_column=1)
+write("bytes_of_keys", CASES["columns"], ["--csv"], csv, 2, size_column=3)
 (HERE / "stdout").write_text(report(Read((HERE / "stdin").read_bytes()), True))

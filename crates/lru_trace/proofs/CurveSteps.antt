@@ -5,7 +5,8 @@ use Rattle.std.specs.Prelude.{Option, IfSome, is_some, Vec}
 use Rattle.std.proofs.Common.{set, sum, get_or, Some, None, refl, sym, subst, ap, ◌∙◌, arith}
 use Rattle.std.specs.Prelude.{◌^◌, ◌-◌, not, ◌||◌, nat_eq, nat_le, String, sum_by}
 use Rattle.std.specs.Global.{Global}
-use Rattle.std.specs.Prelude.{Result, Ok, Err, OnOk, OnErr}
+use Rattle.std.specs.Prelude.{Result, Ok, Err, OnOk, OnErr, IfErr}
+use Rattle.std.specs.Result.{IsErr, IsErrAnd}
 use Rattle.std.specs.Set.{remove_key}
 use Rattle.std.proofs.lemmas.Bool.{lt-leb}
 use Rattle.std.proofs.lemmas.Cmp.{nat_eq_equiv}
@@ -279,3 +280,8 @@ on_err (Err e) f p = f p
 pub always_err : {A E P : Type 0} (r : Result A E) → P → OnErr r P
 always_err (Ok x) p = tt
 always_err (Err e) p = p
+
+pub if_passed : {A E : Type 0} {B : Type 0} (r : Result A E) (x y : E) → IsErr r × IsErrAnd r (λ e. e ≡ x) → (x ≡ y → B)
+    → IfErr r (λ e. e ≡ y → B)
+if_passed (Ok a) x y h then = tt
+if_passed (Err e) x y h then = λ is. then (sym h.1 ∙ is)

@@ -2,6 +2,7 @@ pub mod Logs
 pub mod NodeSums
 pub mod Numbered
 pub mod CurveSteps
+pub mod AnyCurves
 pub mod ReadLines
 pub mod Powers
 pub mod Cells
@@ -16,3 +17,4 @@ pub mod SizedCosts
 pub mod SizedSteps
 pub mod SizedKeys
 pub mod SizedRecency
+pub mod SizedTotals

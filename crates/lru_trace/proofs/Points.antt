@@ -1,8 +1,10 @@
 use Rattle.std.proofs.Common.{◌≡◌, ℕ, ◌+◌, ◌<◌, ◌≤◌, List, [], ◌∷◌, ◌++◌, length, take, drop, get_or, sym, ap, ◌∙◌, append_assoc, arith}
-use Rattle.std.specs.Prelude.{◌==◌, if◌then◌else◌}
+use Rattle.std.specs.Prelude.{◌==◌, if◌then◌else◌, nat_lt, Bool, true, false}
 use Rattle.std.proofs.lemmas.Bool.{lt-ltb, le-ltb, eq-eqb, ne_eqb}
 use Rattle.std.proofs.lemmas.List.{at_drop_more, at_drop_all, take_more, take-append-drop, take_all}
-use Rattle.lru_trace.specs.Rows.{with_size}
+use Rattle.std.specs.List.{All, fold}
+use Rattle.std.proofs.lemmas.List.Elements.{All-nil, All-cons, All-head, All-tail}
+use Rattle.lru_trace.specs.Rows.{with_size, points}
 
 module _ (sizes : List ℕ) (n at : ℕ) where
   module _ (within : at < length sizes) where
@@ -35,3 +37,23 @@ module _ (sizes : List ℕ) (n at : ℕ) where
 
   pub comes_last : length sizes ≤ at → take at sizes ++ with_size (drop at sizes) n ≡ sizes ++ n ∷ []
   comes_last all = λ i. take_all at sizes all i ++ at_drop_all (λ l. with_size l n) sizes at all i
+
+module _ (P : ℕ → Type 0) where
+  All-with_size : (n : ℕ) → P n → (sizes : List ℕ) → All P sizes → All P (with_size sizes n)
+  All-with_size n p [] all = All-cons P n [] p all
+  All-with_size n p (size ∷ sizes) all = go (nat_lt size n) (size == n)
+      (All-cons P size (with_size sizes n) (All-head P size sizes all) (All-with_size n p sizes (All-tail P size sizes all)))
+    where
+      go : (t u : Bool) → All P (size ∷ with_size sizes n)
+          → All P (if t then size ∷ with_size sizes n else if u then size ∷ sizes else n ∷ size ∷ sizes)
+      go true u later = later
+      go false true later = all
+      go false false later = All-cons P n (size ∷ sizes) p all
+
+  All-fold : (more sizes : List ℕ) → All P sizes → All P more → All P (fold with_size sizes more)
+  All-fold [] sizes all each = all
+  All-fold (n ∷ more) sizes all each = All-fold more (with_size sizes n)
+      (All-with_size n (All-head P n more each) sizes all) (All-tail P n more each)
+
+  pub All-points : (sizes others : List ℕ) → All P sizes → All P others → All P (points sizes others)
+  All-points sizes others named all = All-fold sizes (fold with_size [] others) (All-fold others [] (All-nil P) all) named

@@ -1,9 +1,9 @@
-use Rattle.std.proofs.Common.{◌≡◌, ℕ, suc, ◌+◌, ◌-◌, ◌*◌, ◌%◌, ◌^◌, ◌≤◌, ◌<◌, List, [], ◌∷◌, ◌++◌, refl, sym, subst, ap, ◌∙◌, arith}
+use Rattle.std.proofs.Common.{◌≡◌, ℕ, Bool, true, false, zero, suc, ◌+◌, ◌-◌, ◌*◌, ◌%◌, ◌^◌, ◌≤◌, ◌<◌, List, [], ◌∷◌, ◌++◌, refl, sym, subst, ap, ◌∙◌, arith}
 use Rattle.std.specs.List.{All}
-use Rattle.std.proofs.lemmas.List.Elements.{All-push}
+use Rattle.std.proofs.lemmas.List.Elements.{All-push, All-nil, All-cons, All-head, All-tail}
 use Rattle.std.proofs.lemmas.Nat.{pow_pos}
 use Rattle.std.specs.Prelude.{nat_le, if◌then◌else◌}
-use Rattle.std.proofs.lemmas.Bool.{lt-leb, le-leb}
+use Rattle.std.proofs.lemmas.Bool.{lt-leb, le-leb, leb-true, leb-false}
 use Rattle.std.proofs.lemmas.Nat.{pow_below}
 use Rattle.std.proofs.Math.Nat.{mod-eq_of_lt}
 use Rattle.lru_trace.specs.Rows.{powers}
@@ -18,7 +18,7 @@ module _ (keys : ℕ) where
   unfolding powers
   no_powers level = refl
 
-  one_power : (count level : ℕ) → powers keys (suc count) level
+  pub one_power : (count level : ℕ) → powers keys (suc count) level
       ≡ 2 ^ level ∷ (if nat_le keys (2 ^ level) then [] else powers keys count (suc level))
   unfolding powers
   one_power count level = refl
@@ -45,3 +45,21 @@ pub All-more : (level power : ℕ) → power ≡ 2 ^ level → (before after : L
     → All (λ n. 0 < n) before → All (λ n. 0 < n) after
 All-more level power is before after e all = subst (All (λ n. 0 < n)) (sym e)
     (All-push (λ n. 0 < n) before power all (subst (λ n. 0 < n) (sym is) (omega (arith, pow_pos level))))
+
+pub fewer_powers : (P : ℕ → Type 0) (most big : ℕ) → most ≤ big → (n level : ℕ) → All P (powers big n level)
+    → All P (powers most n level)
+fewer_powers P most big less zero level all = subst (All P) (sym (no_powers most level)) (All-nil P)
+fewer_powers P most big less (suc n) level all =
+    let first = 2 ^ level in
+    let rest = if nat_le big first then [] else powers big n (suc level) in
+    let there : All P (first ∷ rest) = subst (All P) (one_power big n level) all in
+    subst (All P) (sym (one_power most n level)) (All-cons P first _ (All-head P first rest there)
+    (go (nat_le most first) refl (nat_le big first) refl (fewer_powers P most big less n (suc level))
+    (All-tail P first rest there)))
+  where
+    go : (t : Bool) → nat_le most (2 ^ level) ≡ t → (u : Bool) → nat_le big (2 ^ level) ≡ u
+        → (All P (powers big n (suc level)) → All P (powers most n (suc level)))
+        → All P (if u then [] else powers big n (suc level)) → All P (if t then [] else powers most n (suc level))
+    go true d u e later h = All-nil P
+    go false d false e later h = later h
+    go false d true e later h = absurd (omega (arith, less, leb-false most (2 ^ level) d, leb-true big (2 ^ level) e))

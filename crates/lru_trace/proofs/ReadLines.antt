@@ -1,7 +1,7 @@
 use Rattle.std.proofs.Common.{◌≡◌, ℕ, ◌+◌, ◌<◌, Bool, true, false, cond, List, [], ◌∷◌, ◌++◌, length}
 use Rattle.std.proofs.Common.{take, drop, get_or, ◌==◌, ◌≤◌, ◌-◌, IfSome, zero, suc, Option, Some, None, OnSome, refl, sym, ap, ◌∙◌, subst, arith, append_assoc}
-use Rattle.std.specs.Prelude.{not, nat_lt, if◌then◌else◌, Result, Ok, Err, OnErr}
-use Rattle.std.specs.List.{filter, All}
+use Rattle.std.specs.Prelude.{not, nat_lt, if◌then◌else◌, Result, Ok, Err, OnErr, is_some}
+use Rattle.std.specs.List.{filter, cons_option, All}
 use Rattle.std.specs.Io.{StopsAt}
 use Rattle.std.specs.Io.BufRead.{take_through, drop_through, DropsThrough}
 use Rattle.std.specs.Io.KnownBytes.{Consumes, IsAtEnd}
@@ -10,19 +10,20 @@ use Rattle.std.proofs.lemmas.Bool.{ne_eqb, eqb-true, le-leb}
 use Rattle.std.proofs.lemmas.Bool.{lt-ltb, ltb-true, ltb-false}
 use Rattle.std.proofs.lemmas.Str.{IsUtf8-from_is_utf8, is_utf8-from_IsUtf8}
 use Rattle.std.specs.Str.{IsUtf8, is_utf8}
-use Rattle.std.proofs.lemmas.List.{append-nil, map-append, length-append, take-append-le, drop-append-le, take_all, drop_all, take_more}
+use Rattle.std.proofs.lemmas.List.{append-nil, length-append, take-append-le, drop-append-le, take_all, drop_all, take_more}
 use Rattle.std.proofs.lemmas.List.Elements.{recursion_from_All}
-use Rattle.std.proofs.lemmas.List.Elements.{filter-append}
-use Rattle.lru_trace.specs.Counted.{Counted, IsOf, Follows}
+use Rattle.std.proofs.lemmas.List.Elements.{filter-append, filter_map-append}
+use Rattle.lru_trace.specs.Curves.{IsCurveOf, AreTooLarge, Follows, Leads}
+use Rattle.lru_trace.specs.declared.curves.AnyCurve.{AnyCurve}
 use Rattle.lru_trace.specs.Lines.{lines_of, onto_first, fed, LacksFeed, EndsSo, TakesRest, TakesLine, is_key}
-use Rattle.lru_trace.specs.Lines.{text_in, texts_of, trace_of, malformed_in}
 use Rattle.lru_trace.specs.declared.options.Options.{Options}
-use Rattle.lru_trace.specs.References.{keys_read, warm_in, counted_in, others_in, others_so, warm_up_of, bits_of}
+use Rattle.lru_trace.specs.References.{reference_of, references_in, malformed_in, warm_in, counted_in, others_in, others_so}
+use Rattle.lru_trace.specs.References.{warm_up_of, bits_of}
 use Rattle.lru_trace.specs.declared.lines.Others.{Others}
 use Rattle.lru_trace.specs.Samples.{sampled, skipped, is_sampled}
 use Rattle.lru_trace.specs.declared.lines.Ending.{Ending}
 use Rattle.lru_trace.specs.declared.lines.Ending.TheVariants as endings
-use Rattle.lru_trace.specs.Outcome.{KeysRead}
+use Rattle.lru_trace.specs.Outcome.{KeysRead, TooLargeRead}
 
 pub lines_of-fed : (line rest : List ℕ) → LacksFeed line
     → lines_of (fed line ++ rest) ≡ line ∷ lines_of rest
@@ -115,20 +116,20 @@ some_part (Ok x) a b c bytes more p q = tt
 some_part (Err e) a b c bytes more p q = (bytes ++ more, Consumes-trans a b c bytes more p q)
 
 -- `lines` whole lines were read.
-pub record ReadSoFar (from to : Option (List ℕ)) (options : Options) (curve : Counted) (lines : ℕ) (others : Others)
+pub record ReadSoFar (from to : Option (List ℕ)) (options : Options) (curve : AnyCurve) (lines : ℕ) (others : Others)
     : Type 0 where
   pub bytes : List ℕ
   pub whole : (rest : List ℕ) → lines_of (bytes ++ rest) ≡ lines_of bytes ++ lines_of rest
   pub reads : Consumes from to bytes
-  pub curve_of : IsOf (warm_in options (lines_of bytes)) (counted_in options (lines_of bytes)) curve
+  pub curve_of : IsCurveOf (warm_in options (lines_of bytes)) (counted_in options (lines_of bytes)) curve
   pub left_out : others ≡ others_in options (lines_of bytes)
-  pub all : lines ≡ others.malformed + length (keys_read options (lines_of bytes))
+  pub all : lines ≡ others.malformed + length (references_in options (lines_of bytes))
 
-pub nothing_read : (options : Options) (curve : Counted) → IsOf [] [] curve
-    → IsOf (warm_in options []) (counted_in options []) curve
+pub nothing_read : (options : Options) (curve : AnyCurve) → IsCurveOf [] [] curve
+    → IsCurveOf (warm_in options []) (counted_in options []) curve
 nothing_read options curve is =
-    subst (λ ks. IsOf (sampled bits ks) (sampled bits (drop w [])) curve) (sym (take_all w [] (omega arith)))
-    (subst (λ ks. IsOf [] (sampled bits ks) curve) (sym (drop_all w [] (omega arith))) is)
+    subst (λ ks. IsCurveOf (sampled bits ks) (sampled bits (drop w [])) curve) (sym (take_all w [] (omega arith)))
+    (subst (λ ks. IsCurveOf [] (sampled bits ks) curve) (sym (drop_all w [] (omega arith))) is)
   where
     bits : ℕ
     bits = bits_of options
@@ -142,7 +143,7 @@ none_left_out options = λ i. record {
   skipped = ap (skipped (bits_of options)) (sym (drop_all (warm_up_of options.policies) [] (omega arith))) i;
 }
 
-pub none_read : (from : Option (List ℕ)) (options : Options) (curve : Counted) → IsOf [] [] curve
+pub none_read : (from : Option (List ℕ)) (options : Options) (curve : AnyCurve) → IsCurveOf [] [] curve
     → ReadSoFar from from options curve 0 (record { malformed = 0; skipped = 0 })
 none_read from options curve is = record {
   bytes = [];
@@ -156,11 +157,11 @@ none_read from options curve is = record {
 abbrev pub both : Others → Others → Others
 both a b = record { malformed = a.malformed + b.malformed; skipped = a.skipped + b.skipped }
 
-filtered_more : (p : List ℕ → Bool) (xs ys : List (List ℕ))
+filtered_more : {X : Type 0} (p : X → Bool) (xs ys : List X)
     → length (filter p (xs ++ ys)) ≡ length (filter p xs) + length (filter p ys)
 filtered_more p xs ys = ap length (filter-append p xs ys) ∙ length-append (filter p xs) (filter p ys)
 
-skipped_more : (bits w : ℕ) (keys more : List (List ℕ)) → length more ≤ 1 → (warm : Bool)
+skipped_more : (bits w : ℕ) (keys more : List (List ℕ × ℕ)) → length more ≤ 1 → (warm : Bool)
     → warm ≡ nat_lt (length keys) w
     → skipped bits (drop w (keys ++ more)) ≡ skipped bits (drop w keys) + (if warm then 0 else skipped bits more)
 skipped_more bits w keys more few true is =
@@ -169,88 +170,80 @@ skipped_more bits w keys more few true is =
     ∙ ap (λ ks. skipped bits ks + 0) (sym (drop_all w keys (omega (arith, less))))
 skipped_more bits w keys more few false is =
     ap (skipped bits) (drop-append-le w keys more (ltb-false (length keys) w (sym is)))
-    ∙ filtered_more (λ key. not (is_sampled bits key)) (drop w keys) more
+    ∙ filtered_more (λ key. not (is_sampled bits key.0)) (drop w keys) more
 
 module _ (options : Options) (lines : List (List ℕ)) (line : List ℕ) where
-  texts_more : texts_of options.column (lines ++ line ∷ [])
-      ≡ texts_of options.column lines ++ texts_of options.column (line ∷ [])
-  texts_more = map-append (text_in options.column) lines (line ∷ [])
+  references_more : references_in options (lines ++ line ∷ [])
+      ≡ references_in options lines ++ references_in options (line ∷ [])
+  references_more = filter_map-append (reference_of options) lines (line ∷ [])
 
-  keys_more : keys_read options (lines ++ line ∷ []) ≡ keys_read options lines ++ keys_read options (line ∷ [])
-  keys_more = ap trace_of texts_more
-      ∙ filter-append is_key (texts_of options.column lines) (texts_of options.column (line ∷ []))
-
-  one_line : malformed_in (texts_of options.column (line ∷ [])) + length (keys_read options (line ∷ [])) ≡ 1
-  one_line = split (is_key (text_in options.column line))
+  one_line : malformed_in options (line ∷ []) + length (references_in options (line ∷ [])) ≡ 1
+  one_line = split (reference_of options line)
     where
-      split : (t : Bool) → length (cond (not t) (text_in options.column line ∷ []) [])
-          + length (cond t (text_in options.column line ∷ []) []) ≡ 1
-      split true = refl
-      split false = refl
+      split : (r : Option (List ℕ × ℕ)) → length (cond (not (is_some r)) (line ∷ []) []) + length (cons_option r []) ≡ 1
+      split (Some r) = refl
+      split None = refl
 
-  others_more : (warm : Bool) → warm ≡ nat_lt (length (keys_read options lines)) (warm_up_of options.policies)
+  others_more : (warm : Bool) → warm ≡ nat_lt (length (references_in options lines)) (warm_up_of options.policies)
       → others_in options (lines ++ line ∷ []) ≡ both (others_in options lines) (others_so options (line ∷ []) warm)
   others_more warm is = λ i. record {
-    malformed = (ap malformed_in texts_more ∙ filtered_more (λ text. not (is_key text)) (texts_of options.column lines)
-        (texts_of options.column (line ∷ []))) i;
-    skipped = (ap (λ ks. skipped (bits_of options) (drop (warm_up_of options.policies) ks)) keys_more
-        ∙ skipped_more (bits_of options) (warm_up_of options.policies) (keys_read options lines)
-        (keys_read options (line ∷ [])) (omega (arith, one_line)) warm is) i;
+    malformed = filtered_more (λ line. not (is_some (reference_of options line))) lines (line ∷ []) i;
+    skipped = (ap (λ ks. skipped (bits_of options) (drop (warm_up_of options.policies) ks)) references_more
+        ∙ skipped_more (bits_of options) (warm_up_of options.policies) (references_in options lines)
+        (references_in options (line ∷ [])) (omega (arith, one_line)) warm is) i;
   }
 
 pub few_others : (options : Options) (line : List ℕ) (warm : Bool)
     → ((others_so options (line ∷ []) warm).malformed ≤ 1) × ((others_so options (line ∷ []) warm).skipped ≤ 1)
-few_others options line warm = (few (λ text. not (is_key text)) (text_in options.column line), only warm)
+few_others options line warm = (few (λ line. not (is_some (reference_of options line))) line, only warm)
   where
-    key : List ℕ
-    key = text_in options.column line
-
-    few : (p : List ℕ → Bool) (x : List ℕ) → length (filter p (x ∷ [])) ≤ 1
+    few : {X : Type 0} (p : X → Bool) (x : X) → length (filter p (x ∷ [])) ≤ 1
     few p x = go (p x)
       where
         go : (t : Bool) → length (cond t (x ∷ []) []) ≤ 1
         go true = omega arith
         go false = omega arith
 
-    go : (t : Bool) → skipped (bits_of options) (cond t (key ∷ []) []) ≤ 1
-    go true = few (λ key. not (is_sampled (bits_of options) key)) key
-    go false = omega arith
+    go : (r : Option (List ℕ × ℕ)) → skipped (bits_of options) (cons_option r []) ≤ 1
+    go (Some key) = few (λ key. not (is_sampled (bits_of options) key.0)) key
+    go None = omega arith
 
     only : (warm : Bool) → (others_so options (line ∷ []) warm).skipped ≤ 1
     only true = omega arith
-    only false = go (is_key key)
+    only false = go (reference_of options line)
 
-module _ (bits w : ℕ) (keys more : List (List ℕ)) (few : length more ≤ 1) (old new : Counted) (is_warm : Bool)
-    (is : is_warm ≡ nat_lt (length keys) w) (follows : Follows is_warm old (sampled bits more) new) where
-  one_more : IsOf (sampled bits (take w keys)) (sampled bits (drop w keys)) old
-      → IsOf (sampled bits (take w (keys ++ more))) (sampled bits (drop w (keys ++ more))) new
+module _ (bits w : ℕ) (keys more : List (List ℕ × ℕ)) (few : length more ≤ 1) (old : AnyCurve)
+    (Holds : List (List ℕ × ℕ) → List (List ℕ × ℕ) → Type 0) (is_warm : Bool)
+    (is : is_warm ≡ nat_lt (length keys) w) (follows : Leads is_warm old (sampled bits more) Holds) where
+  one_more : IsCurveOf (sampled bits (take w keys)) (sampled bits (drop w keys)) old
+      → Holds (sampled bits (take w (keys ++ more))) (sampled bits (drop w (keys ++ more)))
   one_more of = go is_warm refl
     where
       go : (b : Bool) → is_warm ≡ b
-          → IsOf (sampled bits (take w (keys ++ more))) (sampled bits (drop w (keys ++ more))) new
+          → Holds (sampled bits (take w (keys ++ more))) (sampled bits (drop w (keys ++ more)))
       go true e =
           let less = ltb-true (length keys) w (sym is ∙ e) in
           let short : length (keys ++ more) ≤ w = omega (arith, less, few, length-append keys more) in
-          subst (λ ks. IsOf (sampled bits ks) (sampled bits (drop w (keys ++ more))) new)
+          subst (λ ks. Holds (sampled bits ks) (sampled bits (drop w (keys ++ more))))
           (sym (take_all w (keys ++ more) short))
-          (subst (λ ks. IsOf (sampled bits (keys ++ more)) (sampled bits ks) new)
+          (subst (λ ks. Holds (sampled bits (keys ++ more)) (sampled bits ks))
           (sym (drop_all w (keys ++ more) short))
-          (subst (λ ks. IsOf ks [] new) (sym (filter-append (is_sampled bits) keys more))
+          (subst (λ ks. Holds ks []) (sym (filter-append (λ key. is_sampled bits key.0) keys more))
           (follows.warmed e (sampled bits keys)
-          (subst (λ ks. IsOf (sampled bits ks) [] old) (take_all w keys (omega (arith, less)))
-          (subst (λ ks. IsOf (sampled bits (take w keys)) (sampled bits ks) old)
+          (subst (λ ks. IsCurveOf (sampled bits ks) [] old) (take_all w keys (omega (arith, less)))
+          (subst (λ ks. IsCurveOf (sampled bits (take w keys)) (sampled bits ks) old)
           (drop_all w keys (omega (arith, less))) of)))))
       go false e =
           let long = ltb-false (length keys) w (sym is ∙ e) in
-          subst (λ ks. IsOf (sampled bits ks) (sampled bits (drop w (keys ++ more))) new)
+          subst (λ ks. Holds (sampled bits ks) (sampled bits (drop w (keys ++ more))))
           (sym (take-append-le w keys more long))
-          (subst (λ ks. IsOf (sampled bits (take w keys)) (sampled bits ks) new)
+          (subst (λ ks. Holds (sampled bits (take w keys)) (sampled bits ks))
           (sym (drop-append-le w keys more long))
-          (subst (λ ks. IsOf (sampled bits (take w keys)) ks new)
-          (sym (filter-append (is_sampled bits) (drop w keys) more))
+          (subst (λ ks. Holds (sampled bits (take w keys)) ks)
+          (sym (filter-append (λ key. is_sampled bits key.0) (drop w keys) more))
           (follows.counted e (sampled bits (take w keys)) (sampled bits (drop w keys)) of)))
 
-module _ {from mid : Option (List ℕ)} {options : Options} {old : Counted} {lines : ℕ} {others : Others}
+module _ {from mid : Option (List ℕ)} {options : Options} {old : AnyCurve} {lines : ℕ} {others : Others}
     (so_far : ReadSoFar from mid options old lines others)
     (to : Option (List ℕ)) (line : List ℕ) where
   pub all_read : TakesRest mid to line → line ≡ [] → KeysRead from to options old others
@@ -258,7 +251,7 @@ module _ {from mid : Option (List ℕ)} {options : Options} {old : Counted} {lin
     input = so_far.bytes ++ line;
     reads = Consumes-trans from mid to so_far.bytes line so_far.reads taken.1;
     at_end = ended_before from mid to so_far.bytes so_far.reads taken.2;
-    curve_of = subst (λ ls. IsOf (warm_in options ls) (counted_in options ls) old) same so_far.curve_of;
+    curve_of = subst (λ ls. IsCurveOf (warm_in options ls) (counted_in options ls) old) same so_far.curve_of;
     left_out = so_far.left_out ∙ ap (others_in options) same;
   }
     where
@@ -271,61 +264,94 @@ module _ {from mid : Option (List ℕ)} {options : Options} {old : Counted} {lin
   abbrev bits : ℕ
   bits = bits_of options
 
-  abbrev it : List (List ℕ)
-  it = keys_read options (line ∷ [])
+  abbrev it : List (List ℕ × ℕ)
+  it = references_in options (line ∷ [])
 
-  module _ (new : Counted) (is_warm : Bool) (is : is_warm ≡ nat_lt (lines - others.malformed) w)
-      (follows : Follows is_warm old (sampled bits it) new) where
-    abbrev more : Others
+  fed_lines : LacksFeed line → (rest : List ℕ)
+      → lines_of (so_far.bytes ++ (fed line ++ rest)) ≡ lines_of so_far.bytes ++ (line ∷ lines_of rest)
+  fed_lines lacks rest =
+      so_far.whole (fed line ++ rest) ∙ ap (λ ls. lines_of so_far.bytes ++ ls) (lines_of-fed line rest lacks)
+
+  fed_line : LacksFeed line → lines_of (so_far.bytes ++ fed line) ≡ lines_of so_far.bytes ++ line ∷ []
+  fed_line lacks = ap (λ bs. lines_of (so_far.bytes ++ bs)) (sym (append-nil (fed line))) ∙ fed_lines lacks []
+
+  last_line : LacksFeed line → 0 < length line → lines_of (so_far.bytes ++ line) ≡ lines_of so_far.bytes ++ line ∷ []
+  last_line lacks some = so_far.whole line ∙ ap (λ ls. lines_of so_far.bytes ++ ls) (lines_of-last line lacks some)
+
+  module _ (is_warm : Bool) (is : is_warm ≡ nat_lt (lines - others.malformed) w) where
+    warms : is_warm ≡ nat_lt (length (references_in options (lines_of so_far.bytes))) w
+    warms =
+        let read : lines - others.malformed ≡ length (references_in options (lines_of so_far.bytes)) =
+        omega (arith, so_far.all) in
+        is ∙ ap (λ n. nat_lt n w) read
+
+    longer : (bytes : List ℕ) → lines_of bytes ≡ lines_of so_far.bytes ++ line ∷ []
+        → references_in options (lines_of so_far.bytes) ++ it ≡ references_in options (lines_of bytes)
+    longer bytes same =
+        sym (ap (references_in options) same ∙ references_more options (lines_of so_far.bytes) line)
+
+    holds : (Holds : List (List ℕ × ℕ) → List (List ℕ × ℕ) → Type 0) → Leads is_warm old (sampled bits it) Holds
+        → (bytes : List ℕ) → lines_of bytes ≡ lines_of so_far.bytes ++ line ∷ []
+        → Holds (warm_in options (lines_of bytes)) (counted_in options (lines_of bytes))
+    holds Holds follows bytes same =
+        let before = lines_of so_far.bytes in
+        let one = one_line options before line in
+        subst (λ ks. Holds (sampled bits (take w ks)) (sampled bits (drop w ks))) (longer bytes same)
+        (one_more bits w (references_in options before) it (omega (arith, one)) old Holds is_warm warms follows
+        so_far.curve_of)
+
+    module _ (follows : Leads is_warm old (sampled bits it) AreTooLarge) where
+      pub large_line : TakesLine mid to endings.Feed line → TooLargeRead 0 from to options
+      large_line taken = record {
+        input = so_far.bytes ++ fed line;
+        reads = Consumes-trans from mid to so_far.bytes (fed line) so_far.reads taken.1;
+        large = holds AreTooLarge follows (so_far.bytes ++ fed line) (fed_line taken.0);
+      }
+
+      pub large_last : TakesRest mid to line → 0 < length line → TooLargeRead 0 from to options
+      large_last taken some = record {
+        input = so_far.bytes ++ line;
+        reads = Consumes-trans from mid to so_far.bytes line so_far.reads taken.1;
+        large = holds AreTooLarge follows (so_far.bytes ++ line) (last_line taken.0 some);
+      }
+
+    abbrev pub more : Others
     more = both others (others_so options (line ∷ []) is_warm)
 
-    counted : (bytes : List ℕ) → lines_of bytes ≡ lines_of so_far.bytes ++ line ∷ []
-        → IsOf (warm_in options (lines_of bytes)) (counted_in options (lines_of bytes)) new
-        × (more ≡ others_in options (lines_of bytes))
-        × (lines + 1 ≡ more.malformed + length (keys_read options (lines_of bytes)))
-    counted bytes same =
-        let before = lines_of so_far.bytes in
-        let keys = keys_read options before in
-        let longer : keys ++ it ≡ keys_read options (lines_of bytes) =
-        sym (ap (keys_read options) same ∙ keys_more options before line) in
-        let read : lines - others.malformed ≡ length keys = omega (arith, so_far.all) in
-        let one = one_line options before line in
-        let warms : is_warm ≡ nat_lt (length keys) w = is ∙ ap (λ n. nat_lt n w) read in (
-          subst (λ ks. IsOf (sampled bits (take w ks)) (sampled bits (drop w ks)) new) longer
-              (one_more bits w keys it (omega (arith, one)) old new is_warm warms follows so_far.curve_of),
-          ap (λ o. both o (others_so options (line ∷ []) is_warm)) so_far.left_out
-              ∙ sym (others_more options before line is_warm warms) ∙ ap (others_in options) (sym same),
-          omega (arith, so_far.all, one, sym (ap length longer), length-append keys it),
-        )
+    left : (bytes : List ℕ) → lines_of bytes ≡ lines_of so_far.bytes ++ line ∷ [] → more ≡ others_in options (lines_of bytes)
+    left bytes same = ap (λ o. both o (others_so options (line ∷ []) is_warm)) so_far.left_out
+        ∙ sym (others_more options (lines_of so_far.bytes) line is_warm warms) ∙ ap (others_in options) (sym same)
 
-    pub line_read : TakesLine mid to endings.Feed line → ReadSoFar from to options new (lines + 1) more
-    line_read taken =
-        let one : (rest : List ℕ) → lines_of (so_far.bytes ++ (fed line ++ rest))
-        ≡ lines_of so_far.bytes ++ (line ∷ lines_of rest) = λ rest. so_far.whole (fed line ++ rest)
-        ∙ ap (λ ls. lines_of so_far.bytes ++ ls) (lines_of-fed line rest taken.0) in
-        let is : lines_of (so_far.bytes ++ fed line) ≡ lines_of so_far.bytes ++ line ∷ []
-        = ap (λ bs. lines_of (so_far.bytes ++ bs)) (sym (append-nil (fed line))) ∙ one [] in
-        let count = counted (so_far.bytes ++ fed line) is in
-        record {
-          bytes = so_far.bytes ++ fed line;
-          whole = λ rest. ap lines_of (append_assoc so_far.bytes (fed line) rest) ∙ one rest
-              ∙ sym (append_assoc (lines_of so_far.bytes) (line ∷ []) (lines_of rest))
-              ∙ ap (λ ls. ls ++ lines_of rest) (sym is);
-          reads = Consumes-trans from mid to so_far.bytes (fed line) so_far.reads taken.1;
-          curve_of = count.0;
-          left_out = count.1;
-          all = count.2;
-        }
+    module _ (new : AnyCurve) (follows : Follows is_warm old (sampled bits it) new) where
+      pub line_read : TakesLine mid to endings.Feed line → ReadSoFar from to options new (lines + 1) more
+      line_read taken =
+          let before = lines_of so_far.bytes in
+          let bytes = so_far.bytes ++ fed line in
+          let same = fed_line taken.0 in
+          record {
+            bytes = bytes;
+            whole = λ rest. ap lines_of (append_assoc so_far.bytes (fed line) rest) ∙ fed_lines taken.0 rest
+                ∙ sym (append_assoc before (line ∷ []) (lines_of rest)) ∙ ap (λ ls. ls ++ lines_of rest) (sym same);
+            reads = Consumes-trans from mid to so_far.bytes (fed line) so_far.reads taken.1;
+            curve_of = holds (λ w t. IsCurveOf w t new) follows bytes same;
+            left_out = left bytes same;
+            all = omega (
+              arith,
+              so_far.all,
+              one_line options before line,
+              sym (ap length (longer bytes same)),
+              length-append (references_in options before) it,
+            );
+          }
 
-    pub last_read : TakesRest mid to line → 0 < length line → KeysRead from to options new more
-    last_read taken some =
-        let is : lines_of (so_far.bytes ++ line) ≡ lines_of so_far.bytes ++ line ∷ []
-        = so_far.whole line ∙ ap (λ ls. lines_of so_far.bytes ++ ls) (lines_of-last line taken.0 some) in
-        let count = counted (so_far.bytes ++ line) is in
-        record {
-          input = so_far.bytes ++ line;
-          reads = Consumes-trans from mid to so_far.bytes line so_far.reads taken.1;
-          at_end = ended_before from mid to so_far.bytes so_far.reads taken.2;
-          curve_of = count.0;
-          left_out = count.1;
-        }
+      pub last_read : TakesRest mid to line → 0 < length line → KeysRead from to options new more
+      last_read taken some =
+          let bytes = so_far.bytes ++ line in
+          let same = last_line taken.0 some in
+          record {
+            input = bytes;
+            reads = Consumes-trans from mid to so_far.bytes line so_far.reads taken.1;
+            at_end = ended_before from mid to so_far.bytes so_far.reads taken.2;
+            curve_of = holds (λ w t. IsCurveOf w t new) follows bytes same;
+            left_out = left bytes same;
+          }

@@ -13,7 +13,7 @@ module _ (number : List ℕ → Option ℕ)
     (apart : (a b : List ℕ) (n : ℕ) → number a ≡ Some n → number b ≡ Some n → a ≡ b) where
   module _ (cost : List ℕ → ℕ) (weight : ℕ → ℕ)
       (same : (x : List ℕ) (n : ℕ) → number x ≡ Some n → cost x ≡ weight n) where
-    sum_named : (xs : List (List ℕ)) (ns : List ℕ) → Named number xs ns → sum_by cost xs ≡ sum_by weight ns
+    pub sum_named : (xs : List (List ℕ)) (ns : List ℕ) → Named number xs ns → sum_by cost xs ≡ sum_by weight ns
     sum_named [] [] h = refl
     sum_named [] (k ∷ ns) h = absurd h
     sum_named (y ∷ xs) [] h = absurd h

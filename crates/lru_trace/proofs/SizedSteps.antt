@@ -39,7 +39,7 @@ module _ (limits : List ℕ) (need : ℕ) where
       ∙ sym (lt-ltb (get_or limits i 0) need (before i (omega (arith, inside, past))))
 
 module _ {K X : Type 0} (test : K → Bool) where
-  found_still : (xs ys : List (K × X)) (v : X) → lookup test xs ≡ Some v → lookup test (xs ++ ys) ≡ Some v
+  pub found_still : (xs ys : List (K × X)) (v : X) → lookup test xs ≡ Some v → lookup test (xs ++ ys) ≡ Some v
   found_still [] ys v e = absurd cc
   found_still ((k, x) ∷ xs) ys v e = go (test k) e (found_still xs ys v)
     where
@@ -123,6 +123,14 @@ module _ {warm trace : List (List ℕ × ℕ)} {old : Sized} (of : IsSizedOf war
     all = of.all;
   }
 
+  pub first_is : (key : List ℕ) (bytes : ℕ) → number key ≡ None
+      → first_size ((warm ++ trace) ++ (key, bytes) ∷ []) key ≡ Some bytes
+  first_is key bytes absent =
+      not_found (bytes_eq key) (warm ++ trace) ((key, bytes) ∷ []) (not_found (bytes_eq key) warm trace
+      (none_in number key absent warm of.before (named_from number (keys_of warm) of.before of.warmed))
+      ∙ none_in number key absent trace of.numbers (named_from number (keys_of trace) of.numbers of.named))
+      ∙ ap (λ b. cond b (Some bytes) None) ((bytes_eq-Decides key key).1 refl)
+
   module _ (key : List ℕ) (bytes : ℕ) (need : Option ℕ) (new : Sized) (made : Made key bytes need old new) where
     abbrev one : List (List ℕ × ℕ)
     one = (key, bytes) ∷ []
@@ -139,14 +147,10 @@ module _ {warm trace : List (List ℕ × ℕ)} {old : Sized} (of : IsSizedOf war
         go None is =
             let is_key : other ≡ key = made.only other n e is in
             let absent : number key ≡ None = ap number (sym is_key) ∙ is in
-            let unnamed = not_found (bytes_eq key) warm trace
-            (none_in number key absent warm of.before (named_from number (keys_of warm) of.before of.warmed))
-            ∙ none_in number key absent trace of.numbers (named_from number (keys_of trace) of.numbers of.named) in
             let same : made.number ≡ n =
             same_Some made.number n (sym made.named ∙ ap (number_in new.names) (sym is_key) ∙ e) in
             ap (first_size ((warm ++ trace) ++ one)) is_key
-            ∙ not_found (bytes_eq key) (warm ++ trace) one unnamed
-            ∙ ap (λ b. cond b (Some bytes) None) ((bytes_eq-Decides key key).1 refl)
+            ∙ first_is key bytes absent
             ∙ ap Some (sym (made.first absent)) ∙ ap (λ k. Some (weight_in new.sizes k)) same
 
     pub of_counted : (at : ℕ) → at < length old.counts

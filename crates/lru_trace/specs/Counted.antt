@@ -1,5 +1,5 @@
 -- The curve of a trace, as its references are counted.
-use Rattle.std.specs.Prelude.{◌≡◌, ℕ, ◌+◌, ◌≤◌, ◌<◌, Bool, true, false, List, [], ◌++◌, length, map, take, sum, Option, Some, IfSome, nat_eq, String}
+use Rattle.std.specs.Prelude.{◌≡◌, ℕ, ◌+◌, ◌≤◌, ◌<◌, List, [], length, map, take, sum, Option, Some, IfSome, nat_eq, String}
 use Rattle.std.specs.Global.{Global}
 use Rattle.std.specs.Map.{lookup}
 use Rattle.std.specs.Str.{bytes_eq}
@@ -35,11 +35,6 @@ pub record IsOf (warm trace : List (List ℕ)) (curve : Counted) : Type 0 where
   pub hits : (n : ℕ) → misses nat_eq n (past_after [] before) numbers + sum (take n curve.counts) ≡ curve.references
   pub all : curve.references ≡ length trace
   pub kept : IfSome curve.kept (λ kept. kept ≡ numbers)
-
--- A curve was `old`, and is `new` after these references. If `is_warm` is false, they are counted.
-pub record Follows (is_warm : Bool) (old : Counted) (references : List (List ℕ)) (new : Counted) : Type 0 where
-  pub counted : is_warm ≡ false → (warm trace : List (List ℕ)) → IsOf warm trace old → IsOf warm (trace ++ references) new
-  pub warmed : is_warm ≡ true → (warm : List (List ℕ)) → IsOf warm [] old → IsOf (warm ++ references) [] new
 
 pub record IsCounted (names : List (String Global × ℕ)) (recent : Recent) (counts : List ℕ) (first references : ℕ)
     : Type 0 where

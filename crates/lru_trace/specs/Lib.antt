@@ -11,3 +11,4 @@ pub mod Report
 pub mod Outcome
 pub mod Times
 pub mod Sized
+pub mod Curves

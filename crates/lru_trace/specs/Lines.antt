@@ -1,7 +1,7 @@
 -- The lines of a trace, and their keys.
-use Rattle.std.specs.Prelude.{◌≡◌, ◌≢◌, ℕ, ◌<◌, Bool, not, ◌&&◌, nat_lt, nat_le, List, [], ◌∷◌, ◌++◌, length, ◌==◌}
-use Rattle.std.specs.Prelude.{if◌then◌else◌, zero, suc, map, Option, OnSome, Some, None}
-use Rattle.std.specs.List.{filter, AllByRecursion}
+use Rattle.std.specs.Prelude.{◌≡◌, ◌≢◌, ℕ, ◌<◌, Bool, ◌&&◌, nat_lt, nat_le, List, [], ◌∷◌, ◌++◌, length, ◌==◌}
+use Rattle.std.specs.Prelude.{if◌then◌else◌, zero, suc, Option, OnSome, Some, None}
+use Rattle.std.specs.List.{AllByRecursion}
 use Rattle.std.specs.Io.KnownBytes.{Consumes, IsAtEnd}
 use Rattle.std.specs.Str.{is_utf8}
 use Rattle.lru_trace.specs.declared.options.Column.{Column}
@@ -59,14 +59,5 @@ abbrev pub text_in : Option Column → List ℕ → List ℕ
 text_in None line = line
 text_in (Some column) line = cell column.separator column.index line
 
-abbrev pub texts_of : Option Column → List (List ℕ) → List (List ℕ)
-texts_of column lines = map (text_in column) lines
-
 abbrev pub is_key : List ℕ → Bool
 is_key text = nat_lt 0 (length text) && (nat_le (length text) 64 && is_utf8 text)
-
-abbrev pub trace_of : List (List ℕ) → List (List ℕ)
-trace_of texts = filter is_key texts
-
-abbrev pub malformed_in : List (List ℕ) → ℕ
-malformed_in texts = length (filter (λ text. not (is_key text)) texts)

@@ -1,30 +1,33 @@
 -- How a trace ends: what was read and written.
-use Rattle.std.specs.Prelude.{◌≡◌, ℕ, ◌≤◌, List, [], ◌∷◌, ◌++◌, length, Option, OnSome, Some, None, is_some, Result, Ok, Err}
+use Rattle.std.specs.Prelude.{◌≡◌, ℕ, ◌≤◌, List, [], ◌∷◌, ◌++◌, length, drop, Option, OnSome, Some, None, Result, Ok, Err}
 use Rattle.std.specs.Io.KnownBytes.{Consumes, IsAtEnd, Appends, Keeps}
 use Rattle.lru_trace.specs.declared.options.Options.{Options}
+use Rattle.lru_trace.specs.declared.byte_curve.SizeError.{SizeError}
+use Rattle.lru_trace.specs.declared.byte_curve.SizeError.TheVariants as sizes
 use Rattle.lru_trace.specs.declared.outcome.TraceEnd.{TraceEnd}
 use Rattle.lru_trace.specs.declared.outcome.TraceEnd.TheVariants as ends
 use Rattle.lru_trace.specs.declared.outcome.TraceError.{TraceError}
 use Rattle.lru_trace.specs.declared.outcome.TraceError.TheVariants as errors
-use Rattle.lru_trace.specs.Counted.{Counted, IsOf}
+use Rattle.lru_trace.specs.Curves.{IsCurveOf, Fits, AreTooLarge}
+use Rattle.lru_trace.specs.declared.curves.AnyCurve.{AnyCurve}
 use Rattle.lru_trace.specs.Lines.{lines_of}
-use Rattle.lru_trace.specs.References.{warm_in, counted_in, others_in, wants_best}
+use Rattle.lru_trace.specs.References.{warm_in, counted_in, others_in}
 use Rattle.lru_trace.specs.declared.lines.Others.{Others}
 use Rattle.lru_trace.specs.Report.{output}
 use Rattle.lru_trace.specs.Sizes.{sizes_from}
 
 -- A reader had the bytes `from` left, if they are known, and has `to` left now. The reader was read to its end, and
 -- `curve` counts the references that the lines make.
-pub record KeysRead (from to : Option (List ℕ)) (options : Options) (curve : Counted) (others : Others) : Type 0 where
+pub record KeysRead (from to : Option (List ℕ)) (options : Options) (curve : AnyCurve) (others : Others) : Type 0 where
   pub input : List ℕ
   pub reads : Consumes from to input
   pub at_end : OnSome from (IsAtEnd to)
-  pub curve_of : IsOf (warm_in options (lines_of input)) (counted_in options (lines_of input)) curve
+  pub curve_of : IsCurveOf (warm_in options (lines_of input)) (counted_in options (lines_of input)) curve
   pub left_out : others ≡ others_in options (lines_of input)
 
 -- `KeysRead`, with a first line that names the sizes and makes no reference.
-pub record TraceRead (from to : Option (List ℕ)) (options : Options) (sizes : List ℕ) (curve : Counted) (others : Others)
-    : Type 0 where
+pub record TraceRead (from to : Option (List ℕ)) (options : Options) (sizes : List ℕ) (curve : AnyCurve)
+    (others : Others) : Type 0 where
   pub input : List ℕ
   pub first : List ℕ
   pub rest : List (List ℕ)
@@ -32,8 +35,8 @@ pub record TraceRead (from to : Option (List ℕ)) (options : Options) (sizes : 
   pub at_end : OnSome from (IsAtEnd to)
   pub lines : lines_of input ≡ first ∷ rest
   pub named : sizes_from [] None first ≡ Some sizes
-  pub curve_of : IsOf (warm_in options rest) (counted_in options rest) curve
-  pub keeps : is_some curve.kept ≡ wants_best options.policies
+  pub curve_of : IsCurveOf (warm_in options rest) (counted_in options rest) curve
+  pub fits : Fits options sizes curve
   pub left_out : others ≡ others_in options rest
 
 -- At most one line was read, and it names no sizes.
@@ -45,6 +48,12 @@ pub record NoSizesRead (from to : Option (List ℕ)) : Type 0 where
 
 abbrev pub SomeRead : Option (List ℕ) → Option (List ℕ) → Type 0
 SomeRead from to = (part : List ℕ) × Consumes from to part
+
+-- Behind the first n lines, the keys that were read together take 2 ^ 64 bytes or more.
+pub record TooLargeRead (n : ℕ) (from to : Option (List ℕ)) (options : Options) : Type 0 where
+  pub input : List ℕ
+  pub reads : Consumes from to input
+  pub large : AreTooLarge (warm_in options (drop n (lines_of input))) (counted_in options (drop n (lines_of input)))
 
 -- A writer's bytes were `old` and are `new`: a beginning of the text was written.
 abbrev pub Begins : Option (List ℕ) → Option (List ℕ) → List ℕ → Type 0
@@ -66,7 +75,12 @@ Ends options from to old new (Ok ends.Done) = Reported from to options (Appends 
 Ends options from to old new (Ok ends.NoSizes) = NoSizesRead from to × Keeps old new
 Ends options from to old new (Err errors.Read) = SomeRead from to × Keeps old new
 Ends options from to old new (Err errors.Memory) = SomeRead from to × Keeps old new
+Ends options from to old new (Err errors.TooLarge) = TooLargeRead 1 from to options × Keeps old new
 Ends options from to old new (Err errors.Write) = Reported from to options (Begins old new)
+
+abbrev pub error_of : SizeError → TraceError
+error_of sizes.Memory = errors.Memory
+error_of sizes.TooLarge = errors.TooLarge
 
 abbrev pub status_of : Result TraceEnd TraceError → ℕ
 status_of (Ok ends.Done) = 0
@@ -74,3 +88,4 @@ status_of (Ok ends.NoSizes) = 1
 status_of (Err errors.Read) = 2
 status_of (Err errors.Write) = 2
 status_of (Err errors.Memory) = 3
+status_of (Err errors.TooLarge) = 5

@@ -1,44 +1,72 @@
--- The references that lines make.
-use Rattle.std.specs.Prelude.{ℕ, List, take, drop, min, Bool, true, false, if◌then◌else◌}
+-- The references that lines make: the key, and the size of its entry.
+use Rattle.std.specs.Prelude.{ℕ, List, take, drop, min, filter_map, length, Bool, true, false, not, if◌then◌else◌}
+use Rattle.std.specs.Prelude.{Option, Some, None, is_some}
+use Rattle.std.specs.List.{filter}
+use Rattle.std.specs.Option.{option_map}
 use Rattle.lru_trace.specs.declared.lines.Others.{Others}
+use Rattle.lru_trace.specs.declared.options.Measure.{Measure}
+use Rattle.lru_trace.specs.declared.options.Measure.TheVariants.{Places, Bytes}
 use Rattle.lru_trace.specs.declared.options.Options.{Options}
 use Rattle.lru_trace.specs.declared.options.Policies.{Policies}
-use Rattle.lru_trace.specs.declared.options.Policies.TheVariants.{Lru, Best}
-use Rattle.lru_trace.specs.Lines.{texts_of, trace_of, malformed_in}
+use Rattle.lru_trace.specs.declared.options.Policies.TheVariants.{Lru, Best, Sized}
+use Rattle.lru_trace.specs.Lines.{text_in, cell, is_key}
 use Rattle.lru_trace.specs.Samples.{sampled, skipped}
+use Rattle.lru_trace.specs.Sizes.{number_from}
 
 abbrev pub warm_up_of : Policies → ℕ
 warm_up_of (Lru n) = n
 warm_up_of Best = 0
+warm_up_of (Sized n column) = n
 
 abbrev pub wants_best : Policies → Bool
 wants_best (Lru n) = false
 wants_best Best = true
+wants_best (Sized n column) = false
+
+abbrev pub measure_of : Policies → Measure
+measure_of (Lru n) = Places
+measure_of Best = Places
+measure_of (Sized n column) = Bytes
 
 abbrev pub bits_of : Options → ℕ
 bits_of options = min options.sample 20
 
-module _ (options : Options) (lines : List (List ℕ)) where
-  abbrev pub keys_read : List (List ℕ)
-  keys_read = trace_of (texts_of options.column lines)
+-- The size that a line says. Without a column of sizes, each entry has the size 1.
+abbrev pub size_of : Policies → List ℕ → Option ℕ
+size_of (Lru n) line = Some 1
+size_of Best line = Some 1
+size_of (Sized n column) line = number_from None (cell column.separator column.index line)
 
-  abbrev pub warm_in : List (List ℕ)
-  warm_in = sampled (bits_of options) (take (warm_up_of options.policies) keys_read)
+module _ (options : Options) where
+  -- if the line is malformed, `None`
+  abbrev pub reference_of : List ℕ → Option (List ℕ × ℕ)
+  reference_of line = if is_key (text_in options.column line)
+      then option_map (λ size. (text_in options.column line, size)) (size_of options.policies line) else None
 
-  -- the references after the warm-up
-  abbrev pub counted_in : List (List ℕ)
-  counted_in = sampled (bits_of options) (drop (warm_up_of options.policies) keys_read)
+  module _ (lines : List (List ℕ)) where
+    abbrev pub references_in : List (List ℕ × ℕ)
+    references_in = filter_map reference_of lines
 
-  -- keys of the warm-up do not count as skipped
-  abbrev pub others_in : Others
-  others_in = record {
-    malformed = malformed_in (texts_of options.column lines);
-    skipped = skipped (bits_of options) (drop (warm_up_of options.policies) keys_read);
-  }
+    abbrev pub malformed_in : ℕ
+    malformed_in = length (filter (λ line. not (is_some (reference_of line))) lines)
 
-  -- `others_in` of lines that are all in the warm-up, if `warm` is true, or all after it
-  abbrev pub others_so : Bool → Others
-  others_so warm = record {
-    malformed = malformed_in (texts_of options.column lines);
-    skipped = if warm then 0 else skipped (bits_of options) keys_read;
-  }
+    abbrev pub warm_in : List (List ℕ × ℕ)
+    warm_in = sampled (bits_of options) (take (warm_up_of options.policies) references_in)
+
+    -- the references after the warm-up
+    abbrev pub counted_in : List (List ℕ × ℕ)
+    counted_in = sampled (bits_of options) (drop (warm_up_of options.policies) references_in)
+
+    -- keys of the warm-up do not count as skipped
+    abbrev pub others_in : Others
+    others_in = record {
+      malformed = malformed_in;
+      skipped = skipped (bits_of options) (drop (warm_up_of options.policies) references_in);
+    }
+
+    -- `others_in` of lines that are all in the warm-up, if `warm` is true, or all after it
+    abbrev pub others_so : Bool → Others
+    others_so warm = record {
+      malformed = malformed_in;
+      skipped = if warm then 0 else skipped (bits_of options) references_in;
+    }

@@ -1,14 +1,18 @@
 -- The numbers that are written for each size.
-use Rattle.std.specs.Prelude.{ℕ, zero, suc, max, ◌+◌, ◌*◌, ◌/◌, ◌^◌, nat_lt, nat_le, ◌==◌, if◌then◌else◌, List, [], ◌∷◌, length, drop}
+use Rattle.std.specs.Prelude.{ℕ, zero, suc, max, ◌+◌, ◌*◌, ◌/◌, ◌^◌, nat_lt, nat_le, ◌==◌, if◌then◌else◌, List, [], ◌∷◌, ◌++◌, length, drop}
 use Rattle.std.specs.Prelude.{Bool, true, false, Option, Some, None}
 use Rattle.std.specs.List.{fold}
 use Rattle.std.specs.Option.{unwrap_or}
 use Rattle.std.specs.Str.{bytes_eq}
+use Rattle.std.specs.Map.{keys_of}
 use Rattle.lru_theory.specs.Best.{min_misses, bypass_misses}
 use Rattle.lru_theory.specs.Traces.{misses, recency, past_after}
 use Rattle.lru_trace.specs.declared.rows.BestMisses.{BestMisses}
 use Rattle.lru_trace.specs.declared.rows.Counts.{Counts}
 use Rattle.lru_trace.specs.declared.rows.Row.{Row}
+use Rattle.lru_trace.specs.declared.options.Measure.{Measure}
+use Rattle.lru_trace.specs.declared.options.Measure.TheVariants.{Places, Bytes}
+use Rattle.lru_trace.specs.Sized.{missed_within, bytes_of}
 
 abbrev pub best_in : List (List ℕ) → Bool → ℕ → Option BestMisses
 best_in trace false n = None
@@ -18,36 +22,43 @@ best_in trace true n = Some (record { min = min_misses bytes_eq n trace; bypass 
 abbrev pub expected_of : ℕ → Counts → ℕ
 expected_of bits counts = (counts.references + unwrap_or counts.skipped 0) / 2 ^ bits
 
--- `trace` are the counted references, and `warm` the references of the warm-up before them.
-module _ (warm trace : List (List ℕ)) where
-  abbrev pub missed : ℕ → ℕ
-  missed n = misses bytes_eq n (past_after [] warm) trace
+abbrev pub keys : List (List ℕ) → List (List ℕ) → ℕ
+keys warm trace = length (recency bytes_eq (past_after (past_after [] warm) trace))
 
-  abbrev pub keys : ℕ
-  keys = length (recency bytes_eq (past_after (past_after [] warm) trace))
+-- How many references of `trace`, after the warm-up, miss in a cache of this size.
+abbrev pub missed : Measure → List (List ℕ × ℕ) → List (List ℕ × ℕ) → ℕ → ℕ
+missed Places warm trace size = misses bytes_eq size (past_after [] (keys_of warm)) (keys_of trace)
+missed Bytes warm trace size = missed_within size warm trace
 
-  -- In a sample of one key in 2 ^ bits, a cache of n / 2 ^ bits places stands for a cache of the size n.
-  abbrev pub row_of : ℕ → ℕ → Bool → ℕ → Row
-  row_of bits expected best n =
-      let places : ℕ = n / 2 ^ bits in
-      record {
-        size = n;
-        expected = expected;
-        misses = missed places;
-        best = best_in trace best places;
-      }
+-- the size of a cache for all keys
+abbrev pub needed : Measure → List (List ℕ × ℕ) → List (List ℕ × ℕ) → ℕ
+needed Places warm trace = keys (keys_of warm) (keys_of trace)
+needed Bytes warm trace = bytes_of (warm ++ trace)
 
 -- the powers of two from 2 ^ level to the first power that is at least `most`, but at most n powers
 unfoldable pub powers : ℕ → ℕ → ℕ → List ℕ
 powers most zero level = []
 powers most (suc n) level = 2 ^ level ∷ (if nat_le most (2 ^ level) then [] else powers most n (suc level))
 
-abbrev pub axis_in : ℕ → List (List ℕ) → List (List ℕ) → List ℕ
-axis_in bits warm trace = powers (max (keys warm trace) 1 * 2 ^ bits) 64 0
+-- `trace` are the counted references, and `warm` the references of the warm-up before them.
+module _ (measure : Measure) (warm trace : List (List ℕ × ℕ)) where
+  -- In a sample of one key in 2 ^ bits, a cache of the size n / 2 ^ bits stands for a cache of the size n.
+  abbrev pub row_of : ℕ → ℕ → Bool → ℕ → Row
+  row_of bits expected best n =
+      let size : ℕ = n / 2 ^ bits in
+      record {
+        size = n;
+        expected = expected;
+        misses = missed measure warm trace size;
+        best = best_in (keys_of trace) best size;
+      }
 
--- the powers of the axis that stand for at least one place
-abbrev pub powers_in : ℕ → List (List ℕ) → List (List ℕ) → List ℕ
-powers_in bits warm trace = drop bits (axis_in bits warm trace)
+  abbrev pub axis_in : ℕ → List ℕ
+  axis_in bits = powers (max (needed measure warm trace) 1 * 2 ^ bits) 64 0
+
+  -- the powers of the axis that stand for a size of at least 1
+  abbrev pub powers_in : ℕ → List ℕ
+  powers_in bits = drop bits (axis_in bits)
 
 -- inserts n into the rising list of sizes, unless the list has n
 abbrev pub with_size : List ℕ → ℕ → List ℕ

@@ -13,8 +13,8 @@ module _ (bits : ℕ) where
   abbrev pub is_sampled : List ℕ → Bool
   is_sampled key = hash key % 2 ^ bits == 0
 
-  abbrev pub sampled : List (List ℕ) → List (List ℕ)
-  sampled keys = filter is_sampled keys
+  abbrev pub sampled : List (List ℕ × ℕ) → List (List ℕ × ℕ)
+  sampled references = filter (λ reference. is_sampled reference.0) references
 
-  abbrev pub skipped : List (List ℕ) → ℕ
-  skipped keys = length (filter (λ key. not (is_sampled key)) keys)
+  abbrev pub skipped : List (List ℕ × ℕ) → ℕ
+  skipped references = length (filter (λ reference. not (is_sampled reference.0)) references)

@@ -24,6 +24,10 @@ abbrev pub missed_within : ℕ → List (List ℕ × ℕ) → List (List ℕ × 
 missed_within limit warm trace =
     misses_within bytes_eq (size_in (warm ++ trace)) limit (past_after [] (keys_of warm)) (keys_of trace)
 
+-- how many bytes all keys take together
+abbrev pub bytes_of : List (List ℕ × ℕ) → ℕ
+bytes_of references = sum_by (size_in references) (recency bytes_eq (past_after [] (keys_of references)))
+
 pub record Sized : Type 0 where
   pub names : List (String Global × ℕ)
   pub recency : List ℕ

@@ -2,10 +2,12 @@
 -- references miss, the point is at 3900 from the top, and if all miss, at 700.
 use Rattle.std.specs.Prelude.{ℕ, zero, suc, ◌+◌, ◌-◌, ◌*◌, ◌/◌, ◌%◌, ◌^◌, max, nat_le, ◌==◌, if◌then◌else◌}
 use Rattle.std.specs.Prelude.{List, [], ◌++◌, length, flat_map, decimal, codes, Bool, Option, Some, None}
-use Rattle.lru_trace.specs.declared.svg.TheConstants.{START, LRU, MIN, BYPASS}
+use Rattle.lru_trace.specs.declared.svg.TheConstants.{START, PLACES, BYTES, LRU, MIN, BYPASS}
 use Rattle.lru_trace.specs.declared.rows.BestMisses.{BestMisses}
 use Rattle.lru_trace.specs.declared.rows.Counts.{Counts}
 use Rattle.lru_trace.specs.declared.rows.Row.{Row}
+use Rattle.lru_trace.specs.declared.options.Measure.{Measure}
+use Rattle.lru_trace.specs.declared.options.Measure.TheVariants.{Places, Bytes}
 use Rattle.lru_trace.specs.declared.svg.Policy.{Policy}
 use Rattle.lru_trace.specs.declared.svg.Policy.TheVariants as policies
 
@@ -49,6 +51,11 @@ abbrev pub point_text : ℕ → Policy → Row → List ℕ
 point_text octaves policy row = if row.size == 0 then [] else if nat_le (x_of octaves row.size) 7300
     then decimal (x_of octaves row.size) ++ (codes " " ++ (decimal (y_of policy row) ++ codes " ")) else []
 
+-- what the horizontal axis is
+abbrev pub label : Measure → List ℕ
+label Places = PLACES.now
+label Bytes = BYTES.now
+
 -- the entry of a policy in the legend, and the beginning of its curve
 abbrev pub legend : Policy → List ℕ
 legend policies.Lru = LRU.now
@@ -84,5 +91,5 @@ curves_text best octaves rows = curve_text octaves rows policies.Lru
     ++ (if best then curve_text octaves rows policies.Min ++ curve_text octaves rows policies.Bypass else [])
 
 abbrev pub svg_text : Counts → Bool → List ℕ → List Row → List ℕ
-svg_text counts best axis rows = START.now ++ (title_text counts
-    ++ (flat_map (tick_text (octaves_of axis)) axis ++ (curves_text best (octaves_of axis) rows ++ codes "</svg>\n")))
+svg_text counts best axis rows = START.now ++ (label counts.measure ++ (title_text counts
+    ++ (flat_map (tick_text (octaves_of axis)) axis ++ (curves_text best (octaves_of axis) rows ++ codes "</svg>\n"))))

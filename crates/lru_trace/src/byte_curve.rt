@@ -6,7 +6,7 @@ ghost use Rattle.std.specs.Map.{keys_of};
 ghost use Rattle.std.specs.Set.{remove_key};
 ghost use Rattle.lru_theory.specs.Traces.{is_in};
 ghost use Rattle.lru_trace.specs.Counted.{number_in};
-ghost use Rattle.lru_trace.specs.Sized.{IsSizedOf, Made, KeepsSizes, exceeds, need_of, missed_within, total_of};
+ghost use Rattle.lru_trace.specs.Sized.{IsSizedOf, Made, KeepsSizes, exceeds, need_of, missed_within, bytes_of, total_of};
 ghost use Rattle.lru_trace.specs.Rows.{keys};
 ghost use Rattle.lru_trace.specs.Slots.{weight_in};
 
@@ -139,7 +139,8 @@ impl ByteCurve {
         ensures made { OnOk result (Made key.now bytes None self.old self.new) }
         ensures sizes { OnErr result (KeepsSizes self.old self.new) }
         ensures err { OnErr result (self.new ≡ record self.old { sizes = self.new.sizes }) }
-        ensures large { IfErr result (λ e. e ≡ SizeError.TooLarge → 2 ^ 64 ≤ total_of self.old + bytes) }
+        ensures large { IfErr result (λ e. e ≡ SizeError.TooLarge → (number_in self.old.names key.now ≡ None)
+            × (2 ^ 64 ≤ total_of self.old + bytes)) }
         ensures rest { self.new ≡ record self.old {
           names = self.new.names;
           recency = self.new.recency;
@@ -164,7 +165,8 @@ impl ByteCurve {
         ensures made { IfOk result (λ need. Made key.now bytes need self.old self.new) }
         ensures sizes { OnErr result (KeepsSizes self.old self.new) }
         ensures err { OnErr result (self.new ≡ record self.old { sizes = self.new.sizes }) }
-        ensures large { IfErr result (λ e. e ≡ SizeError.TooLarge → 2 ^ 64 ≤ total_of self.old + bytes) }
+        ensures large { IfErr result (λ e. e ≡ SizeError.TooLarge → (number_in self.old.names key.now ≡ None)
+            × (2 ^ 64 ≤ total_of self.old + bytes)) }
         ensures rest { self.new ≡ record self.old {
           names = self.new.names;
           recency = self.new.recency;
@@ -205,7 +207,8 @@ impl ByteCurve {
             IsSizedOf (warm ++ (key.now, bytes) ∷ []) [] self.new) }
         ensures err { OnErr result ((warm trace : List (List ℕ × ℕ)) → IsSizedOf warm trace self.old →
             IsSizedOf warm trace self.new) }
-        ensures large { IfErr result (λ e. e ≡ SizeError.TooLarge → 2 ^ 64 ≤ total_of self.old + bytes) }
+        ensures large { IfErr result (λ e. e ≡ SizeError.TooLarge → (warm : List (List ℕ × ℕ)) →
+            IsSizedOf warm [] self.old → 2 ^ 64 ≤ bytes_of ((warm ++ (key.now, bytes) ∷ []) ++ [])) }
         ensures references { self.new.references ≡ self.old.references }
         ensures limits { self.new.limits ≡ self.old.limits }
     {
@@ -228,7 +231,8 @@ impl ByteCurve {
             IsSizedOf warm (trace ++ (key.now, bytes) ∷ []) self.new) }
         ensures err { OnErr result ((warm trace : List (List ℕ × ℕ)) → IsSizedOf warm trace self.old →
             IsSizedOf warm trace self.new) }
-        ensures large { IfErr result (λ e. e ≡ SizeError.TooLarge → 2 ^ 64 ≤ total_of self.old + bytes) }
+        ensures large { IfErr result (λ e. e ≡ SizeError.TooLarge → (warm trace : List (List ℕ × ℕ)) →
+            IsSizedOf warm trace self.old → 2 ^ 64 ≤ bytes_of (warm ++ (trace ++ (key.now, bytes) ∷ []))) }
         ensures references { self.new.references ≤ self.old.references + 1 }
         ensures limits { self.new.limits ≡ self.old.limits }
     {
@@ -252,6 +256,14 @@ impl ByteCurve {
             result ≡ keys (keys_of warm) (keys_of trace) }
     {
         self.distances.referenced()
+    }
+
+    /// Returns how many bytes all referenced keys take together, also those of the warm-up.
+    pub fn bytes(&self) -> u64
+        ensures { (warm trace : List (List ℕ × ℕ)) → IsSizedOf warm trace self.now → result ≡ bytes_of (warm ++ trace) }
+    {
+        let _names = &self.numbers;
+        self.total
     }
 
     /// Returns how many counted references miss in an LRU cache with this limit. If the curve does not have the limit,

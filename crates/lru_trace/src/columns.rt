@@ -25,7 +25,7 @@ fn behind(line: &[u8], separator: u8) -> &[u8]
     b""
 }
 
-fn cell(line: &[u8], column: Column) -> &[u8]
+pub fn cell(line: &[u8], column: Column) -> &[u8]
     ensures { result.now ≡ cell column.separator column.index line.now }
 {
     let mut rest = line;

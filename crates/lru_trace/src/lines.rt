@@ -1,19 +1,20 @@
 //! The lines of a trace, and their keys.
-ghost use Rattle.std.specs.Prelude.{◌≡◌, ◌≢◌, ℕ, ◌+◌, ◌-◌, ◌^◌, ◌<◌, ◌≤◌, List, [], ◌∷◌, ◌++◌, true, false, is_some};
+ghost use Rattle.std.specs.Prelude.{◌≡◌, ◌≢◌, ℕ, ◌+◌, ◌-◌, ◌^◌, ◌<◌, ◌≤◌, List, [], ◌∷◌, ◌++◌, true, false, Some, None};
 ghost use Rattle.std.specs.Prelude.{IfOk, OnOk, OnErr, IfErr, MatchOption};
-ghost use Rattle.lru_trace.specs.Counted.{IsOf, Follows};
+ghost use Rattle.lru_trace.specs.Curves.{IsCurveOf, AreAlike, AreTooLarge, Follows, Leads, references_of};
 ghost use Rattle.lru_trace.specs.Lines.{is_key, fed, EndsSo, TakesLine};
-ghost use Rattle.lru_trace.specs.References.{bits_of, keys_read, others_so};
+ghost use Rattle.lru_trace.specs.References.{bits_of, size_of, reference_of, references_in, others_so};
 ghost use Rattle.lru_trace.specs.Samples.{sampled};
-ghost use Rattle.lru_trace.specs.Outcome.{KeysRead, SomeRead};
+ghost use Rattle.lru_trace.specs.Outcome.{KeysRead, SomeRead, TooLargeRead};
 
-use crate::columns::text_in;
-use crate::curve::Curve;
-use crate::options::Options;
+use crate::byte_curve::SizeError;
+use crate::columns::{cell, text_in};
+use crate::curves::AnyCurve;
+use crate::options::{Options, Policies};
 use crate::outcome::TraceError;
 use crate::progress::Progress;
 use crate::samples::is_sampled;
-use std::alloc::AllocError;
+use crate::sizes::number_of;
 use std::io::{BufRead, ErrorKind, Write};
 
 /// The most bytes of a key.
@@ -67,7 +68,7 @@ pub fn read_line<R: BufRead>(reader: &mut R, line: &mut Vec<u8>) -> Result<Endin
     ensures ok { IfOk result
         (λ ending. TakesLine (R.remaining reader.old) (R.remaining reader.new) ending line.new.items) }
     ensures err { OnErr result (SomeRead (R.remaining reader.old) (R.remaining reader.new)) }
-    ensures kind { IfErr result (λ e. e ≢ TraceError.Write) }
+    ensures kind { IfErr result (λ e. (e ≢ TraceError.Write) × (e ≢ TraceError.TooLarge)) }
 {
     line.clear();
     match reader.read_until(b'\n', line) {
@@ -89,32 +90,40 @@ fn key_of(line: &[u8]) -> Option<&str>
     }
 }
 
-fn refer_key(curve: &mut Curve, warm: bool, key: &str) -> Result<(), AllocError>
-    requires { curve.old.references < 2 ^ 64 - 1 }
-    ensures ok { OnOk result (Follows warm curve.old (key.now ∷ []) curve.new) }
-    ensures references { curve.new.references ≤ curve.old.references + 1 }
-    ensures keeps { is_some curve.new.kept ≡ is_some curve.old.kept }
+fn size_of(line: &[u8], policies: Policies) -> Option<u64>
+    ensures { result ≡ size_of policies line.now }
 {
-    if warm {
-        return curve.warm_up(key);
+    match policies {
+        Policies::Lru { .. } | Policies::Best => Some(1),
+        Policies::Sized { size, .. } => Some(number_of(cell(line, size))? as u64),
     }
-    curve.refer(key)
+}
+
+fn reference_of<'a>(line: &'a [u8], options: Options) -> Option<(&'a str, u64)>
+    ensures { MatchOption result (reference_of options line.now ≡ None)
+        (λ reference. reference_of options line.now ≡ Some (reference.0.now, reference.1)) }
+{
+    let key = key_of(text_in(line, options.column))?;
+    let size = size_of(line, options.policies)?;
+    Some((key, size))
 }
 
 fn refer_line(
-    curve: &mut Curve,
+    curve: &mut AnyCurve,
     options: Options,
     warm: bool,
     line: &[u8],
-) -> Result<Others, AllocError>
-    requires { curve.old.references < 2 ^ 64 - 1 }
+) -> Result<Others, SizeError>
+    requires { references_of curve.old < 2 ^ 64 - 1 }
     ensures others { IfOk result (λ others. others ≡ others_so options (line.now ∷ []) warm) }
     ensures ok { OnOk result (Follows warm curve.old
-        (sampled (bits_of options) (keys_read options (line.now ∷ []))) curve.new) }
-    ensures references { curve.new.references ≤ curve.old.references + 1 }
-    ensures keeps { is_some curve.new.kept ≡ is_some curve.old.kept }
+        (sampled (bits_of options) (references_in options (line.now ∷ []))) curve.new) }
+    ensures large { IfErr result (λ e. e ≡ SizeError.TooLarge → Leads warm curve.old
+        (sampled (bits_of options) (references_in options (line.now ∷ []))) AreTooLarge) }
+    ensures references { references_of curve.new ≤ references_of curve.old + 1 }
+    ensures alike { AreAlike curve.old curve.new }
 {
-    let Some(key) = key_of(text_in(line, options.column)) else {
+    let Some((key, size)) = reference_of(line, options) else {
         return Ok(Others {
             malformed: 1,
             skipped: 0,
@@ -126,7 +135,7 @@ fn refer_line(
             skipped: u64::from(!warm),
         });
     }
-    refer_key(curve, warm, key)?;
+    curve.refer(warm, key, size)?;
     Ok(Others {
         malformed: 0,
         skipped: 0,
@@ -139,18 +148,21 @@ fn refer_line(
 /// # Errors
 ///
 /// `Read`: a read failed, or there were 2 ^ 64 - 2 lines. `Memory`: out of memory for a line or a key.
+/// `TooLarge`: the sizes of all keys sum to 2 ^ 64 or more.
 pub fn read_keys<R: BufRead, P: Write>(
     reader: &mut R,
     line: &mut Vec<u8>,
     options: Options,
-    curve: &mut Curve,
+    curve: &mut AnyCurve,
     progress: &mut Progress<P>,
 ) -> Result<Others, TraceError>
-    requires { IsOf [] [] curve.old }
+    requires { IsCurveOf [] [] curve.old }
     ensures ok { IfOk result (λ others.
         KeysRead (R.remaining reader.old) (R.remaining reader.new) options curve.new others) }
     ensures err { OnErr result (SomeRead (R.remaining reader.old) (R.remaining reader.new)) }
-    ensures keeps { is_some curve.new.kept ≡ is_some curve.old.kept }
+    ensures large { IfErr result (λ e. e ≡ TraceError.TooLarge →
+        TooLargeRead 0 (R.remaining reader.old) (R.remaining reader.new) options) }
+    ensures alike { AreAlike curve.old curve.new }
     ensures kind { IfErr result (λ e. e ≢ TraceError.Write) }
 {
     let warm_up = options.policies.warm_up();

@@ -1,5 +1,5 @@
 ghost use Rattle.std.specs.Prelude.{◌≡◌, ◌≤◌};
-ghost use Rattle.lru_trace.specs.References.{warm_up_of, wants_best, bits_of};
+ghost use Rattle.lru_trace.specs.References.{warm_up_of, wants_best, measure_of, bits_of};
 
 /// The form of the report.
 #[derive(Clone, Copy, Debug, PartialEq, Eq)]
@@ -19,6 +19,15 @@ pub struct Column {
     pub separator: u8,
 }
 
+/// What the size of a cache is.
+#[derive(Clone, Copy, Debug, PartialEq, Eq)]
+pub enum Measure {
+    /// How many entries the cache can contain.
+    Places,
+    /// How many bytes its entries can take together.
+    Bytes,
+}
+
 /// The policies whose misses are counted.
 #[derive(Clone, Copy, Debug, PartialEq, Eq)]
 pub enum Policies {
@@ -26,6 +35,8 @@ pub enum Policies {
     Lru { warm_up: u64 },
     /// LRU and the best possible policies. All begin with no keys.
     Best,
+    /// LRU with limits of bytes, after a warm-up. The column `size` says how many bytes an entry takes.
+    Sized { warm_up: u64, size: Column },
 }
 
 /// What `trace` reads and writes.
@@ -53,7 +64,7 @@ impl Policies {
         ensures { result ≡ warm_up_of self }
     {
         match self {
-            Policies::Lru { warm_up } => warm_up,
+            Policies::Lru { warm_up } | Policies::Sized { warm_up, .. } => warm_up,
             Policies::Best => 0,
         }
     }
@@ -62,8 +73,17 @@ impl Policies {
         ensures { result ≡ wants_best self }
     {
         match self {
-            Policies::Lru { .. } => false,
+            Policies::Lru { .. } | Policies::Sized { .. } => false,
             Policies::Best => true,
+        }
+    }
+
+    pub(crate) fn measure(self) -> Measure
+        ensures { result ≡ measure_of self }
+    {
+        match self {
+            Policies::Lru { .. } | Policies::Best => Measure::Places,
+            Policies::Sized { .. } => Measure::Bytes,
         }
     }
 }

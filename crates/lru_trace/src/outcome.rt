@@ -1,6 +1,7 @@
 ghost use Rattle.std.specs.Prelude.{◌≡◌};
 ghost use Rattle.lru_trace.specs.Outcome.{status_of};
 
+use crate::byte_curve::SizeError;
 use std::alloc::AllocError;
 use thiserror::Error;
 
@@ -21,6 +22,9 @@ pub enum TraceError {
     Write = 2,
     #[error("out of memory")]
     Memory = 3,
+    /// The sizes of all keys sum to 2 ^ 64 or more.
+    #[error("the sizes of the keys are too large")]
+    TooLarge = 5,
 }
 
 impl From<AllocError> for TraceError {
@@ -33,8 +37,21 @@ impl From<AllocError> for TraceError {
     }
 }
 
+impl From<SizeError> for TraceError {
+    ghost use Rattle.lru_trace.specs.Outcome.{error_of};
+
+    ghost from_gives = { λ error e. e ≡ error_of error };
+
+    fn from(error: SizeError) -> Self {
+        match error {
+            SizeError::Memory => TraceError::Memory,
+            SizeError::TooLarge => TraceError::TooLarge,
+        }
+    }
+}
+
 /// Returns the exit status: 0 if the report was written, 1 if the first line names no sizes, 2 if reading or writing
-/// failed, and 3 if memory ran out.
+/// failed, 3 if memory ran out, and 5 if the sizes of all keys sum to 2 ^ 64 or more.
 pub fn status(end: &Result<TraceEnd, TraceError>) -> u8
     ensures { result ≡ status_of end.now }
 {
@@ -43,5 +60,6 @@ pub fn status(end: &Result<TraceEnd, TraceError>) -> u8
         Ok(TraceEnd::NoSizes) => 1,
         Err(TraceError::Read | TraceError::Write) => 2,
         Err(TraceError::Memory) => 3,
+        Err(TraceError::TooLarge) => 5,
     }
 }

@@ -1,17 +1,18 @@
 //! Writes a curve: as text for people, csv for programs, or a picture.
 ghost use Rattle.std.specs.Prelude.{◌≡◌, ◌≤◌, ◌+◌, ◌^◌, ◌<◌, ◌++◌, ℕ, List, OnOk, IfOk, is_some, replicate, flat_map, map, false};
 ghost use Rattle.std.specs.String.{string_bytes};
-ghost use Rattle.lru_trace.specs.Counted.{IsOf};
-ghost use Rattle.lru_trace.specs.Report.{ratio_text, best_text, size_text, bar_text, text_of};
+ghost use Rattle.std.specs.Map.{keys_of};
+ghost use Rattle.lru_trace.specs.Curves.{IsCurveOf, Fits, HasAll, measure_in};
+ghost use Rattle.lru_trace.specs.Report.{ratio_text, best_text, measure_text, size_text, bar_text, text_of};
 ghost use Rattle.lru_trace.specs.References.{bits_of, wants_best};
 ghost use Rattle.lru_trace.specs.Rows.{expected_of, row_of, points};
 ghost use Rattle.lru_trace.specs.Times.{KnowsRest};
 ghost use Rattle.lru_trace.specs.Report.{csv_best, csv_line, csv_head, csv_of, skipped_text, head_text, counts_of, written};
 
 use crate::best::Best;
-use crate::curve::Curve;
+use crate::curves::AnyCurve;
 use crate::lines::Others;
-use crate::options::{Form, Options};
+use crate::options::{Form, Measure, Options};
 use crate::rows::{
     BestMisses, Counts, Row, end_of, expected_of, missed_part, points, powers, powers_in, rows_of,
 };
@@ -53,13 +54,28 @@ fn add_best(alloc: Global, report: &mut Vec<u8>, best: Option<BestMisses>) -> Re
     Ok(())
 }
 
-fn add_size(alloc: Global, report: &mut Vec<u8>, row: Row) -> Result<(), AllocError>
-    ensures { OnOk result (report.new.items ≡ report.old.items ++ size_text row) }
+fn measure_text(measure: Measure) -> &'static str
+    ensures { result.now ≡ measure_text measure }
+{
+    match measure {
+        Measure::Places => "places ",
+        Measure::Bytes => "bytes ",
+    }
+}
+
+fn add_size(
+    alloc: Global,
+    report: &mut Vec<u8>,
+    measure: Measure,
+    row: Row,
+) -> Result<(), AllocError>
+    ensures { OnOk result (report.new.items ≡ report.old.items ++ size_text measure row) }
 {
     let (size, misses) = (row.size, row.misses);
     let hits = row.expected.saturating_sub(u128::from(misses));
     let ratio = ratio(alloc, missed_part(misses, row.expected, 10_000))?;
-    let text = format!(in alloc; "places {size} hits {hits} misses {misses} ratio {ratio}")?;
+    let text = format!(in alloc; "{size} hits {hits} misses {misses} ratio {ratio}")?;
+    report.extend_from_slice(measure_text(measure).as_bytes())?;
     report.extend_from_slice(text.as_bytes())?;
     add_best(alloc, report, row.best)?;
     report.push(b'\n')?;
@@ -80,11 +96,16 @@ fn add_bar(alloc: Global, report: &mut Vec<u8>, row: Row) -> Result<(), AllocErr
     Ok(())
 }
 
-fn add_sizes(alloc: Global, report: &mut Vec<u8>, rows: &[Row]) -> Result<(), AllocError>
-    ensures { OnOk result (report.new.items ≡ report.old.items ++ flat_map size_text rows.now) }
+fn add_sizes(
+    alloc: Global,
+    report: &mut Vec<u8>,
+    measure: Measure,
+    rows: &[Row],
+) -> Result<(), AllocError>
+    ensures { OnOk result (report.new.items ≡ report.old.items ++ flat_map (size_text measure) rows.now) }
 {
     for row in rows {
-        add_size(alloc, report, *row)?;
+        add_size(alloc, report, measure, *row)?;
     }
     Ok(())
 }
@@ -125,7 +146,7 @@ fn text_of(
 {
     let head = head_text(alloc, counts)?;
     let mut report = Vec::from_slice(alloc, head.as_bytes())?;
-    add_sizes(alloc, &mut report, named)?;
+    add_sizes(alloc, &mut report, counts.measure, named)?;
     add_bars(alloc, &mut report, bars)?;
     Ok(report)
 }
@@ -179,18 +200,21 @@ fn csv_of(alloc: Global, best: bool, rows: &[Row]) -> Result<Vec<u8>, AllocError
 
 fn text_rows(
     alloc: Global,
-    curve: &Curve,
+    curve: &AnyCurve,
     counts: Counts,
     best: &Option<Best>,
     bits: u32,
     sizes: &[usize],
     powers: &[usize],
 ) -> Result<Vec<u8>, AllocError>
-    requires { bits ≤ 20 }
-    ensures { IfOk result (λ text. (warm trace : List (List ℕ)) → IsOf warm trace curve.now → KnowsRest trace best.now →
+    requires few { bits ≤ 20 }
+    requires sizes { HasAll curve.now bits sizes.now }
+    requires powers { HasAll curve.now bits powers.now }
+    ensures { IfOk result (λ text. (warm trace : List (List ℕ × ℕ)) → IsCurveOf warm trace curve.now →
+        KnowsRest (keys_of trace) best.now →
         text.items ≡ text_of counts
-        (map (row_of warm trace bits (expected_of bits counts) (is_some best.now)) sizes.now)
-        (map (row_of warm trace bits (expected_of bits counts) false) powers.now)) }
+        (map (row_of (measure_in curve.now) warm trace bits (expected_of bits counts) (is_some best.now)) sizes.now)
+        (map (row_of (measure_in curve.now) warm trace bits (expected_of bits counts) false) powers.now)) }
 {
     let expected = expected_of(bits, counts);
     let rows = rows_of(alloc, curve, best, bits, expected, sizes)?;
@@ -201,16 +225,19 @@ fn text_rows(
 
 fn point_rows(
     alloc: Global,
-    curve: &Curve,
+    curve: &AnyCurve,
     counts: Counts,
     best: &Option<Best>,
     bits: u32,
     sizes: &[usize],
     powers: &[usize],
 ) -> Result<Vec<Row>, AllocError>
-    requires { bits ≤ 20 }
-    ensures { IfOk result (λ rows. (warm trace : List (List ℕ)) → IsOf warm trace curve.now → KnowsRest trace best.now →
-        rows.items ≡ map (row_of warm trace bits (expected_of bits counts) (is_some best.now))
+    requires few { bits ≤ 20 }
+    requires sizes { HasAll curve.now bits sizes.now }
+    requires powers { HasAll curve.now bits powers.now }
+    ensures { IfOk result (λ rows. (warm trace : List (List ℕ × ℕ)) → IsCurveOf warm trace curve.now →
+        KnowsRest (keys_of trace) best.now →
+        rows.items ≡ map (row_of (measure_in curve.now) warm trace bits (expected_of bits counts) (is_some best.now))
         (points sizes.now powers.now)) }
 {
     let points = points(alloc, sizes, powers)?;
@@ -218,10 +245,12 @@ fn point_rows(
     Ok(rows)
 }
 
-fn counts_of(bits: u32, curve: &Curve, others: Others) -> Counts
-    ensures { (warm trace : List (List ℕ)) → IsOf warm trace curve.now → result ≡ counts_of bits warm trace others }
+fn counts_of(bits: u32, curve: &AnyCurve, others: Others) -> Counts
+    ensures { (warm trace : List (List ℕ × ℕ)) → IsCurveOf warm trace curve.now →
+        result ≡ counts_of (measure_in curve.now) bits warm trace others }
 {
     Counts {
+        measure: curve.measure(),
         references: curve.references(),
         keys: curve.keys(),
         malformed: others.malformed,
@@ -236,17 +265,17 @@ fn counts_of(bits: u32, curve: &Curve, others: Others) -> Counts
 pub fn report_of(
     alloc: Global,
     options: Options,
-    curve: &Curve,
+    curve: &AnyCurve,
     others: Others,
     sizes: &[usize],
 ) -> Result<Vec<u8>, AllocError>
-    requires { is_some curve.now.kept ≡ wants_best options.policies }
-    ensures { IfOk result (λ report. (warm trace : List (List ℕ)) → IsOf warm trace curve.now →
-        report.items ≡ written (bits_of options) warm trace sizes.now others options.form (wants_best options.policies)) }
+    requires { Fits options sizes.now curve.now }
+    ensures { IfOk result (λ report. (warm trace : List (List ℕ × ℕ)) → IsCurveOf warm trace curve.now →
+        report.items ≡ written options warm trace sizes.now others) }
 {
     let bits = options.bits();
     let counts = counts_of(bits, curve, others);
-    let axis = powers(alloc, end_of(counts.keys, bits))?;
+    let axis = powers(alloc, end_of(curve.needed(), bits))?;
     let powers = powers_in(&axis, bits);
     let best = curve.best()?;
     match options.form {

@@ -1,17 +1,20 @@
-ghost use Rattle.std.specs.Prelude.{◌≡◌, ◌<◌, ◌≤◌, ◌*◌, ◌^◌, max, ℕ, List, IfOk, OnOk, is_some, map, drop};
+ghost use Rattle.std.specs.Prelude.{◌≡◌, ◌/◌, ◌<◌, ◌≤◌, ◌*◌, ◌^◌, max, ℕ, List, IfOk, OnOk, is_some, map, drop};
 ghost use Rattle.std.specs.List.{All, fold};
-ghost use Rattle.lru_trace.specs.Counted.{IsOf};
+ghost use Rattle.std.specs.Map.{keys_of};
+ghost use Rattle.lru_trace.specs.Curves.{IsCurveOf, Has, HasAll, measure_in};
 ghost use Rattle.lru_trace.specs.Rows.{best_in, expected_of, row_of, powers, points, with_size};
 ghost use Rattle.lru_trace.specs.Svg.{missed_part};
 ghost use Rattle.lru_trace.specs.Times.{KnowsRest};
 
 use crate::best::Best;
-use crate::curve::Curve;
+use crate::curves::AnyCurve;
+use crate::options::Measure;
 use std::alloc::{AllocError, Global};
 
 /// What the head of a report says about a trace.
 #[derive(Clone, Copy)]
 pub struct Counts {
+    pub measure: Measure,
     pub references: u64,
     pub keys: usize,
     pub malformed: u64,
@@ -64,19 +67,21 @@ fn best_in(best: &Option<Best>, size: usize) -> Result<Option<BestMisses>, Alloc
 }
 
 fn row_of(
-    curve: &Curve,
+    curve: &AnyCurve,
     best: &Option<Best>,
     bits: u32,
     expected: u128,
     size: usize,
 ) -> Result<Row, AllocError>
-    requires { bits ≤ 20 }
-    ensures { IfOk result (λ row. (warm trace : List (List ℕ)) → IsOf warm trace curve.now → KnowsRest trace best.now →
-        row ≡ row_of warm trace bits expected (is_some best.now) size) }
+    requires few { bits ≤ 20 }
+    requires has { Has curve.now (size / 2 ^ bits) }
+    ensures { IfOk result (λ row. (warm trace : List (List ℕ × ℕ)) → IsCurveOf warm trace curve.now →
+        KnowsRest (keys_of trace) best.now →
+        row ≡ row_of (measure_in curve.now) warm trace bits expected (is_some best.now) size) }
 {
-    let places = size >> bits;
-    let misses = curve.misses(places);
-    let best = best_in(best, places)?;
+    let scaled = size >> bits;
+    let misses = curve.misses(scaled);
+    let best = best_in(best, scaled)?;
     Ok(Row {
         size,
         expected,
@@ -87,15 +92,17 @@ fn row_of(
 
 pub fn rows_of(
     alloc: Global,
-    curve: &Curve,
+    curve: &AnyCurve,
     best: &Option<Best>,
     bits: u32,
     expected: u128,
     sizes: &[usize],
 ) -> Result<Vec<Row>, AllocError>
-    requires { bits ≤ 20 }
-    ensures { IfOk result (λ rows. (warm trace : List (List ℕ)) → IsOf warm trace curve.now → KnowsRest trace best.now →
-        rows.items ≡ map (row_of warm trace bits expected (is_some best.now)) sizes.now) }
+    requires few { bits ≤ 20 }
+    requires has { HasAll curve.now bits sizes.now }
+    ensures { IfOk result (λ rows. (warm trace : List (List ℕ × ℕ)) → IsCurveOf warm trace curve.now →
+        KnowsRest (keys_of trace) best.now →
+        rows.items ≡ map (row_of (measure_in curve.now) warm trace bits expected (is_some best.now)) sizes.now) }
 {
     let mut rows = Vec::new(alloc);
     for size in sizes {
@@ -105,11 +112,11 @@ pub fn rows_of(
 }
 
 /// The axis of sizes ends at the first power of two that is at least this number.
-pub fn end_of(keys: usize, bits: u32) -> u128
+pub fn end_of(needed: usize, bits: u32) -> u128
     requires { bits ≤ 20 }
-    ensures { result ≡ max keys 1 * 2 ^ bits }
+    ensures { result ≡ max needed 1 * 2 ^ bits }
 {
-    (keys.max(1) as u128) << bits
+    (needed.max(1) as u128) << bits
 }
 
 pub fn powers(alloc: Global, most: u128) -> Result<Vec<usize>, AllocError>

@@ -1,6 +1,6 @@
 ghost use Rattle.std.specs.Prelude.{◌≡◌, [], IfOk, None};
 ghost use Rattle.std.specs.Option.{option_map};
-ghost use Rattle.lru_trace.specs.Sizes.{with_digit, sizes_from};
+ghost use Rattle.lru_trace.specs.Sizes.{with_digit, number_from, sizes_from};
 
 use std::alloc::{AllocError, Global};
 
@@ -12,6 +12,16 @@ fn with_digit(number: usize, byte: u8) -> Option<usize>
     }
     let digit = (byte - b'0') as usize;
     number.checked_mul(10)?.checked_add(digit)
+}
+
+pub fn number_of(text: &[u8]) -> Option<usize>
+    ensures { result ≡ number_from None text.now }
+{
+    let mut number = None;
+    for byte in text {
+        number = Some(with_digit(number.unwrap_or(0), *byte)?);
+    }
+    number
 }
 
 pub fn sizes_of(alloc: Global, line: &[u8]) -> Result<Option<Vec<usize>>, AllocError>

@@ -1,10 +1,11 @@
 //! The picture of the curves. Its lengths are tenths of a pixel.
 ghost use Rattle.std.specs.Prelude.{◌≡◌, ◌≤◌, ◌<◌, ◌+◌, ◌*◌, ◌^◌, ◌++◌, OnOk, IfOk, length, flat_map};
 ghost use Rattle.std.specs.List.{All};
-ghost use Rattle.lru_trace.specs.Svg.{part, level_of, log_of, x_of, missed_by, y_of, point_text, legend, curve_text};
+ghost use Rattle.lru_trace.specs.Svg.{part, level_of, log_of, x_of, missed_by, y_of, point_text, label, legend, curve_text};
 ghost use Rattle.lru_trace.specs.Svg.{tick_text, skipped_part, title_text, curves_text, svg_text};
 ghost use Rattle.std.specs.String.{string_bytes};
 
+use crate::options::Measure;
 use crate::rows::{BestMisses, Counts, Row, missed_part};
 use std::alloc::{AllocError, Global};
 
@@ -36,9 +37,12 @@ path{fill:none;stroke-width:28;stroke-linejoin:round;stroke-linecap:round}
 <text class='part' x='820' y='2670'>40 %</text>
 <text class='part' x='820' y='3310'>20 %</text>
 <text class='part' x='820' y='3950'>0 %</text>
-<text class='tick' x='4100' y='4400'>size of the cache, in entries</text>
 <text class='tick' transform='translate(250 2300) rotate(-90)'>references that miss</text>
 ";
+
+const PLACES: &str = "<text class='tick' x='4100' y='4400'>size of the cache, in entries</text>\n";
+
+const BYTES: &str = "<text class='tick' x='4100' y='4400'>size of the cache, in bytes</text>\n";
 
 const LRU: &str = "\
 <path class='lru' d='M900 500h500'/><text x='1480' y='550'>LRU</text>
@@ -137,6 +141,15 @@ fn add_point(
         svg.extend_from_slice(text.as_bytes())?;
     }
     Ok(())
+}
+
+fn label(measure: Measure) -> &'static str
+    ensures { result.now ≡ label measure }
+{
+    match measure {
+        Measure::Places => PLACES,
+        Measure::Bytes => BYTES,
+    }
 }
 
 fn legend(policy: Policy) -> &'static str
@@ -254,6 +267,7 @@ pub fn svg_of(
     let octaves = axis.len().saturating_sub(1).max(1) as u128;
     let title = title_text(alloc, counts)?;
     let mut svg = Vec::from_slice(alloc, START.as_bytes())?;
+    svg.extend_from_slice(label(counts.measure).as_bytes())?;
     svg.extend_from_slice(title.as_bytes())?;
     add_ticks(alloc, &mut svg, octaves, axis)?;
     add_curves(alloc, &mut svg, best, octaves, rows)?;

@@ -1,15 +1,19 @@
 //! Reads a trace from lines, and writes its report.
-ghost use Rattle.std.specs.Prelude.{◌≡◌, ◌≢◌, [], IfOk, OnErr, IfErr, MatchOption, is_some};
-ghost use Rattle.lru_trace.specs.Counted.{IsOf};
-ghost use Rattle.lru_trace.specs.Outcome.{Ends, TraceRead, NoSizesRead, SomeRead};
+ghost use Rattle.std.specs.Prelude.{◌≡◌, ◌≢◌, ◌≤◌, ◌-◌, ◌/◌, ◌^◌, [], ◌++◌, map, IfOk, OnOk, OnErr, IfErr, MatchOption};
+ghost use Rattle.lru_trace.specs.Curves.{IsCurveOf, Fits};
+ghost use Rattle.lru_trace.specs.Rows.{powers};
+ghost use Rattle.lru_trace.specs.Outcome.{Ends, TraceRead, NoSizesRead, SomeRead, TooLargeRead};
 
+use crate::byte_curve::ByteCurve;
 use crate::curve::Curve;
+use crate::curves::AnyCurve;
 use crate::lines::{Ending, Others, read_keys, read_line};
-use crate::options::Options;
+use crate::options::{Options, Policies};
 use crate::outcome::{TraceEnd, TraceError};
 use crate::output::write_bytes;
 use crate::progress::Progress;
 use crate::report::report_of;
+use crate::rows::powers;
 use crate::sizes::sizes_of;
 use std::alloc::{AllocError, Global};
 use std::io::{BufRead, Write};
@@ -17,18 +21,44 @@ use std::io::{BufRead, Write};
 #[derive(Drop)]
 struct Lines {
     sizes: Vec<usize>,
-    curve: Curve,
+    curve: AnyCurve,
     others: Others,
 }
 
-fn empty_curve(alloc: Global, best: bool) -> Result<Curve, AllocError>
-    ensures of { IfOk result (IsOf [] []) }
-    ensures keeps { IfOk result (λ curve. is_some curve.kept ≡ best) }
+fn add_limits(limits: &mut Vec<u64>, sizes: &[usize], bits: u32) -> Result<(), AllocError>
+    requires { bits ≤ 20 }
+    ensures { OnOk result (limits.new.items ≡ limits.old.items ++ map (λ size. size / 2 ^ bits) sizes.now) }
 {
-    if best {
-        return Curve::keeping_references(alloc);
+    for size in sizes {
+        limits.push((*size >> bits) as u64)?;
     }
-    Curve::new(alloc)
+    Ok(())
+}
+
+/// Returns what the named sizes and all powers of two stand for.
+fn limits_of(alloc: Global, sizes: &[usize], bits: u32) -> Result<Vec<u64>, AllocError>
+    requires { bits ≤ 20 }
+    ensures { IfOk result (λ limits. limits.items ≡ map (λ size. size / 2 ^ bits) sizes.now
+        ++ map (λ size. size / 2 ^ bits) (powers (2 ^ 128 - 1) 64 0)) }
+{
+    let mut limits = Vec::new(alloc);
+    add_limits(&mut limits, sizes, bits)?;
+    add_limits(&mut limits, &powers(alloc, u128::MAX)?, bits)?;
+    Ok(limits)
+}
+
+fn empty_curve(alloc: Global, options: Options, sizes: &[usize]) -> Result<AnyCurve, AllocError>
+    ensures of { IfOk result (IsCurveOf [] []) }
+    ensures fits { IfOk result (λ curve. Fits options sizes.now curve) }
+{
+    match options.policies {
+        Policies::Lru { .. } => Ok(AnyCurve::Places(Curve::new(alloc)?)),
+        Policies::Best => Ok(AnyCurve::Places(Curve::keeping_references(alloc)?)),
+        Policies::Sized { .. } => {
+            let limits = limits_of(alloc, sizes, options.bits())?;
+            Ok(AnyCurve::Bytes(ByteCurve::new(alloc, limits)?))
+        }
+    }
 }
 
 fn read_trace<R: BufRead, P: Write>(
@@ -41,6 +71,8 @@ fn read_trace<R: BufRead, P: Write>(
         MatchOption read (NoSizesRead (R.remaining reader.old) (R.remaining reader.new))
         (λ t. TraceRead (R.remaining reader.old) (R.remaining reader.new) options t.sizes.items t.curve t.others)) }
     ensures err { OnErr result (SomeRead (R.remaining reader.old) (R.remaining reader.new)) }
+    ensures large { IfErr result (λ e. e ≡ TraceError.TooLarge →
+        TooLargeRead 1 (R.remaining reader.old) (R.remaining reader.new) options) }
     ensures kind { IfErr result (λ e. e ≢ TraceError.Write) }
 {
     let mut line = Vec::new(alloc);
@@ -48,7 +80,7 @@ fn read_trace<R: BufRead, P: Write>(
     let Some(sizes) = sizes_of(alloc, &line)? else {
         return Ok(None);
     };
-    let mut curve = empty_curve(alloc, options.policies.best())?;
+    let mut curve = empty_curve(alloc, options, &sizes)?;
     let Ending::Feed = ending else {
         let others = Others {
             malformed: 0,

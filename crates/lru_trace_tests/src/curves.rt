@@ -8,6 +8,7 @@ fn of_the_errors(rt: HostRuntime) -> Result<(), Fail> {
         (TraceError::Read, "read failed"),
         (TraceError::Write, "write failed"),
         (TraceError::Memory, "out of memory"),
+        (TraceError::TooLarge, "the sizes of the keys are too large"),
     ] {
         check!(rt; format!(in rt.alloc(); "{error}")?.as_str() == text);
     }

@@ -1,4 +1,4 @@
-use lru_trace::{Curve, Form, Options, Policies, Progress, TraceError, status, trace};
+use lru_trace::{Column, Curve, Form, Options, Policies, Progress, TraceError, status, trace};
 use std::alloc::Global;
 use std::test::Fail;
 use test_helpers::{Hog, check};
@@ -10,18 +10,12 @@ fn refer(alloc: Global, curve: &mut Curve, number: u64) -> Result<(), TraceError
     Ok(())
 }
 
-fn fails_without_memory(alloc: Global, form: Form) -> Result<bool, TraceError> {
-    let options = Options {
-        column: None,
-        form,
-        policies: Policies::Lru { warm_up: 1 },
-        sample: 0,
-    };
+fn fails_without_memory(alloc: Global, options: Options) -> Result<bool, TraceError> {
     let mut report = Vec::with_capacity(alloc, 9999)?;
     let mut progress = Progress::new(alloc, None::<Vec<u8>>);
     let mut failed = true;
     for blocks in 0..99 {
-        let mut lines = b"1\na\nb\na\n".as_slice();
+        let mut lines = b"1\n1\n2\n1\n".as_slice();
         let hog = Hog::but(alloc, blocks)?;
         let end = trace(alloc, options, &mut lines, &mut report, &mut progress);
         drop(hog);
@@ -35,9 +29,24 @@ fn fails_without_memory(alloc: Global, form: Form) -> Result<bool, TraceError> {
 
 #[test]
 fn a_trace_without_memory(rt: HostRuntime) -> Result<(), Fail> {
+    let mut options = Options {
+        column: None,
+        form: Form::Text,
+        policies: Policies::Lru { warm_up: 1 },
+        sample: 0,
+    };
     for form in [Form::Text, Form::Csv, Form::Svg] {
-        check!(rt; fails_without_memory(rt.alloc(), form)?);
+        options.form = form;
+        check!(rt; fails_without_memory(rt.alloc(), options)?);
     }
+    options.policies = Policies::Sized {
+        warm_up: 1,
+        size: Column {
+            index: 0,
+            separator: b',',
+        },
+    };
+    check!(rt; fails_without_memory(rt.alloc(), options)?);
     Ok(())
 }
 

@@ -47,7 +47,8 @@ pub use crate::erased::lru_trace::Column;
 /// ```
 pub use crate::erased::lru_trace::Options;
 
-/// Whose misses are counted: LRU's, after a warm-up, or those of the best possible policies, too.
+/// Whose misses are counted: LRU's, after a warm-up, with limits of entries or of bytes, or those of the best possible
+/// policies, too.
 ///
 /// ```
 /// use jeerdurian::trace::Policies;
@@ -154,6 +155,11 @@ impl ByteCurve {
     /// Returns the number of different keys, also of the warm-up.
     pub fn keys(&self) -> usize {
         self.0.keys()
+    }
+
+    /// Returns how many bytes all keys take together, also those of the warm-up.
+    pub fn bytes(&self) -> u64 {
+        self.0.bytes()
     }
 
     /// Returns how many counted references miss in an LRU cache with this limit. `None` if `new` did not get the limit.
@@ -281,10 +287,13 @@ impl Curve {
     /// # Ok::<(), jeerdurian::trace::TraceError>(())
     /// ```
     pub fn from_lines(mut reader: impl BufRead) -> Result<(Self, u64), TraceError> {
-        let mut curve = proved::Curve::new(Global)?;
+        let mut curve = proved::AnyCurve::Places(proved::Curve::new(Global)?);
         let lines = &mut Vec::new(Global);
         let others = proved::read_keys(&mut reader, lines, text_of(LRU), &mut curve, &mut no_progress())?;
-        Ok((Curve(curve), others.malformed))
+        match curve {
+            proved::AnyCurve::Places(curve) => Ok((Curve(curve), others.malformed)),
+            proved::AnyCurve::Bytes(_) => unreachable!("a curve keeps its measure"),
+        }
     }
 
     /// References a key.
@@ -389,12 +398,12 @@ pub fn report_with_best(mut reader: impl BufRead, mut writer: impl Write) -> Res
     proved::trace(Global, text_of(Policies::Best), &mut reader, &mut writer, &mut no_progress())
 }
 
-/// As `report`, of a column of the lines or of a sample of the keys, after a warm-up or with the best possible policies,
-/// and in the form of the options: text, csv or a picture in svg.
+/// As `report`, of a column of the lines or of a sample of the keys, after a warm-up, with limits of bytes or with the
+/// best possible policies, and in the form of the options: text, csv or a picture in svg.
 ///
 /// # Errors
 ///
-/// As `report`.
+/// As `report`. `TooLarge`: the sizes of all keys sum to 2^64 or more.
 ///
 /// ```
 /// use jeerdurian::trace::{Column, Form, Options, Policies, TraceEnd, report_as};
@@ -404,6 +413,12 @@ pub fn report_with_best(mut reader: impl BufRead, mut writer: impl Write) -> Res
 /// let mut csv = Vec::new();
 /// assert_eq!(report_as(options, b"2\n1,a\n2,b\n3,c\n4,a\n".as_slice(), &mut csv), Ok(TraceEnd::Done));
 /// assert!(csv.starts_with(b"size,hits,misses,ratio,min,bypass\n1,0,4,1.0000,4,3\n2,0,4,1.0000,3,3\n"));
+///
+/// let size = Column { index: 0, separator: b',' };
+/// let options = Options { policies: Policies::Sized { warm_up: 0, size }, form: Form::Text, ..options };
+/// let mut text = Vec::new();
+/// assert_eq!(report_as(options, b"30\n10,a\n20,b\n10,a\n".as_slice(), &mut text), Ok(TraceEnd::Done));
+/// assert!(text.starts_with(b"references 3 keys 2 malformed 0\nbytes 30 hits 1 misses 2 ratio 0.6666\n"));
 /// ```
 pub fn report_as(options: Options, mut reader: impl BufRead, mut writer: impl Write) -> Result<TraceEnd, TraceError> {
     proved::trace(Global, options, &mut reader, &mut writer, &mut no_progress())

@@ -86,6 +86,9 @@ fn arguments() {
         &["--sample", "-1"],
         &["--sample", "x"],
         &["--best", "--sample"],
+        &["--size-column", "0"],
+        &["--csv", "--size-column"],
+        &["--size-column", "2", "--best"],
     ] {
         let run = Command::new(env!("CARGO_BIN_EXE_trace")).args(arguments).stdin(Stdio::null()).output().unwrap();
         assert_eq!((run.status.code(), run.stdout.as_slice()), (Some(4), &b""[..]), "{arguments:?}");
@@ -154,7 +157,9 @@ fn cases_of_trace() {
         let mut run = Command::new(env!("CARGO_BIN_EXE_trace"));
         let run = run.args(arguments.lines()).stdin(File::open(&file).unwrap()).output().unwrap();
         assert!(run.stdout == expected, "{}: {}", file.display(), String::from_utf8_lossy(&run.stdout));
-        assert_eq!(run.status.code(), Some(i32::from(expected.is_empty())), "{}", file.display());
+        let failed = if arguments.contains("--size-column") { 5 } else { 1 };
+        let status = if expected.is_empty() { failed } else { 0 };
+        assert_eq!(run.status.code(), Some(status), "{}", file.display());
         cases += 1;
     }
     assert!(cases > 10);

@@ -1,15 +1,17 @@
-use Rattle.std.proofs.Common.{◌≡◌, ◌+◌, ◌-◌, [], ◌∷◌, ◌∙◌, arith, refl, ap, sym, subst}
+use Rattle.std.proofs.Common.{◌≡◌, ◌+◌, ◌-◌, [], ◌∷◌, ◌∙◌, arith, ap, sym, subst}
 use Rattle.std.specs.Prelude.{nat_lt}
-use Rattle.lru_trace.specs.Counted.{Follows}
+use Rattle.lru_trace.specs.Curves.{AreTooLarge, Follows, Leads}
 use Rattle.lru_trace.specs.Lines.{fed}
 use Rattle.lru_trace.specs.Outcome.{KeysRead}
-use Rattle.lru_trace.specs.References.{bits_of, keys_read, others_so}
+use Rattle.lru_trace.specs.References.{bits_of, references_in, others_so}
 use Rattle.lru_trace.specs.Samples.{sampled}
-use Rattle.lru_trace.proofs.ReadLines.{ReadSoFar, both, few_others, none_read, line_read, last_read, some_part}
+use Rattle.lru_trace.proofs.AnyCurves.{no_references, alike, alike_still, too_large_from}
+use Rattle.lru_trace.proofs.CurveSteps.{if_passed}
+use Rattle.lru_trace.proofs.ReadLines.{ReadSoFar, both, few_others, none_read, line_read, last_read, large_line, large_last, some_part}
 use Rattle.lru_trace.proofs.lines.read_keys.Goals as goal
 
 pub loop-lines-init : goal.loop-lines-init
-loop-lines-init g c = (omega arith, omega arith, omega (arith, c.requires.all), refl, none_read _ _ _ c.requires)
+loop-lines-init g c = (omega arith, omega arith, no_references _ c.requires, alike, none_read _ _ _ c.requires)
 
 pub returns-in_err-read_line-clause-err : goal.returns-in_err-read_line-clause-err
 returns-in_err-read_line-clause-err g c =
@@ -40,13 +42,13 @@ returns-in-InputEnd-clause-ok g c =
     let is = c.in_ok-refer_line-in-InputEnd.ensures in
     let same = c.deref-in-InputEnd.ensures.value in
     let follows = subst (λ l. Follows (nat_lt read c.warm_up-warm_up.result) c.loop-lines.curve
-    (sampled (bits_of options) (keys_read options (l ∷ []))) c.refer_line-in-InputEnd.new.curve) same is.ok in
+    (sampled (bits_of options) (references_in options (l ∷ []))) c.refer_line-in-InputEnd.new.curve) same is.ok in
     let warm = nat_lt read c.warm_up-warm_up.result in
     let added = c.add-in-InputEnd.ensures ∙ ap (both c.loop-lines.others) is.others
     ∙ ap (λ l. both c.loop-lines.others (others_so options (l ∷ []) warm)) same in
     subst (KeysRead from to options c.refer_line-in-InputEnd.new.curve) (sym added)
-    (last_read c.loop-lines.invariant.4 to line c.refer_line-in-InputEnd.new.curve
-    (nat_lt read c.warm_up-warm_up.result) (ap (nat_lt read) c.warm_up-warm_up.ensures) follows taken.0 taken.1)
+    (last_read c.loop-lines.invariant.4 to line warm (ap (nat_lt read) c.warm_up-warm_up.ensures)
+    c.refer_line-in-InputEnd.new.curve follows taken.0 taken.1)
 
 pub loop-lines-preserved : goal.loop-lines-preserved
 loop-lines-preserved g c =
@@ -60,7 +62,7 @@ loop-lines-preserved g c =
     let is = c.in_ok-refer_line-in-Feed.ensures in
     let same = c.deref.ensures.value in
     let follows = subst (λ l. Follows (nat_lt read c.warm_up-warm_up.result) c.loop-lines.curve
-    (sampled (bits_of options) (keys_read options (l ∷ []))) c.refer_line.new.curve) same is.ok in
+    (sampled (bits_of options) (references_in options (l ∷ []))) c.refer_line.new.curve) same is.ok in
     let warm = nat_lt read c.warm_up-warm_up.result in
     let added : c.add.new.self ≡ both c.loop-lines.others (others_so options (line ∷ []) warm) =
     c.add.ensures ∙ ap (both c.loop-lines.others) is.others
@@ -69,8 +71,31 @@ loop-lines-preserved g c =
       omega (arith, inv.0, ap (λ o. o.malformed) added, few.0),
       omega (arith, inv.1, ap (λ o. o.skipped) added, few.1),
       omega (arith, inv.2, is.references),
-      is.keeps ∙ inv.3,
+      alike_still inv.3 is.alike,
       subst (ReadSoFar from to options c.refer_line.new.curve (c.loop-lines.lines + 1)) (sym added)
-          (line_read inv.4 to line c.refer_line.new.curve (nat_lt read c.warm_up-warm_up.result)
-          (ap (nat_lt read) c.warm_up-warm_up.ensures) follows taken),
+          (line_read inv.4 to line warm (ap (nat_lt read) c.warm_up-warm_up.ensures) c.refer_line.new.curve follows taken),
     )
+
+pub returns-in_err-refer_line-in-Feed-clause-large : goal.returns-in_err-refer_line-in-Feed-clause-large
+returns-in_err-refer_line-in-Feed-clause-large g c =
+    let read = c.loop-lines.lines - c.loop-lines.others.malformed in
+    let warm = nat_lt read c.warm_up-warm_up.result in
+    let options = c.args.options in
+    let taken = rw c.in-Feed.is at c.in_ok-read_line.ensures.ok in
+    if_passed _ _ _ c.from_residual-in_err-refer_line-in-Feed.ensures (λ is.
+    large_line c.loop-lines.invariant.4 (g.R.Read.remaining c.read_line.new.reader) c.read_line.new.line.items warm
+    (ap (nat_lt read) c.warm_up-warm_up.ensures)
+    (subst (λ l. Leads warm c.loop-lines.curve (sampled (bits_of options) (references_in options (l ∷ []))) AreTooLarge)
+    c.deref.ensures.value (c.in_err-refer_line-in-Feed.ensures.large (too_large_from _ is))) taken)
+
+pub returns-in_err-refer_line-in-InputEnd-clause-large : goal.returns-in_err-refer_line-in-InputEnd-clause-large
+returns-in_err-refer_line-in-InputEnd-clause-large g c =
+    let read = c.loop-lines.lines - c.loop-lines.others.malformed in
+    let warm = nat_lt read c.warm_up-warm_up.result in
+    let options = c.args.options in
+    let taken = rw c.in-InputEnd.is at c.in_ok-read_line.ensures.ok in
+    if_passed _ _ _ c.from_residual-in_err-refer_line-in-InputEnd.ensures (λ is.
+    large_last c.loop-lines.invariant.4 (g.R.Read.remaining c.read_line.new.reader) c.read_line.new.line.items warm
+    (ap (nat_lt read) c.warm_up-warm_up.ensures)
+    (subst (λ l. Leads warm c.loop-lines.curve (sampled (bits_of options) (references_in options (l ∷ []))) AreTooLarge)
+    c.deref-in-InputEnd.ensures.value (c.in_err-refer_line-in-InputEnd.ensures.large (too_large_from _ is))) taken.0 taken.1)

@@ -4,7 +4,7 @@ use Rattle.lru_trace.proofs.report.text_of.Goals as goal
 
 pub returns : goal.returns
 returns c =
-    let sizes = flat_map size_text c.args.named.now in
+    let sizes = flat_map (size_text c.args.counts.measure) c.args.named.now in
     let bars = flat_map bar_text c.args.bars.now in
     c.in_ok-add_bars.ensures ∙ ap (λ l. l ++ bars) (c.in_ok-add_sizes.ensures ∙ ap (λ l. l ++ sizes)
     (c.in_ok-report.ensures.items ∙ c.as_bytes.ensures.value ∙ c.in_ok-head.ensures))

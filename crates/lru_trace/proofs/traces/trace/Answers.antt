@@ -2,7 +2,6 @@ use Rattle.std.proofs.Common.{ap, ◌∙◌, subst}
 use Rattle.std.proofs.KnownBytes.{Appends-kept, Keeps-refl}
 use Rattle.std.specs.Io.KnownBytes.{Appends}
 use Rattle.lru_trace.specs.Report.{written}
-use Rattle.lru_trace.specs.References.{bits_of, wants_best}
 use Rattle.lru_trace.specs.Outcome.{Begins}
 use Rattle.lru_trace.proofs.Ended.{reported, all_begun, out_of_memory}
 use Rattle.lru_trace.proofs.traces.trace.Goals as goal
@@ -13,8 +12,8 @@ returns-then-not-write_bytes g c =
     let old = g.W.Write.contents c.args.writer.now in
     let new = g.W.Write.contents c.write_bytes.new.writer in
     reported c.args.options read (c.in_ok-report.report.items)
-    (λ warm trace of. c.in_ok-report.ensures warm trace of ∙ ap (λ ns. written (bits_of c.args.options) warm trace ns
-    c.in-Some.read.others c.args.options.form (wants_best c.args.options.policies)) c.deref.ensures.value)
+    (λ warm trace of. c.in_ok-report.ensures warm trace of
+    ∙ ap (λ ns. written c.args.options warm trace ns c.in-Some.read.others) c.deref.ensures.value)
     (Begins old new) (subst (Begins old new) c.deref-2.ensures.value c.if-not-write_bytes.ensures)
 
 pub returns-in-Ok : goal.returns-in-Ok
@@ -25,8 +24,8 @@ returns-in-Ok g c =
     let new = g.W.Write.contents c.flush.new.self in
     let report = c.in_ok-report.report.items in
     reported c.args.options read report
-    (λ warm trace of. c.in_ok-report.ensures warm trace of ∙ ap (λ ns. written (bits_of c.args.options) warm trace ns
-    c.in-Some.read.others c.args.options.form (wants_best c.args.options.policies)) c.deref.ensures.value)
+    (λ warm trace of. c.in_ok-report.ensures warm trace of
+    ∙ ap (λ ns. written c.args.options warm trace ns c.in-Some.read.others) c.deref.ensures.value)
     (Appends old new) (Appends-kept old mid new report
     (subst (Appends old mid) c.deref-2.ensures.value c.if-not-write_bytes.ensures) c.flush.ensures.bytes)
 
@@ -36,8 +35,8 @@ returns g c =
     let old = g.W.Write.contents c.args.writer.now in
     let mid = g.W.Write.contents c.write_bytes.new.writer in
     all_begun c.args.options read (c.in_ok-report.report.items)
-    (λ warm trace of. c.in_ok-report.ensures warm trace of ∙ ap (λ ns. written (bits_of c.args.options) warm trace ns
-    c.in-Some.read.others c.args.options.form (wants_best c.args.options.policies)) c.deref.ensures.value)
+    (λ warm trace of. c.in_ok-report.ensures warm trace of
+    ∙ ap (λ ns. written c.args.options warm trace ns c.in-Some.read.others) c.deref.ensures.value)
     old mid (g.W.Write.contents c.flush.new.self)
     (subst (Appends old mid) c.deref-2.ensures.value c.if-not-write_bytes.ensures) c.flush.ensures.bytes
 

@@ -165,6 +165,12 @@ impl ByteCurve {
         self.distances.referenced()
     }
 
+    /// Returns how many bytes all referenced keys take together, also those of the warm-up.
+    pub fn bytes(&self) -> u64 {
+        let _names = &self.numbers;
+        self.total
+    }
+
     /// Returns how many counted references miss in an LRU cache with this limit. If the curve does not have the limit,
     /// returns `None`.
     ///

@@ -22,7 +22,7 @@ fn behind(line: &[u8], separator: u8) -> &[u8] {
     b""
 }
 
-fn cell(line: &[u8], column: Column) -> &[u8] {
+pub fn cell(line: &[u8], column: Column) -> &[u8] {
     let mut rest = line;
     for _ in 0..column.index {
         if rest.is_empty() {

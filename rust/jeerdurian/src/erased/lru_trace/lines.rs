@@ -4,13 +4,14 @@
 #[allow(unused_imports)]
 use crate::rattle_std::prelude::*;
 
-use crate::erased::lru_trace::columns::text_in;
-use crate::erased::lru_trace::curve::Curve;
-use crate::erased::lru_trace::options::Options;
+use crate::erased::lru_trace::byte_curve::SizeError;
+use crate::erased::lru_trace::columns::{cell, text_in};
+use crate::erased::lru_trace::curves::AnyCurve;
+use crate::erased::lru_trace::options::{Options, Policies};
 use crate::erased::lru_trace::outcome::TraceError;
 use crate::erased::lru_trace::progress::Progress;
 use crate::erased::lru_trace::samples::is_sampled;
-use crate::rattle_std::alloc::AllocError;
+use crate::erased::lru_trace::sizes::number_of;
 use crate::rattle_std::io::{BufRead, ErrorKind, Write};
 
 /// The most bytes of a key.
@@ -70,21 +71,27 @@ fn key_of(line: &[u8]) -> Option<&str> {
     }
 }
 
-fn refer_key(curve: &mut Curve, warm: bool, key: &str) -> Result<(), AllocError> {
-    if warm {
-        return curve.warm_up(key);
+fn size_of(line: &[u8], policies: Policies) -> Option<u64> {
+    match policies {
+        Policies::Lru { .. } | Policies::Best => Some(1),
+        Policies::Sized { size, .. } => Some(number_of(cell(line, size))? as u64),
     }
-    curve.refer(key)
 }
 
-fn refer_line(curve: &mut Curve, options: Options, warm: bool, line: &[u8]) -> Result<Others, AllocError> {
-    let Some(key) = key_of(text_in(line, options.column)) else {
+fn reference_of<'a>(line: &'a [u8], options: Options) -> Option<(&'a str, u64)> {
+    let key = key_of(text_in(line, options.column))?;
+    let size = size_of(line, options.policies)?;
+    Some((key, size))
+}
+
+fn refer_line(curve: &mut AnyCurve, options: Options, warm: bool, line: &[u8]) -> Result<Others, SizeError> {
+    let Some((key, size)) = reference_of(line, options) else {
         return Ok(Others { malformed: 1, skipped: 0 });
     };
     if !is_sampled(key.as_bytes(), options.bits()) {
         return Ok(Others { malformed: 0, skipped: u64::from(!warm) });
     }
-    refer_key(curve, warm, key)?;
+    curve.refer(warm, key, size)?;
     Ok(Others { malformed: 0, skipped: 0 })
 }
 
@@ -94,11 +101,12 @@ fn refer_line(curve: &mut Curve, options: Options, warm: bool, line: &[u8]) -> R
 /// # Errors
 ///
 /// `Read`: a read failed, or there were 2 ^ 64 - 2 lines. `Memory`: out of memory for a line or a key.
+/// `TooLarge`: the sizes of all keys sum to 2 ^ 64 or more.
 pub fn read_keys<R: BufRead, P: Write>(
     reader: &mut R,
     line: &mut Vec<u8>,
     options: Options,
-    curve: &mut Curve,
+    curve: &mut AnyCurve,
     progress: &mut Progress<P>,
 ) -> Result<Others, TraceError> {
     let warm_up = options.policies.warm_up();

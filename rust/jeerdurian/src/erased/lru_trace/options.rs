@@ -20,6 +20,15 @@ pub struct Column {
     pub separator: u8,
 }
 
+/// What the size of a cache is.
+#[derive(Clone, Copy, Debug, PartialEq, Eq)]
+pub enum Measure {
+    /// How many entries the cache can contain.
+    Places,
+    /// How many bytes its entries can take together.
+    Bytes,
+}
+
 /// The policies whose misses are counted.
 #[derive(Clone, Copy, Debug, PartialEq, Eq)]
 pub enum Policies {
@@ -27,6 +36,8 @@ pub enum Policies {
     Lru { warm_up: u64 },
     /// LRU and the best possible policies. All begin with no keys.
     Best,
+    /// LRU with limits of bytes, after a warm-up. The column `size` says how many bytes an entry takes.
+    Sized { warm_up: u64, size: Column },
 }
 
 /// What `trace` reads and writes.
@@ -49,15 +60,22 @@ impl Options {
 impl Policies {
     pub(crate) fn warm_up(self) -> u64 {
         match self {
-            Policies::Lru { warm_up } => warm_up,
+            Policies::Lru { warm_up } | Policies::Sized { warm_up, .. } => warm_up,
             Policies::Best => 0,
         }
     }
 
     pub(crate) fn best(self) -> bool {
         match self {
-            Policies::Lru { .. } => false,
+            Policies::Lru { .. } | Policies::Sized { .. } => false,
             Policies::Best => true,
+        }
+    }
+
+    pub(crate) fn measure(self) -> Measure {
+        match self {
+            Policies::Lru { .. } | Policies::Best => Measure::Places,
+            Policies::Sized { .. } => Measure::Bytes,
         }
     }
 }

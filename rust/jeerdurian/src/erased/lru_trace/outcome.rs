@@ -2,6 +2,7 @@
 #[allow(unused_imports)]
 use crate::rattle_std::prelude::*;
 
+use crate::erased::lru_trace::byte_curve::SizeError;
 use crate::rattle_std::alloc::AllocError;
 
 /// How a trace ends if nothing fails.
@@ -19,6 +20,8 @@ pub enum TraceError {
     Write = 2,
 
     Memory = 3,
+    /// The sizes of all keys sum to 2 ^ 64 or more.
+    TooLarge = 5,
 }
 
 impl ::core::fmt::Display for TraceError {
@@ -27,6 +30,7 @@ impl ::core::fmt::Display for TraceError {
             TraceError::Read => write!(f, "read failed"),
             TraceError::Write => write!(f, "write failed"),
             TraceError::Memory => write!(f, "out of memory"),
+            TraceError::TooLarge => write!(f, "the sizes of the keys are too large"),
         }
     }
 }
@@ -37,13 +41,23 @@ impl From<AllocError> for TraceError {
     }
 }
 
+impl From<SizeError> for TraceError {
+    fn from(error: SizeError) -> Self {
+        match error {
+            SizeError::Memory => TraceError::Memory,
+            SizeError::TooLarge => TraceError::TooLarge,
+        }
+    }
+}
+
 /// Returns the exit status: 0 if the report was written, 1 if the first line names no sizes, 2 if reading or writing
-/// failed, and 3 if memory ran out.
+/// failed, 3 if memory ran out, and 5 if the sizes of all keys sum to 2 ^ 64 or more.
 pub fn status(end: &Result<TraceEnd, TraceError>) -> u8 {
     match end {
         Ok(TraceEnd::Done) => 0,
         Ok(TraceEnd::NoSizes) => 1,
         Err(TraceError::Read | TraceError::Write) => 2,
         Err(TraceError::Memory) => 3,
+        Err(TraceError::TooLarge) => 5,
     }
 }

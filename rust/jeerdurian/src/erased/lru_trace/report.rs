@@ -5,9 +5,9 @@
 use crate::rattle_std::prelude::*;
 
 use crate::erased::lru_trace::best::Best;
-use crate::erased::lru_trace::curve::Curve;
+use crate::erased::lru_trace::curves::AnyCurve;
 use crate::erased::lru_trace::lines::Others;
-use crate::erased::lru_trace::options::{Form, Options};
+use crate::erased::lru_trace::options::{Form, Measure, Options};
 use crate::erased::lru_trace::rows::{
     BestMisses, Counts, Row, end_of, expected_of, missed_part, points, powers, powers_in, rows_of,
 };
@@ -37,11 +37,19 @@ fn add_best(alloc: Global, report: &mut Vec<u8>, best: Option<BestMisses>) -> Re
     Ok(())
 }
 
-fn add_size(alloc: Global, report: &mut Vec<u8>, row: Row) -> Result<(), AllocError> {
+fn measure_text(measure: Measure) -> &'static str {
+    match measure {
+        Measure::Places => "places ",
+        Measure::Bytes => "bytes ",
+    }
+}
+
+fn add_size(alloc: Global, report: &mut Vec<u8>, measure: Measure, row: Row) -> Result<(), AllocError> {
     let (size, misses) = (row.size, row.misses);
     let hits = row.expected.saturating_sub(u128::from(misses));
     let ratio = ratio(alloc, missed_part(misses, row.expected, 10_000))?;
-    let text = format!(in alloc; "places {size} hits {hits} misses {misses} ratio {ratio}")?;
+    let text = format!(in alloc; "{size} hits {hits} misses {misses} ratio {ratio}")?;
+    report.extend_from_slice(measure_text(measure).as_bytes())?;
     report.extend_from_slice(text.as_bytes())?;
     add_best(alloc, report, row.best)?;
     report.push(b'\n')?;
@@ -60,9 +68,9 @@ fn add_bar(alloc: Global, report: &mut Vec<u8>, row: Row) -> Result<(), AllocErr
     Ok(())
 }
 
-fn add_sizes(alloc: Global, report: &mut Vec<u8>, rows: &[Row]) -> Result<(), AllocError> {
+fn add_sizes(alloc: Global, report: &mut Vec<u8>, measure: Measure, rows: &[Row]) -> Result<(), AllocError> {
     for row in rows {
-        add_size(alloc, report, *row)?;
+        add_size(alloc, report, measure, *row)?;
     }
     Ok(())
 }
@@ -90,7 +98,7 @@ fn head_text(alloc: Global, counts: Counts) -> Result<String, AllocError> {
 fn text_of(alloc: Global, counts: Counts, named: &[Row], bars: &[Row]) -> Result<Vec<u8>, AllocError> {
     let head = head_text(alloc, counts)?;
     let mut report = Vec::from_slice(alloc, head.as_bytes())?;
-    add_sizes(alloc, &mut report, named)?;
+    add_sizes(alloc, &mut report, counts.measure, named)?;
     add_bars(alloc, &mut report, bars)?;
     Ok(report)
 }
@@ -132,7 +140,7 @@ fn csv_of(alloc: Global, best: bool, rows: &[Row]) -> Result<Vec<u8>, AllocError
 
 fn text_rows(
     alloc: Global,
-    curve: &Curve,
+    curve: &AnyCurve,
     counts: Counts,
     best: &Option<Best>,
     bits: u32,
@@ -148,7 +156,7 @@ fn text_rows(
 
 fn point_rows(
     alloc: Global,
-    curve: &Curve,
+    curve: &AnyCurve,
     counts: Counts,
     best: &Option<Best>,
     bits: u32,
@@ -160,8 +168,9 @@ fn point_rows(
     Ok(rows)
 }
 
-fn counts_of(bits: u32, curve: &Curve, others: Others) -> Counts {
+fn counts_of(bits: u32, curve: &AnyCurve, others: Others) -> Counts {
     Counts {
+        measure: curve.measure(),
         references: curve.references(),
         keys: curve.keys(),
         malformed: others.malformed,
@@ -172,13 +181,13 @@ fn counts_of(bits: u32, curve: &Curve, others: Others) -> Counts {
 pub fn report_of(
     alloc: Global,
     options: Options,
-    curve: &Curve,
+    curve: &AnyCurve,
     others: Others,
     sizes: &[usize],
 ) -> Result<Vec<u8>, AllocError> {
     let bits = options.bits();
     let counts = counts_of(bits, curve, others);
-    let axis = powers(alloc, end_of(counts.keys, bits))?;
+    let axis = powers(alloc, end_of(curve.needed(), bits))?;
     let powers = powers_in(&axis, bits);
     let best = curve.best()?;
     match options.form {

@@ -3,12 +3,14 @@
 use crate::rattle_std::prelude::*;
 
 use crate::erased::lru_trace::best::Best;
-use crate::erased::lru_trace::curve::Curve;
+use crate::erased::lru_trace::curves::AnyCurve;
+use crate::erased::lru_trace::options::Measure;
 use crate::rattle_std::alloc::{AllocError, Global};
 
 /// What the head of a report says about a trace.
 #[derive(Clone, Copy)]
 pub struct Counts {
+    pub measure: Measure,
     pub references: u64,
     pub keys: usize,
     pub malformed: u64,
@@ -52,16 +54,16 @@ fn best_in(best: &Option<Best>, size: usize) -> Result<Option<BestMisses>, Alloc
     Ok(Some(BestMisses { min, bypass }))
 }
 
-fn row_of(curve: &Curve, best: &Option<Best>, bits: u32, expected: u128, size: usize) -> Result<Row, AllocError> {
-    let places = size >> bits;
-    let misses = curve.misses(places);
-    let best = best_in(best, places)?;
+fn row_of(curve: &AnyCurve, best: &Option<Best>, bits: u32, expected: u128, size: usize) -> Result<Row, AllocError> {
+    let scaled = size >> bits;
+    let misses = curve.misses(scaled);
+    let best = best_in(best, scaled)?;
     Ok(Row { size, expected, misses, best })
 }
 
 pub fn rows_of(
     alloc: Global,
-    curve: &Curve,
+    curve: &AnyCurve,
     best: &Option<Best>,
     bits: u32,
     expected: u128,
@@ -75,8 +77,8 @@ pub fn rows_of(
 }
 
 /// The axis of sizes ends at the first power of two that is at least this number.
-pub fn end_of(keys: usize, bits: u32) -> u128 {
-    (keys.max(1) as u128) << bits
+pub fn end_of(needed: usize, bits: u32) -> u128 {
+    (needed.max(1) as u128) << bits
 }
 
 pub fn powers(alloc: Global, most: u128) -> Result<Vec<usize>, AllocError> {

@@ -12,6 +12,14 @@ fn with_digit(number: usize, byte: u8) -> Option<usize> {
     number.checked_mul(10)?.checked_add(digit)
 }
 
+pub fn number_of(text: &[u8]) -> Option<usize> {
+    let mut number = None;
+    for byte in text {
+        number = Some(with_digit(number.unwrap_or(0), *byte)?);
+    }
+    number
+}
+
 pub fn sizes_of(alloc: Global, line: &[u8]) -> Result<Option<Vec<usize>>, AllocError> {
     let mut sizes = Vec::new(alloc);
     let mut begun = None;

@@ -4,6 +4,7 @@
 #[allow(unused_imports)]
 use crate::rattle_std::prelude::*;
 
+use crate::erased::lru_trace::options::Measure;
 use crate::erased::lru_trace::rows::{BestMisses, Counts, Row, missed_part};
 use crate::rattle_std::alloc::{AllocError, Global};
 
@@ -35,9 +36,12 @@ path{fill:none;stroke-width:28;stroke-linejoin:round;stroke-linecap:round}
 <text class='part' x='820' y='2670'>40 %</text>
 <text class='part' x='820' y='3310'>20 %</text>
 <text class='part' x='820' y='3950'>0 %</text>
-<text class='tick' x='4100' y='4400'>size of the cache, in entries</text>
 <text class='tick' transform='translate(250 2300) rotate(-90)'>references that miss</text>
 ";
+
+const PLACES: &str = "<text class='tick' x='4100' y='4400'>size of the cache, in entries</text>\n";
+
+const BYTES: &str = "<text class='tick' x='4100' y='4400'>size of the cache, in bytes</text>\n";
 
 const LRU: &str = "\
 <path class='lru' d='M900 500h500'/><text x='1480' y='550'>LRU</text>
@@ -102,6 +106,13 @@ fn add_point(alloc: Global, svg: &mut Vec<u8>, octaves: u128, policy: Policy, ro
         svg.extend_from_slice(text.as_bytes())?;
     }
     Ok(())
+}
+
+fn label(measure: Measure) -> &'static str {
+    match measure {
+        Measure::Places => PLACES,
+        Measure::Bytes => BYTES,
+    }
 }
 
 fn legend(policy: Policy) -> &'static str {
@@ -169,6 +180,7 @@ pub fn svg_of(alloc: Global, counts: Counts, best: bool, axis: &[usize], rows: &
     let octaves = axis.len().saturating_sub(1).max(1) as u128;
     let title = title_text(alloc, counts)?;
     let mut svg = Vec::from_slice(alloc, START.as_bytes())?;
+    svg.extend_from_slice(label(counts.measure).as_bytes())?;
     svg.extend_from_slice(title.as_bytes())?;
     add_ticks(alloc, &mut svg, octaves, axis)?;
     add_curves(alloc, &mut svg, best, octaves, rows)?;

@@ -4,28 +4,50 @@
 #[allow(unused_imports)]
 use crate::rattle_std::prelude::*;
 
+use crate::erased::lru_trace::byte_curve::ByteCurve;
 use crate::erased::lru_trace::curve::Curve;
+use crate::erased::lru_trace::curves::AnyCurve;
 use crate::erased::lru_trace::lines::{Ending, Others, read_keys, read_line};
-use crate::erased::lru_trace::options::Options;
+use crate::erased::lru_trace::options::{Options, Policies};
 use crate::erased::lru_trace::outcome::{TraceEnd, TraceError};
 use crate::erased::lru_trace::output::write_bytes;
 use crate::erased::lru_trace::progress::Progress;
 use crate::erased::lru_trace::report::report_of;
+use crate::erased::lru_trace::rows::powers;
 use crate::erased::lru_trace::sizes::sizes_of;
 use crate::rattle_std::alloc::{AllocError, Global};
 use crate::rattle_std::io::{BufRead, Write};
 
 struct Lines {
     sizes: Vec<usize>,
-    curve: Curve,
+    curve: AnyCurve,
     others: Others,
 }
 
-fn empty_curve(alloc: Global, best: bool) -> Result<Curve, AllocError> {
-    if best {
-        return Curve::keeping_references(alloc);
+fn add_limits(limits: &mut Vec<u64>, sizes: &[usize], bits: u32) -> Result<(), AllocError> {
+    for size in sizes {
+        limits.push((*size >> bits) as u64)?;
     }
-    Curve::new(alloc)
+    Ok(())
+}
+
+/// Returns what the named sizes and all powers of two stand for.
+fn limits_of(alloc: Global, sizes: &[usize], bits: u32) -> Result<Vec<u64>, AllocError> {
+    let mut limits = Vec::new(alloc);
+    add_limits(&mut limits, sizes, bits)?;
+    add_limits(&mut limits, &powers(alloc, u128::MAX)?, bits)?;
+    Ok(limits)
+}
+
+fn empty_curve(alloc: Global, options: Options, sizes: &[usize]) -> Result<AnyCurve, AllocError> {
+    match options.policies {
+        Policies::Lru { .. } => Ok(AnyCurve::Places(Curve::new(alloc)?)),
+        Policies::Best => Ok(AnyCurve::Places(Curve::keeping_references(alloc)?)),
+        Policies::Sized { .. } => {
+            let limits = limits_of(alloc, sizes, options.bits())?;
+            Ok(AnyCurve::Bytes(ByteCurve::new(alloc, limits)?))
+        }
+    }
 }
 
 fn read_trace<R: BufRead, P: Write>(
@@ -39,7 +61,7 @@ fn read_trace<R: BufRead, P: Write>(
     let Some(sizes) = sizes_of(alloc, &line)? else {
         return Ok(None);
     };
-    let mut curve = empty_curve(alloc, options.policies.best())?;
+    let mut curve = empty_curve(alloc, options, &sizes)?;
     let Ending::Feed = ending else {
         let others = Others { malformed: 0, skipped: 0 };
         return Ok(Some(Lines { sizes, curve, others }));

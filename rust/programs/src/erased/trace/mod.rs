@@ -16,7 +16,7 @@ const UNKNOWN: u8 = 4;
 const MOST_BITS: u32 = 20;
 
 const HELP: &str = "\
-trace [--best | --warm-up N] [--sample R] [--csv | --svg] [--column N [--separator C]] < LINES
+trace [--best | --warm-up N] [--sample R] [--csv | --svg] [--column N] [--size-column N] [--separator C] < LINES
     Prints how often an LRU cache of each size misses the keys that were referenced.
 
 The first line has sizes with a space between each two, such as 1 10 100 1000. Each other line is a key, of 1 to 64
@@ -29,21 +29,26 @@ The output is a line for each named size, and then a bar for each power of two: 
 --warm-up N    takes the first N keys as a warm-up: they fill the caches, but are not counted as references, hits or
                misses. It cannot be combined with --best.
 --sample R     takes only the keys whose FNV-1a hash of 64 bits has its R lowest bits 0, about one key in 2^R, and
-               counts the others as skipped. A size n stands for n / 2^R places, and the ratio is estimated for all
+               counts the others as skipped. A size n stands for n / 2^R, and the ratio is estimated for all
                keys. R is 0 to 20.
 --csv          prints a record for each named size and each power of two, below a header.
 --svg          prints a picture of the curves. Of --csv and --svg the last one counts.
 --column N     takes the Nth column of each line as its key. The first line still has sizes.
+--size-column N
+               takes the Nth column as the size of the entry in bytes, so that sizes of caches are in bytes. A key keeps
+               its first size. It cannot be combined with --best.
 --separator C  says which byte stands between two columns. Without it, that is a comma.
 
 Exit status: 0 after the output, 1 if the first line has no sizes, 2 if a read or a write failed, 3 without memory,
-4 if an argument is unknown, lacks its value, cannot be read or cannot be combined.
+4 if an argument is unknown, lacks its value, cannot be read or cannot be combined, 5 if the sizes of all keys sum to
+2^64 or more.
 ";
 
 #[derive(Clone, Copy, PartialEq, Eq)]
 enum Next {
     Word,
     Number,
+    SizeNumber,
     Separator,
     WarmUp,
     Sample,
@@ -56,8 +61,16 @@ struct Asked {
     form: Form,
     sample: u32,
     column: Option<usize>,
+    size: Option<usize>,
     separator: u8,
     next: Next,
+}
+
+fn index(argument: &str) -> Option<usize> {
+    match argument.parse::<usize>() {
+        Ok(number) => number.checked_sub(1),
+        Err(_) => None,
+    }
 }
 
 impl Asked {
@@ -65,9 +78,13 @@ impl Asked {
     fn take(&mut self, argument: &str) -> bool {
         match self.next {
             Next::Word => return self.take_word(argument),
-            Next::Number => match argument.parse::<usize>() {
-                Ok(number) if number > 0 => self.column = Some(number - 1),
-                _ => return false,
+            Next::Number => match index(argument) {
+                Some(index) => self.column = Some(index),
+                None => return false,
+            },
+            Next::SizeNumber => match index(argument) {
+                Some(index) => self.size = Some(index),
+                None => return false,
             },
             Next::Separator => match argument.as_bytes() {
                 [byte] => self.separator = *byte,
@@ -92,6 +109,7 @@ impl Asked {
             "--csv" => self.form = Form::Csv,
             "--svg" => self.form = Form::Svg,
             "--column" => self.next = Next::Number,
+            "--size-column" => self.next = Next::SizeNumber,
             "--separator" => self.next = Next::Separator,
             "--warm-up" => self.next = Next::WarmUp,
             "--sample" => self.next = Next::Sample,
@@ -100,22 +118,26 @@ impl Asked {
         true
     }
 
-    fn policies(&self) -> Option<Policies> {
-        match (self.best, self.warm_up) {
-            (true, None) => Some(Policies::Best),
-            (true, Some(_)) => None,
-            (false, warm_up) => Some(Policies::Lru { warm_up: warm_up.unwrap_or(0) }),
+    /// Returns the policies, or else the option that cannot be combined with `--best`.
+    fn policies(&self) -> Result<Policies, &'static str> {
+        let size = self.column_at(self.size);
+        let first = self.warm_up.unwrap_or(0);
+        match (self.best, self.warm_up, size) {
+            (true, Some(_), _) => Err("--warm-up"),
+            (true, None, Some(_)) => Err("--size-column"),
+            (true, None, None) => Ok(Policies::Best),
+            (false, _, None) => Ok(Policies::Lru { warm_up: first }),
+            (false, _, Some(size)) => Ok(Policies::Sized { warm_up: first, size }),
         }
     }
 
-    fn options(&self, policies: Policies) -> Options {
+    fn column_at(&self, index: Option<usize>) -> Option<Column> {
         let separator = self.separator;
-        Options {
-            column: self.column.map(|index| Column { index, separator }),
-            form: self.form,
-            policies,
-            sample: self.sample,
-        }
+        index.map(|index| Column { index, separator })
+    }
+
+    fn options(&self, policies: Policies) -> Options {
+        Options { column: self.column_at(self.column), form: self.form, policies, sample: self.sample }
     }
 }
 
@@ -129,6 +151,7 @@ pub(crate) fn main(rt: HostRuntime) -> ExitCode {
         form: Form::Text,
         sample: 0,
         column: None,
+        size: None,
         separator: b',',
         next: Next::Word,
     };
@@ -141,11 +164,13 @@ pub(crate) fn main(rt: HostRuntime) -> ExitCode {
         let _ = eprintln!(rt; "trace: the last argument lacks its value; try --help");
         return ExitCode::from(UNKNOWN);
     }
-    let Some(policies) = asked.policies() else {
-        let _ = eprintln!(rt; "trace: --warm-up cannot be combined with --best; try --help");
-        return ExitCode::from(UNKNOWN);
-    };
-    run(&rt, asked.options(policies))
+    match asked.policies() {
+        Ok(policies) => run(&rt, asked.options(policies)),
+        Err(refused) => {
+            let _ = eprintln!(rt; "trace: {refused} cannot be combined with --best; try --help");
+            ExitCode::from(UNKNOWN)
+        }
+    }
 }
 
 fn run(rt: &HostRuntime, options: Options) -> ExitCode {

@@ -2,8 +2,9 @@ use Rattle.std.proofs.Common.{◌≡◌, ℕ, set, get_or, ◌+◌, ◌<◌, ◌
 use Rattle.std.specs.Prelude.{nat_lt}
 use Rattle.lru_trace.specs.Counted.{AreNumbered}
 use Rattle.lru_trace.specs.Sized.{Sized, IsSizedOf, exceeds}
-use Rattle.lru_trace.proofs.CurveSteps.{always_err}
+use Rattle.lru_trace.proofs.CurveSteps.{always_err, if_passed}
 use Rattle.lru_trace.proofs.SizedSteps.{of_sizes, of_counted}
+use Rattle.lru_trace.proofs.SizedTotals.{counted_large}
 use Rattle.lru_trace.proofs.byte_curve.ByteCurve.refer.Goals as goal
 
 pub returns-in_err-need-clause-err : goal.returns-in_err-need-clause-err
@@ -34,3 +35,10 @@ returns-clause-ok c = λ warm trace of.
     subst (IsSizedOf warm (trace ++ (c.args.key.now, c.args.bytes) ∷ [])) (sym same)
     (of_counted of are c.args.key.now c.args.bytes c.in_ok-need.need c.make.new.self c.in_ok-need.ensures.made counts.0
     within below)
+
+pub returns-in_err-need-clause-large : goal.returns-in_err-need-clause-large
+returns-in_err-need-clause-large c =
+    if_passed c.from_residual.result c.in_err-need.field-0.0 _ c.from_residual.ensures (λ is warm trace of.
+    let are = subst (λ v. AreNumbered v.names c.self.inside.distances.keys) c.self.view_is c.self.invariant.numbered in
+    let large = c.in_err-need.ensures.large is in
+    counted_large of are c.args.key.now c.args.bytes large.0 large.1)

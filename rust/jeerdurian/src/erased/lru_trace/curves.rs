@@ -1,0 +1,85 @@
+// Erased from crates/lru_trace/src/curves.rt: do not edit.
+//! A curve in either measure.
+
+#[allow(unused_imports)]
+use crate::rattle_std::prelude::*;
+
+use crate::erased::lru_trace::best::Best;
+use crate::erased::lru_trace::byte_curve::{ByteCurve, SizeError};
+use crate::erased::lru_trace::curve::Curve;
+use crate::erased::lru_trace::options::Measure;
+use crate::rattle_std::alloc::AllocError;
+
+/// A curve whose sizes are numbers of entries, or numbers of bytes.
+
+pub enum AnyCurve {
+    Places(Curve),
+    Bytes(ByteCurve),
+}
+
+impl AnyCurve {
+    fn warm_up(&mut self, key: &str, size: u64) -> Result<(), SizeError> {
+        match self {
+            AnyCurve::Places(curve) => Ok(curve.warm_up(key)?),
+            AnyCurve::Bytes(curve) => curve.warm_up(key, size),
+        }
+    }
+
+    fn count(&mut self, key: &str, size: u64) -> Result<(), SizeError> {
+        match self {
+            AnyCurve::Places(curve) => Ok(curve.refer(key)?),
+            AnyCurve::Bytes(curve) => curve.refer(key, size),
+        }
+    }
+
+    /// References a key, and counts the reference unless `warm`.
+    pub(crate) fn refer(&mut self, warm: bool, key: &str, size: u64) -> Result<(), SizeError> {
+        if warm {
+            return self.warm_up(key, size);
+        }
+        self.count(key, size)
+    }
+
+    pub(crate) fn measure(&self) -> Measure {
+        match self {
+            AnyCurve::Places(_) => Measure::Places,
+            AnyCurve::Bytes(_) => Measure::Bytes,
+        }
+    }
+
+    pub(crate) fn references(&self) -> u64 {
+        match self {
+            AnyCurve::Places(curve) => curve.references(),
+            AnyCurve::Bytes(curve) => curve.references(),
+        }
+    }
+
+    pub(crate) fn keys(&self) -> usize {
+        match self {
+            AnyCurve::Places(curve) => curve.keys(),
+            AnyCurve::Bytes(curve) => curve.keys(),
+        }
+    }
+
+    /// Returns the size of a cache for all keys.
+    pub(crate) fn needed(&self) -> usize {
+        match self {
+            AnyCurve::Places(curve) => curve.keys(),
+            AnyCurve::Bytes(curve) => curve.bytes() as usize,
+        }
+    }
+
+    pub(crate) fn misses(&self, size: usize) -> u64 {
+        match self {
+            AnyCurve::Places(curve) => curve.misses(size),
+            AnyCurve::Bytes(curve) => curve.misses(size as u64).unwrap_or(0),
+        }
+    }
+
+    pub(crate) fn best(&self) -> Result<Option<Best>, AllocError> {
+        match self {
+            AnyCurve::Places(curve) => curve.best(),
+            AnyCurve::Bytes(_) => Ok(None),
+        }
+    }
+}
