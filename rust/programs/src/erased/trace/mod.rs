@@ -29,13 +29,14 @@ The output is a line for each named size, and then a bar for each power of two: 
 --warm-up N    takes the first N keys as a warm-up: they fill the caches, but are not counted as references, hits or
                misses. It cannot be combined with --best.
 --sample R     takes only the keys whose FNV-1a hash of 64 bits has its R lowest bits 0, about one key in 2^R, and
-               counts the others as skipped. A size n stands for n / 2^R places, and the ratio is estimated for all
+               counts the others as skipped. A size n stands for n / 2^R, and the ratio is estimated for all
                keys. R is 0 to 20.
 --csv          prints a record for each named size and each power of two, below a header.
 --svg          prints a picture of the curves. Of --csv and --svg the last one counts.
 --column N     takes the Nth column of each line as its key. The first line still has sizes.
---size-column N  takes the Nth column as the size of the entry in bytes, so that sizes of caches are in bytes. The first
-               size of a key counts. It cannot be combined with --best.
+--size-column N
+               takes the Nth column as the size of the entry in bytes, so that sizes of caches are in bytes. A key keeps
+               its first size. It cannot be combined with --best.
 --separator C  says which byte stands between two columns. Without it, that is a comma.
 
 Exit status: 0 after the output, 1 if the first line has no sizes, 2 if a read or a write failed, 3 without memory,
