@@ -27,7 +27,7 @@ pub enum Ending {
 /// How many lines are malformed or skipped.
 #[derive(Clone, Copy, Debug, PartialEq, Eq)]
 pub struct Others {
-    /// How many lines spell no key.
+    /// How many lines make no reference.
     pub malformed: u64,
     /// How many lines after the warm-up spell a key that is not in the sample.
     pub skipped: u64,

@@ -73,8 +73,9 @@ fn read_trace<R: BufRead, P: Write>(
 /// Reads a trace, and writes how often LRU caches of each size miss. `docs/TRACE.md` describes the output.
 ///
 /// The first line names sizes. A later line spells a key if the line, or a column of it, is text of 1 to 64 bytes.
-/// Otherwise the line counts as malformed. `Policies::Best` also writes the misses of the best possible policies: in
-/// the text form for each named size, and in the other forms also for each power of two.
+/// With `Policies::Sized` the line must also spell a size. Otherwise it counts as malformed. `Policies::Best` also
+/// writes the misses of the best possible policies: in the text form for each named size, and in the other forms also
+/// for each power of two.
 ///
 /// Cost: `O(log n)` expected for each line and n keys. The memory is in proportion to the number of keys and the
 /// longest line. With `Policies::Best` the memory is also in proportion to the number of lines, and each size costs
@@ -82,8 +83,9 @@ fn read_trace<R: BufRead, P: Write>(
 ///
 /// # Errors
 ///
-/// `Read`: a read failed, or there were 2 ^ 64 - 2 lines. `Memory`: out of memory. In both cases nothing of the report
-/// was written. `Write`: a write or the flush failed; a beginning of the report was written.
+/// `Read`: a read failed, or there were 2 ^ 64 - 2 lines. `Memory`: out of memory. `TooLarge`: the sizes of all keys sum
+/// to 2 ^ 64 or more. In these cases nothing of the report was written. `Write`: a write or the flush failed; a
+/// beginning of the report was written.
 pub fn trace<R: BufRead, W: Write, P: Write>(
     alloc: Global,
     options: Options,
