@@ -192,6 +192,8 @@ fn cache_3(cache: &mut Cache<'_>) -> bool {
             && cache.hits() == hits.saturating_add(1)
             && cache.misses() == misses,
         rewrite(cache),
+        cache.misses() == cache.evictions().saturating_add(cache.len() as u64),
+        rewrite(cache),
         cache.device().blocks == [10, 11, 12, 13],
         rewrite(cache),
         cache.flush() == Ok(()),
