@@ -20,7 +20,7 @@ FIRST = "//! Written by `docs/examples.py` from the examples in the doc comments
 STRING = re.compile(r'"(?:\\.|[^"\\])*"')
 GENERICS = re.compile(r"(?:::|->\s*\w*)<[^<>;(){}]*(?:<[^<>]*>[^<>;(){}]*)*>")
 FOUND = r"(\w+(?:\.\w+\([^()]*\))+) == Some"
-ERRORS = {"_fallible(": "GetOrInsertError<u8>", "put_full(": "TenantError", ".iter(&1)?": "TenantError"}
+ERRORS = {"_fallible(": "GetOrInsertError<u8>", "put_full(": "TenantError", "counts(&1)?": "TenantError", ".iter(&1)?": "TenantError"}
 LENGTH = 12
 READS = {"len", "is_empty", "contains", "contains_key", "peek", "peek_key_value", "peek_oldest", "peek_newest", "keys",
          "values", "iter", "get_index", "get_index_of", "first", "last", "entries", "budget", "cost",
@@ -78,13 +78,17 @@ CRATES = {
         use std::test::Fail;
         use test_helpers::{all, check};"""),
     "lru_tenants": Crate(["lru_tenants"], """
-        use crate::numbers::{Bytes, Numbers, Shared, refill, reopen, restock};
+        use crate::numbers::{Bytes, Counted, Numbers, Shared, recount, refill, reopen, restock};
         use lru_tenants::{
-            ByWeight, ByteTenants, TenantAnswer, TenantCache, TenantCall, TenantError, TenantPool, run_tenants,
+            ByCost, ByWeight, ByteTenants, Counting, Counts, TenantAnswer, TenantCache, TenantCall, TenantError,
+            TenantPool, run_tenants,
         };
+        use schnellru::RandomState;
         use std::test::Fail;
         use test_helpers::{all, check};""",
         {"cache": Given("let mut cache: Numbers = TenantCache::new(alloc, [1, 2, 3, 4]);", "Numbers", "refill"),
+         "counted": Given("let mut counted: Counted = TenantCache::with_hasher(alloc, RandomState::with_seeds([1, 2, 3, 4]));",
+                          "Counted", "recount"),
          "pool": Given("let mut pool: Shared = TenantPool::new(alloc, [1, 2, 3, 4], 5);", "Shared", "restock"),
          "bytes": Given("let mut bytes: Bytes = ByteTenants::new(alloc, [1, 2, 3, 4], 4000);", "Bytes", "reopen")}),
     "lru_caches": Crate(["lru_caches"], """

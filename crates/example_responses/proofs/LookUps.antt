@@ -1,5 +1,5 @@
-use Rattle.std.proofs.Common.{◌≡◌, ◌<◌, ◌≤◌, ℕ, arith, Result, Ok, Err, is_ok, Bool, true, false, is_some, List, []}
-use Rattle.std.proofs.Common.{◌∷◌, Option, Some, None, cond, refl, sym, ap, ◌∙◌, subst, inl, inr}
+use Rattle.std.proofs.Common.{◌≡◌, ◌<◌, ℕ, arith, Result, Ok, Err, is_ok, Bool, true, false, is_some, List, []}
+use Rattle.std.proofs.Common.{◌∷◌, Option, Some, None, cond, refl, sym, ap, ◌∙◌, subst, inl, inr, nat_lt}
 use Rattle.std.specs.Cmp.{IsEquivalence}
 use Rattle.std.specs.List.{All, IsDistinct}
 use Rattle.std.specs.Map.{keys_of, values_of, remove_entry}
@@ -7,19 +7,23 @@ use Rattle.std.proofs.lemmas.List.Elements.{All-weaker}
 use Rattle.std.proofs.lemmas.Map.Views.{IfSome-lookup_from_All}
 use Rattle.std.proofs.lemmas.Bool.{true≢false}
 use Rattle.std.proofs.lemmas.Map.{lookup-remove_entry}
+use Rattle.lru_caches.specs.Counted.{looked_up as count_look_up}
 use Rattle.lru_limits.specs.Budget.{Budget}
 use Rattle.lru_limits.specs.Rules.{Rules}
 use Rattle.lru_model.specs.Calls.{promoted, Remove}
-use Rattle.lru_model.specs.Lists.{lookup, lookup_entry, after, front, without}
+use Rattle.lru_model.specs.Lists.{lookup, lookup_entry, after, front, front_places, without}
 use Rattle.lru_model.specs.State.{State, notified_of}
 use Rattle.lru_tenants.specs.Cache.{Cache, tenant, IsTenant, Leaves, On}
-use Rattle.lru_tenants.specs.TenantRuns.{Gets, OfOpen, IfOpen, read_of}
+use Rattle.lru_tenants.specs.Counting.{CountsGet, counted}
+use Rattle.lru_tenants.specs.TenantRuns.{OfOpen, IfOpen, read_of}
+use Rattle.lru_tenants.specs.declared.counting.Counting.{Counting}
 use Rattle.lru_tenants.specs.declared.error.TenantError.{TenantError}
-use Rattle.example_responses.specs.LookUps.{fresh_at, looked_up, LooksUp, GetsCopy, IsCopy, Copies, CopiesFrom}
+use Rattle.example_responses.specs.LookUps.{Host, fresh_at, without_stale, looked_up, with_list, DropsStale, GetsCopy}
+use Rattle.example_responses.specs.LookUps.{IsCopy, Copies}
 use Rattle.example_responses.specs.declared.cache.Response.{Response}
 use Rattle.std.specs.Prelude.{IfSome, IfOk}
+use Rattle.lru_model.proofs.CallerLemmas.{without_none}
 use Rattle.lru_model.proofs.PairLists.NamedPairs.{no_pair}
-use Rattle.lru_model.proofs.CallerLemmas.{read_back, written-found, promoted-absent}
 
 pub ok≢err : {T E : Type 0} {x : T} {e : E} → Ok x ≡ Err e → ⊥
 ok≢err p = true≢false (ap is_ok p)
@@ -43,40 +47,17 @@ module _ {K V : Type 0} (names : K → Bool) where
       go later true is e = (x, refl, is)
       go later false is e = later e
 
-  without-front : (xs : List (K × V)) (v : V) → lookup names xs ≡ Some v
-      → without names (front names xs) ≡ without names xs
-  without-front xs v found =
-      let (p, there, named) = found-pair xs v found in
-      ap (λ o. without names (after o (without names xs))) there
-      ∙ ap (λ b. cond b (without names xs) (p ∷ without names (without names xs))) named
-
-module _ {K : Type 0} (names : K → Bool) (now : ℕ) (xs : List (K × Response)) where
-  front-looked_up : (found : Option Response) → lookup names xs ≡ found → fresh_at now found ≡ found
-      → front names xs ≡ looked_up names now xs
-  front-looked_up None is same = ap (λ o. after o (without names xs)) (no_pair names xs is)
-      ∙ sym (ap (λ o. cond (is_some (fresh_at now o)) (front names xs) (without names xs)) is)
-  front-looked_up (Some v) is same =
-      sym (ap (λ o. cond (is_some o) (front names xs) (without names xs)) (ap (fresh_at now) is ∙ same))
-
-  stale-looked_up : (v : Response) → lookup names xs ≡ Some v → fresh_at now (lookup names xs) ≡ None
-      → without names (front names xs) ≡ looked_up names now xs
-  stale-looked_up v found stale = without-front names xs v found
-      ∙ sym (ap (λ o. cond (is_some o) (front names xs) (without names xs)) stale)
-
 module _ {K V : Type 0} {eq : K → K → Bool} (laws : IsEquivalence eq) (names : K → Bool)
     (one : (x y : K) → names x ≡ true → names y ≡ eq x y) where
-  pub not-there : (xs : List (K × V)) (v : V) → lookup names xs ≡ Some v → IsDistinct eq (keys_of xs)
-      → lookup names (remove_entry names xs) ≡ None
-  not-there xs v found distinct =
-      let (p, there, is) = found-pair names xs v found in let k = p.0 in
-      ap (λ test. lookup test (remove_entry names xs)) (λ i y. one k y is i)
-      ∙ lookup-remove_entry laws names one k xs distinct ∙ ap (λ b. cond b None (lookup (eq k) xs)) is
-
-pub still-there : {K V L S : Type 0} (names : K → Bool) (map : State K V L S) (found : Option V)
-    → lookup names map.pairs ≡ found → lookup names (promoted names map).pairs ≡ found
-still-there names map None none = ap (λ st. lookup names st.pairs) (promoted-absent names map none) ∙ none
-still-there names map (Some v) is = ap (λ st. lookup names st.pairs) (sym (read_back names map v is)) ∙ written-found
-    names map v v is
+  not-there : (xs : List (K × V)) → IsDistinct eq (keys_of xs) → lookup names (remove_entry names xs) ≡ None
+  not-there xs distinct = go (lookup names xs) refl
+    where
+      go : (o : Option V) → lookup names xs ≡ o → lookup names (remove_entry names xs) ≡ None
+      go None none = ap (lookup names) (without_none names xs (no_pair names xs none)) ∙ none
+      go (Some v) found =
+          let (p, there, is) = found-pair names xs v found in let k = p.0 in
+          ap (λ test. lookup test (remove_entry names xs)) (λ i y. one k y is i)
+          ∙ lookup-remove_entry laws names one k xs distinct ∙ ap (λ b. cond b None (lookup (eq k) xs)) is
 
 pub distinct-keys : {N K V L S : Type 0} {keys : K → K → Bool} {cost : K → V → ℕ} {account budget : L → ℕ}
     (cache : Cache N K V L S) (test : N → Bool) → All (IsTenant keys cost account budget) (values_of cache.tenants)
@@ -87,14 +68,29 @@ distinct-keys {keys = keys} {cost = cost} {account = account} {budget = budget} 
     (λ map is. is.map.distinct)
     (values_of cache.tenants) all)
 
-pub fresh-before : (now : ℕ) (response : Response) → now < response.expires
-    → fresh_at now (Some response) ≡ Some response
-fresh-before now response lt = grind (arith, lt)
+-- A `None` is not fresh, and a fresh response is what is there.
+fresh-same : (now : ℕ) (o : Option Response) → is_some (fresh_at now o) ≡ true → fresh_at now o ≡ o
+fresh-same now None e = refl
+fresh-same now (Some response) e = go (nat_lt now response.expires) e
+  where
+    go : (b : Bool) → is_some (cond b (Some response) None) ≡ true → cond b (Some response) None ≡ Some response
+    go true e = refl
+    go false e = absurd (true≢false (sym e))
 
-pub stale-from : (now : ℕ) (response : Response) → response.expires ≤ now → fresh_at now (Some response) ≡ None
-stale-from now response le = grind (arith, le)
+not-fresh : (o : Option Response) → is_some o ≡ false → o ≡ None
+not-fresh None e = refl
+not-fresh (Some response) e = absurd (true≢false e)
 
-pub leaves-both : {N K V L S : Type 0} {eq : N → N → Bool} (host : N → Bool) (mid-left left : Option (State K V L S))
+pub fresh-before : (now : ℕ) (o : Option Response) → IfSome (fresh_at now o) (λ response. now < response.expires)
+fresh-before now None = tt
+fresh-before now (Some response) = go (nat_lt now response.expires) refl
+  where
+    go : (b : Bool) → nat_lt now response.expires ≡ b
+        → IfSome (cond b (Some response) None) (λ response. now < response.expires)
+    go true e = grind (arith, e)
+    go false e = tt
+
+leaves-both : {N K V L S : Type 0} {eq : N → N → Bool} (host : N → Bool) (mid-left left : Option (State K V L S))
     (old mid new : Cache N K V L S) → Leaves eq host mid-left old mid → Leaves eq host left mid new
     → Leaves eq host left old new
 leaves-both {N} {K} {V} {L} {S} {eq} host mid-left left old mid new first second = record {
@@ -111,166 +107,148 @@ leaves-both {N} {K} {V} {L} {S} {eq} host mid-left left old mid new first second
     go other false is = is
 
 module _ {K S : Type 0} (names : K → Bool) (now : ℕ) where
-  pub get-finds : (was : Option (State K Response Budget S)) (found : Option Response)
-      (left : Option (State K Response Budget S))
-      → Gets names was (Ok found) left → fresh_at now found ≡ found
-      → OfOpen (LooksUp names now) was (Ok (is_some found)) left
-  get-finds None found left (says, is) same = absurd (ok≢err says)
-  get-finds (Some map) found left (says, is) same =
-      let value = ok-same says in (
-        promoted names map,
-        ap (λ o. Ok (is_some o)) (sym same ∙ ap (fresh_at now) value),
-        is,
-        ap (λ pairs. record (promoted names map) { pairs = pairs })
-            (front-looked_up names now map.pairs found (sym value) same),
-        still-there names map found (sym value) ∙ sym same ∙ ap (fresh_at now) value,
-      )
+  pub fresh-said : (was : Option (Host K S)) (found : Option Response)
+      → Ok found ≡ read_of (λ map. lookup names map.pairs) was
+      → Ok (is_some (fresh_at now found)) ≡ read_of (λ map. is_some (fresh_at now (lookup names map.pairs))) was
+  fresh-said None found e = absurd (ok≢err e)
+  fresh-said (Some map) found e = ap (λ o. Ok (is_some (fresh_at now o))) (ok-same e)
 
-pub on-finds : {N K S : Type 0} {eq : N → N → Bool} (names : K → Bool) (now : ℕ) (host : N → Bool)
-    (old mid : Cache N K Response Budget S)
-    (answer : Result (Option Response) TenantError) (found : Option Response) → On eq host (Gets names) old answer mid
-    → answer ≡ Ok found → fresh_at now found ≡ found
-    → On eq host (OfOpen (LooksUp names now)) old (Ok (is_some found)) mid
-on-finds {eq = eq} names now host old mid answer found (left, gets, leaves) is same = (
-  left,
-  get-finds names now (tenant host old) found left (subst (λ a. Gets names (tenant host old) a left) is gets) same,
-  leaves,
-)
+pub fresh-flag : (now : ℕ) (response : Response)
+    → nat_lt now response.expires ≡ is_some (fresh_at now (Some response))
+fresh-flag now response = go (nat_lt now response.expires)
+  where
+    go : (b : Bool) → b ≡ is_some (cond b (Some response) None)
+    go true = refl
+    go false = refl
 
-module _ {K : Type 0} (rules : Rules K Response Budget) where
+module _ {K : Type 0} (rules : Rules K Response (Counting Budget)) where
   abbrev pub KeepsLimit : Type 0
-  KeepsLimit = (limiter : Budget) (k : K) (v : Response)
-      → (rules.on_removed limiter k v).limiter ≡ record limiter { cost = (rules.on_removed limiter k v).limiter.cost }
+  KeepsLimit = (limiter : Counting Budget) (k : K) (v : Response) → (rules.on_removed limiter k v).limiter
+      ≡ record limiter {
+        limiter =
+            record limiter.limiter { cost = (rules.on_removed limiter k v).limiter.limiter.cost };
+      }
 
-  limit-stays : KeepsLimit → (limiter : Budget) (gone : Option (K × Response))
-      → notified_of rules gone limiter ≡ record limiter { cost = (notified_of rules gone limiter).cost }
+  limit-stays : KeepsLimit → (limiter : Counting Budget) (gone : Option (K × Response))
+      → notified_of rules gone limiter ≡ record limiter {
+        limiter =
+            record limiter.limiter { cost = (notified_of rules gone limiter).limiter.cost };
+      }
   limit-stays keeps limiter None = refl
   limit-stays keeps limiter (Some pair) = keeps limiter pair.0 pair.1
 
-module _ {N K S : Type 0} {eq : N → N → Bool} {keys : K → K → Bool}
-    (laws : IsEquivalence keys)
-    (names : K → Bool) (one : (x y : K) → names x ≡ true → names y ≡ keys x y) (now : ℕ)
-    (rules : Rules K Response Budget)
-    (host : N → Bool) (old mid new : Cache N K Response Budget S) (response : Response) where
-  got-it : On eq host (Gets names) old (Ok (Some response)) mid
-      → (map : State K Response Budget S) × (tenant host old ≡ Some map) × (lookup names map.pairs ≡ Some response)
-      × (tenant host mid ≡ Some (promoted names map))
-  got-it (left, gets, leaves) = go (tenant host old) refl gets
+module _ {N K S : Type 0} {eq : N → N → Bool} {keys : K → K → Bool} (laws : IsEquivalence keys) (names : K → Bool)
+    (one : (x y : K) → names x ≡ true → names y ≡ keys x y) (now : ℕ) (rules : Rules K Response (Counting Budget))
+    (host : N → Bool) (old new : Cache N K Response (Counting Budget) S) where
+  pub stale-dropped : KeepsLimit rules → (removed : Option Response)
+      → Ok false ≡ read_of (λ map. is_some (fresh_at now (lookup names map.pairs))) (tenant host old)
+      → IfSome (tenant host old) (λ map. IsDistinct keys (keys_of map.pairs))
+      → On eq host (IfOpen (Remove rules names)) old (Ok removed) new
+      → On eq host (OfOpen (DropsStale names now)) old (Ok tt) new
+  stale-dropped keeps removed said distinct (left, removes, leaves) =
+      (left, go (tenant host old) said distinct removes, leaves)
     where
-      go : (was : Option (State K Response Budget S)) → tenant host old ≡ was
-          → Gets names was (Ok (Some response)) left
-          → (map : State K Response Budget S) × (tenant host old ≡ Some map)
-          × (lookup names map.pairs ≡ Some response)
-          × (tenant host mid ≡ Some (promoted names map))
-      go None is (says, stays) = absurd (ok≢err says)
-      go (Some map) is (says, stays) = (
-        map,
-        is,
-        sym (ok-same says),
-        leaves.own ∙ stays,
-      )
+      go : (was : Option (Host K S)) → Ok false ≡ read_of (λ map. is_some (fresh_at now (lookup names map.pairs))) was
+          → IfSome was (λ map. IsDistinct keys (keys_of map.pairs)) → IfOpen (Remove rules names) was (Ok removed) left
+          → OfOpen (DropsStale names now) was (Ok tt) left
+      go None said distinct does = absurd (ok≢err said)
+      go (Some map) said distinct (result, own, remove, says, is) =
+          let no = sym (ok-same said) in
+          let list : without names map.pairs ≡ without_stale names now map.pairs =
+          ap (λ b. cond b map.pairs (without names map.pairs)) (sym no) in
+          let limiter : notified_of rules (lookup_entry names map.pairs) map.limiter
+          ≡ record map.limiter { limiter = record map.limiter.limiter { cost = own.limiter.limiter.cost } } =
+          limit-stays rules keeps map.limiter (lookup_entry names map.pairs)
+          ∙ ap (λ notified. record map.limiter { limiter = record map.limiter.limiter { cost = notified.limiter.cost } })
+          (sym (ap (λ st. st.limiter) remove.state.is)) in (
+            own,
+            refl,
+            is,
+            remove.state.is ∙ (λ i. record map { pairs = list i; limiter = limiter i; table = own.table }),
+            ap (λ st. lookup names st.pairs) remove.state.is ∙ not-there laws names one map.pairs distinct
+                ∙ sym (not-fresh (fresh_at now (lookup names map.pairs)) no),
+          )
 
-  pub stale-removed : KeepsLimit rules → (removed : Option Response) (answer : Result (Option Response) TenantError)
-      → On eq host (Gets names) old answer mid → answer ≡ Ok (Some response)
-      → fresh_at now (Some response) ≡ None
-      → IfSome (tenant host mid) (λ map. IsDistinct keys (keys_of map.pairs))
-      → On eq host (IfOpen (Remove rules names)) mid (Ok removed) new
-      → On eq host (OfOpen (LooksUp names now)) old (Ok false) new
-  stale-removed keeps removed answer (first, does, kept) said stale distinct (left, removes, leaves) =
-      let gets : On eq host (Gets names) old (Ok (Some response)) mid =
-      (first, subst (λ a. Gets names (tenant host old) a first) said does, kept) in
-      let (map, was, found, is) = got-it gets in
-      let (result, own, remove, says, now-is) = subst (λ t. IfOpen (Remove rules names) t (Ok removed) left) is
-      removes in
-      let none = ap (λ st. lookup names st.pairs) remove.state.is
-      ∙ not-there laws names one (promoted names map).pairs response (still-there names map (Some response) found)
-      (subst (λ t. IfSome t (λ map. IsDistinct keys (keys_of map.pairs))) is distinct) in
-      let same : fresh_at now (lookup names map.pairs) ≡ None = ap (fresh_at now) found ∙ stale in
-      let list = stale-looked_up names now map.pairs response found same in
-      let limiter : notified_of rules (lookup_entry names (promoted names map).pairs) map.limiter
-      ≡ record map.limiter { cost = own.limiter.cost } =
-      limit-stays rules keeps map.limiter (lookup_entry names (promoted names map).pairs)
-      ∙ ap (λ notified. record map.limiter { cost = notified.cost })
-      (sym (ap (λ st. st.limiter) remove.state.is)) in (
-        left,
-        subst (λ t. OfOpen (LooksUp names now) t (Ok false) left) (sym was) (
-          own,
-          ap (λ o. Ok (is_some o)) (sym same),
-          now-is,
-          remove.state.is ∙ (λ i. record map { pairs = list i; limiter = limiter i; table = own.table }),
-          none ∙ sym same,
-        ),
-        leaves-both host gets.0 left old mid new gets.2 leaves,
-      )
+front-kept : {K : Type 0} (names : K → Bool) (now : ℕ) (xs : List (K × Response))
+    → lookup names (without_stale names now xs) ≡ fresh_at now (lookup names xs)
+    → front names (without_stale names now xs) ≡ looked_up names now xs
+front-kept {K} names now xs finds = go (fresh_at now (lookup names xs)) finds
+  where
+    go : (o : Option Response) → lookup names (cond (is_some o) xs (without names xs)) ≡ o
+        → front names (cond (is_some o) xs (without names xs)) ≡ cond (is_some o) (front names xs) (without names xs)
+    go None none = ap (λ o. after o (without names (without names xs))) (no_pair names (without names xs) none)
+        ∙ without_none names (without names xs) (no_pair names (without names xs) none)
+    go (Some response) is = refl
 
 module _ {N K S : Type 0} {eq : N → N → Bool} (names : K → Bool) (now : ℕ) (host : N → Bool)
-    (old mid : Cache N K Response Budget S) where
-  pub copies-fresh : (said : Result Bool TenantError) (there : Bool) (answer : Result (Option Response) TenantError)
-      → On eq host (OfOpen (LooksUp names now)) old said mid → said ≡ Ok there
-      → (there ≡ true → CopiesFrom names (tenant host mid) answer) → (there ≡ false → answer ≡ Ok None)
-      → On eq host (OfOpen (GetsCopy names now)) old answer mid
-  copies-fresh said there answer (left, looks, leaves) is-said copied none =
-      (left, go (tenant host old) (subst (λ a. OfOpen (LooksUp names now) (tenant host old) a left) is-said looks), leaves)
+    (old : Cache N K Response (Counting Budget) S) where
+  pub fresh-stays : Ok true ≡ read_of (λ map. is_some (fresh_at now (lookup names map.pairs))) (tenant host old)
+      → Leaves eq host (tenant host old) old old → On eq host (OfOpen (DropsStale names now)) old (Ok tt) old
+  fresh-stays said leaves = (tenant host old, go (tenant host old) said, leaves)
     where
-      copy-of : (fresh : Option Response) (own : State K Response Budget S) → there ≡ is_some fresh
-          → tenant host mid ≡ Some own → lookup names own.pairs ≡ fresh → Copies fresh answer
-      copy-of None own is now-is found = none is
-      copy-of (Some stored) own is now-is found =
-          subst (λ o. Copies o answer) found (subst (λ t. CopiesFrom names t answer) now-is (copied is))
-
-      go : (was : Option (State K Response Budget S)) → OfOpen (LooksUp names now) was (Ok there) left
-          → OfOpen (GetsCopy names now) was answer left
-      go None (says, is) = absurd (ok≢err says)
-      go (Some map) (own, says, is, list, found) = (
-        own,
-        copy-of (fresh_at now (lookup names map.pairs)) own (ok-same says) (leaves.own ∙ is) found,
-        is,
-        list,
+      go : (was : Option (Host K S)) → Ok true ≡ read_of (λ map. is_some (fresh_at now (lookup names map.pairs))) was
+          → OfOpen (DropsStale names now) was (Ok tt) was
+      go None said = absurd (ok≢err said)
+      go (Some map) said = let fresh = sym (ok-same said) in (
+        map,
+        refl,
+        refl,
+        ap (λ b. record map { pairs = cond b map.pairs (without names map.pairs) }) (sym fresh),
+        sym (fresh-same now (lookup names map.pairs) fresh),
       )
 
-  pub there-copied : (said : Result Bool TenantError) (answer : Result (Option Response) TenantError)
-      → On eq host (OfOpen (LooksUp names now)) old said mid → said ≡ Ok true → CopiesFrom names (tenant host mid) answer
-      → IfOk answer (λ found. is_some found ≡ true)
-  there-copied said answer (left, looks, leaves) is-said copied =
-      go (tenant host old) (subst (λ a. OfOpen (LooksUp names now) (tenant host old) a left) is-said looks)
+  pub gets-copy : (mid new : Cache N K Response (Counting Budget) S) (found : Option Response)
+      (said answer : Result (Option Response) TenantError)
+      → On eq host (OfOpen (DropsStale names now)) old (Ok tt) mid
+      → On eq host (IfOpen (CountsGet names)) mid said new → said ≡ Ok found → Copies found answer
+      → On eq host (OfOpen (GetsCopy names now)) old answer new
+  gets-copy mid new found said answer (mid-left, drops, first) (left, gets, second) told copied =
+      (left, go (tenant host old) drops, leaves-both host mid-left left old mid new first second)
     where
-      some-copied : (fresh : Option Response) (own : State K Response Budget S) → true ≡ is_some fresh
-          → tenant host mid ≡ Some own → lookup names own.pairs ≡ fresh → IfOk answer (λ found. is_some found ≡ true)
-      some-copied None own there is found = absurd (true≢false there)
-      some-copied (Some stored) own there is found = elim (subst (λ o. Copies o answer) found
-          (subst (λ t. CopiesFrom names t answer) is copied)) [
-            | inl (copy, same, e) ↦ subst (λ a. IfOk a (λ found. is_some found ≡ true)) (sym e) refl
-            | inr e ↦ subst (λ a. IfOk a (λ found. is_some found ≡ true)) (sym e) tt
-          ]
-
-      go : (was : Option (State K Response Budget S)) → OfOpen (LooksUp names now) was (Ok true) left
-          → IfOk answer (λ found. is_some found ≡ true)
+      go : (was : Option (Host K S)) → OfOpen (DropsStale names now) was (Ok tt) mid-left
+          → OfOpen (GetsCopy names now) was answer left
       go None (says, is) = absurd (ok≢err says)
-      go (Some map) (own, says, is, list, found) =
-          some-copied (fresh_at now (lookup names map.pairs)) own (ok-same says) (leaves.own ∙ is) found
+      go (Some map) (own, says, is, state, finds) =
+          let (result, after, (value, counts), tells, now-is) =
+          subst (λ t. IfOpen (CountsGet names) t (Ok found) left) (first.own ∙ is)
+          (subst (λ a. IfOpen (CountsGet names) (tenant host mid) a left) told gets) in
+          let fresh : found ≡ fresh_at now (lookup names map.pairs) = ok-same tells ∙ value ∙ finds in
+          let flag : is_some result ≡ is_some (fresh_at now (lookup names map.pairs)) =
+          ap is_some (value ∙ finds) in
+          let list = front-kept names now map.pairs
+          (ap (λ st. lookup names st.pairs) (sym state) ∙ finds) in
+          let turned = counts
+          ∙ ap (λ st. counted (count_look_up (is_some result)) (promoted names st)) state in (
+            after,
+            subst (λ o. Copies o answer) fresh copied,
+            now-is,
+            turned ∙ (λ i. record map {
+              pairs = list i;
+              limiter = record {
+                limiter = record map.limiter.limiter { cost = (sym turned i).limiter.limiter.cost };
+                counts = count_look_up (flag i) map.limiter.counts;
+              };
+              table = (sym turned i).table;
+            }),
+          )
 
-  pub fails-alike : (e : TenantError) → On eq host (OfOpen (LooksUp names now)) old (Err e) mid
-      → On eq host (OfOpen (GetsCopy names now)) old (Err e) mid
-  fails-alike e (left, looks, leaves) = (left, go (tenant host old) looks, leaves)
-    where
-      error-of : {T : Type 0} → Result T TenantError → TenantError
-      error-of (Ok x) = e
-      error-of (Err f) = f
+pub copy-fresh : {N K S : Type 0} {eq : N → N → Bool} (names : K → Bool) (now : ℕ) (host : N → Bool)
+    (old new : Cache N K Response (Counting Budget) S) (answer : Result (Option Response) TenantError)
+    → On eq host (OfOpen (GetsCopy names now)) old answer new
+    → IfOk answer (λ found. IfSome found (λ response. now < response.expires))
+copy-fresh {K = K} {S = S} names now host old new answer (left, gets, leaves) = go (tenant host old) gets
+  where
+    Fresh : Result (Option Response) TenantError → Type 0
+    Fresh a = IfOk a (λ found. IfSome found (λ response. now < response.expires))
 
-      go : (was : Option (State K Response Budget S)) → OfOpen (LooksUp names now) was (Err e) left
-          → OfOpen (GetsCopy names now) was (Err e) left
-      go None (says, is) = (ap (λ answer. Err (error-of answer)) says, is)
-      go (Some map) looks = absurd (ok≢err (sym looks.1))
+    copies : (o : Option Response) → IfSome o (λ response. now < response.expires) → Copies o answer → Fresh answer
+    copies None before is = subst Fresh (sym is) tt
+    copies (Some stored) before is = elim is [
+      | inl (copy, (body, expires), e) ↦ subst Fresh (sym e) (subst (λ n. now < n) (sym expires) before)
+      | inr e ↦ subst Fresh (sym e) tt
+    ]
 
-pub copied-from : {K S : Type 0} (names : K → Bool) (host : Option (State K Response Budget S)) (stored copy : Response)
-    → read_of (λ map. lookup names map.pairs) host ≡ Ok (Some stored) → IsCopy stored copy
-    → CopiesFrom names host (Ok (Some copy))
-copied-from names None stored copy is same = absurd (ok≢err (sym is))
-copied-from names (Some map) stored copy is same =
-    subst (λ o. Copies o (Ok (Some copy))) (sym (ok-same is)) (inl (copy, same, refl))
-
-pub counts-found : {C E : Type 0} (answer : Result (Option Response) E) (after : C) (counted : Bool → C)
-    → after ≡ counted true → IfOk answer (λ found. is_some found ≡ true)
-    → IfOk answer (λ found. after ≡ counted (is_some found))
-counts-found (Ok found) after counted e there = e ∙ sym (ap counted there)
-counts-found (Err error) after counted e there = tt
+    go : (was : Option (Host K S)) → OfOpen (GetsCopy names now) was answer left → Fresh answer
+    go None (says, is) = subst Fresh (sym says) tt
+    go (Some map) (own, copied, is, state) =
+        copies (fresh_at now (lookup names map.pairs)) (fresh-before now (lookup names map.pairs)) copied

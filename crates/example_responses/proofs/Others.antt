@@ -3,13 +3,11 @@ use Rattle.std.proofs.Common.{◌≡◌, ℕ, ◌-◌, Bool, length, Option, Som
 use Rattle.std.proofs.Common.{refl, sym, ap, ◌∙◌, arith, is_some, option_map}
 use mir.Val.{bool_byte}
 use Rattle.lru_caches.proofs.OtherEntries.{other-count}
-use Rattle.lru_limits.specs.Budget.{Budget}
 use Rattle.lru_model.proofs.CallerLemmas.{lookup-entry}
 use Rattle.lru_model.specs.Lists.{lookup, lookup_entry}
-use Rattle.lru_model.specs.State.{State}
 use Rattle.lru_tenants.specs.TenantRuns.{read_of}
+use Rattle.example_responses.specs.LookUps.{Host}
 use Rattle.example_responses.specs.Puts.{others}
-use Rattle.example_responses.specs.declared.cache.Response.{Response}
 use Rattle.example_responses.proofs.LookUps.{ok≢err, ok-same}
 
 some-mapped : {A B : Type 0} (f : A → B) (o : Option A) → is_some (option_map f o) ≡ is_some o
@@ -17,7 +15,7 @@ some-mapped f None = refl
 some-mapped f (Some x) = refl
 
 module _ {K S : Type 0} (names : K → Bool) where
-  pub others-counted : (host : Option (State K Response Budget S)) (entries : ℕ) (there : Bool)
+  pub others-counted : (host : Option (Host K S)) (entries : ℕ) (there : Bool)
       → read_of (λ map. length map.pairs) host ≡ Ok entries
       → read_of (λ map. is_some (lookup names map.pairs)) host ≡ Ok there
       → entries - bool_byte there ≡ others names host

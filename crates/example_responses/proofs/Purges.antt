@@ -17,8 +17,9 @@ use Rattle.lru_model.specs.Lists.{lookup}
 use Rattle.lru_model.specs.State.{State}
 use Rattle.lru_tenants.specs.Cache.{Cache, tenant, On}
 use Rattle.lru_tenants.specs.TenantRuns.{IfOpen, OfOpen}
+use Rattle.lru_tenants.specs.declared.counting.Counting.{Counting}
 use Rattle.lru_tenants.specs.declared.error.TenantError.{TenantError}
-use Rattle.example_responses.specs.LookUps.{GetsCopy, Copies, fresh_at}
+use Rattle.example_responses.specs.LookUps.{Host, GetsCopy, Copies, fresh_at}
 use Rattle.example_responses.specs.Purges.{is_below, PurgesBelow}
 use Rattle.example_responses.specs.declared.cache.Response.{Response}
 
@@ -65,7 +66,7 @@ module _ {K V L F : Type 0} (rules : Rules K V L) (closure : Mut F (Bor K × (Bo
         )
 
 module _ {S : Type 0} (prefix path : List ℕ) (below : starts_with nat_eq path prefix ≡ true) where
-  none-below : (old new : State (String Global) Response Budget S) → PurgesBelow prefix old tt new
+  none-below : (old new : Host (String Global) S) → PurgesBelow prefix old tt new
       → lookup (names_text path) new.pairs ≡ None
   none-below old new purges = ap (lookup (names_text path)) purges
       ∙ lookup-filter-keys (names_text path) (λ k. not (is_below prefix k)) false
@@ -73,14 +74,14 @@ module _ {S : Type 0} (prefix path : List ℕ) (below : starts_with nat_eq path 
       (sym ((bytes_decides path (string_bytes k)).0 named)) ∙ below)) old.pairs
 
 pub purged-missing : {N S : Type 0} {eq : N → N → Bool} (host : N → Bool) (prefix path : List ℕ) (now : ℕ)
-    → starts_with nat_eq path prefix ≡ true → (old mid new : Cache N (String Global) Response Budget S)
+    → starts_with nat_eq path prefix ≡ true → (old mid new : Cache N (String Global) Response (Counting Budget) S)
     (done : Unit {0}) (answer : Result (Option Response) TenantError)
     → On eq host (IfOpen (PurgesBelow prefix)) old (Ok done) mid
     → On eq host (OfOpen (GetsCopy (names_text path) now)) mid answer new → IfOk answer (λ found. found ≡ None)
 purged-missing {N} {S} {eq} host prefix path now below old mid new done answer (left, purges, leaves)
     (after, looks, others) = go (tenant host old) purges
   where
-    go : (was : Option (State (String Global) Response Budget S)) → IfOpen (PurgesBelow prefix) was (Ok done) left
+    go : (was : Option (Host (String Global) S)) → IfOpen (PurgesBelow prefix) was (Ok done) left
         → IfOk answer (λ found. found ≡ None)
     go None (says, is) = absurd (true≢false (ap is_ok says))
     go (Some was) (result, own, does, says, is) =

@@ -61,8 +61,9 @@ fn show(rt: &HostRuntime, response: &Response) -> io::Result<()> {
 }
 
 fn stats(rt: &HostRuntime, cache: &ResponseCache) -> io::Result<()> {
-    for (name, counts) in cache.counts() {
-        let (entries, cost) = cache.size(name.as_str());
+    for name in cache.hosts()? {
+        let counts = cache.counts(name);
+        let (entries, cost) = cache.size(name);
         println!(rt;
             "{name}: {} hits, {} misses, {} insertions, {} rejections, {} evictions, {entries} entries, cost {cost}",
             counts.hits, counts.misses, counts.insertions, counts.rejections, counts.evictions

@@ -6,6 +6,7 @@ pub mod SetPages
 pub mod FirstPages
 pub mod Outcomes
 pub mod Evictions
+pub mod EvictionCounts
 pub mod NewestPages
 pub mod StoredAnswers
 pub mod TurnedEntries

@@ -19,7 +19,8 @@ pub record Cached (B D : Type 0) : Type 0 where
   pub pages : List (ℕ × Page B)
   pub capacity : ℕ
   pub keeps_dirty : Bool
-  -- how many successful reads, writes and pins found their page cached, and how many did not
+  -- how many successful reads, writes and pins found their page cached, how many did not, and how many pages were
+  -- evicted
   pub counts : Counts
   pub device : D
 
@@ -76,8 +77,13 @@ module _ {B : Type 0} where
 abbrev pub hit : Counts → Counts
 hit counts = record counts { hits = min (counts.hits + 1) (2 ^ 64 - 1) }
 
-abbrev pub missed : Counts → Counts
-missed counts = record counts { misses = min (counts.misses + 1) (2 ^ 64 - 1) }
+-- the counts after n pages were evicted
+abbrev pub evicts : ℕ → Counts → Counts
+evicts n counts = record counts { evictions = min (counts.evictions + n) (2 ^ 64 - 1) }
+
+-- the counts after a page was brought, and n pages were evicted for it
+abbrev pub missed : ℕ → Counts → Counts
+missed n counts = record (evicts n counts) { misses = min (counts.misses + 1) (2 ^ 64 - 1) }
 
 module _ {B D : Type 0} where
   abbrev pub IsCached : ℕ → Cached B D → Type 0
@@ -94,9 +100,14 @@ module _ {B D : Type 0} where
   pages_after n page cache =
       (n, page) ∷ with_room cache.capacity cache.keeps_dirty (without (nat_eq n) cache.pages)
 
+  -- how many pages are evicted before a new page is cached
+  abbrev pub evictions : Cached B D → ℕ
+  evictions cache = length cache.pages - length (with_room cache.capacity cache.keeps_dirty cache.pages)
+
   -- the counts after a successful call on page n
   abbrev pub counted : ℕ → Cached B D → Counts
-  counted n cache = if is_some (lookup (nat_eq n) cache.pages) then hit cache.counts else missed cache.counts
+  counted n cache = if is_some (lookup (nat_eq n) cache.pages) then hit cache.counts
+      else missed (evictions cache) cache.counts
 
   abbrev pub pages_read : ℕ → B → Cached B D → List (ℕ × Page B)
   pages_read n block cache =
@@ -194,10 +205,11 @@ module _ {B D E S : Type 0} (d : device.Ghosts D B E S) where
   abbrev pub IsFlushCause : D → D → PageError E → Type 0
   IsFlushCause old new e = IsFault old new e ⊎ ((e ≡ Broken) × (d.is_usable old ≡ false))
 
-  -- After a failed call, the pages are the same, or memory ran out after an eviction.
+  -- After a failed call, the pages and the counts are the same, or memory ran out after an eviction, which is counted.
   abbrev pub Leaves : Cached B D → Cached B D → PageError E → Type 0
-  Leaves old new e = (new.pages ≡ old.pages)
-      ⊎ ((e ≡ Memory) × (new.pages ≡ with_room old.capacity old.keeps_dirty old.pages))
+  Leaves old new e = ((new.pages ≡ old.pages) × (new.counts ≡ old.counts))
+      ⊎ ((e ≡ Memory) × (new.pages ≡ with_room old.capacity old.keeps_dirty old.pages)
+      × (new.counts ≡ evicts (evictions old) old.counts))
 
   -- why a call on page n fails
   abbrev pub IsCause : ℕ → Cached B D → D → PageError E → Type 0
@@ -217,7 +229,6 @@ module _ {B D E S : Type 0} (d : device.Ghosts D B E S) where
     pub capacity : new.capacity ≡ old.capacity
     pub mode : new.keeps_dirty ≡ old.keeps_dirty
     pub counted : OnOk result (new.counts ≡ counted n old)
-    pub uncounted : OnErr result (new.counts ≡ old.counts)
 
   -- What a successful read of page n does.
   pub record ReadsPage (n : ℕ) (old new : Cached B D) : Type 0 where

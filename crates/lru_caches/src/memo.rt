@@ -1,4 +1,4 @@
-ghost use Rattle.std.specs.Prelude.{◌≡◌, [], length, IfSome, MatchOption, Option, Some, None, is_some};
+ghost use Rattle.std.specs.Prelude.{◌≡◌, [], length, true, false, IfSome, MatchOption, Option, Some, None, is_some};
 ghost use Rattle.std.specs.Fn.{FnReturnsAt, FnOnceReturnsAt};
 ghost use Rattle.std.specs.Map.{lookup};
 ghost use Rattle.lru_model.specs.Calls.{Remove, cleared, promoted};
@@ -142,7 +142,36 @@ impl<
         ensures known { AreAnswers K.eq (FnReturnsAt F.Fn self.new.function) self.new.map.pairs }
         ensures function { self.new.function ≡ self.old.function }
     {
-        self.answer_with(key, |value| *value)
+        self.answer_full(key).0
+    }
+
+    /// Does what `answer` does, and also returns whether it called the function.
+    ///
+    /// ```
+    /// squares.clear();
+    /// assert_eq!(rt; (squares.answer_full(3), squares.answer_full(3)), ((9, true), (9, false)));
+    /// ```
+    ///
+    /// Cost: as `answer`.
+    pub fn answer_full(&mut self, key: K) -> (V, bool)
+        requires callable { F.IsAlwaysCallable self.old.function }
+        requires known { AreAnswers K.eq (FnReturnsAt F.Fn self.old.function) self.old.map.pairs }
+        ensures answer { IsAnswer K.eq (FnReturnsAt F.Fn self.old.function) key result.0 }
+        ensures called { MatchOption (lookup (K.eq key) self.old.map.pairs)
+            ((result.1 ≡ true) × FnReturnsAt F.Fn self.old.function key result.0)
+            (λ value. result ≡ (value, false)) }
+        ensures step { Remembers L.rules L.offers K.eq S.hash_of key result.0 self.old.map self.new.map }
+        ensures map { IsMap K.eq self.new.map }
+        ensures known { AreAnswers K.eq (FnReturnsAt F.Fn self.new.function) self.new.map.pairs }
+        ensures function { self.new.function ≡ self.old.function }
+    {
+        laws::inserts_evict_the_oldest::<K, V, K, L, S>();
+        if let Some(value) = self.map.get(&key) {
+            return (*value, false);
+        }
+        let value = (self.function)(&key);
+        let _kept = self.map.insert(key, value);
+        (value, true)
     }
 }
 

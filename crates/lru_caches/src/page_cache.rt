@@ -106,7 +106,7 @@ impl<B: Copy, D: BlockDevice<B>> PageCache<B, D, RandomState> {
         ensures empty { result.pages ≡ [] }
         ensures capacity { result.capacity ≡ max 1 capacity }
         ensures mode { result.keeps_dirty ≡ false }
-        ensures counts { result.counts ≡ record { hits = 0; misses = 0 } }
+        ensures counts { result.counts ≡ record { hits = 0; misses = 0; evictions = 0 } }
     {
         PageCache::with_hasher(alloc, device, capacity, RandomState::default())
     }
@@ -128,14 +128,18 @@ impl<B: Copy, D: BlockDevice<B>, S: KeyHasher<u64>> PageCache<B, D, S> {
         ensures empty { result.pages ≡ [] }
         ensures capacity { result.capacity ≡ max 1 capacity }
         ensures mode { result.keeps_dirty ≡ false }
-        ensures counts { result.counts ≡ record { hits = 0; misses = 0 } }
+        ensures counts { result.counts ≡ record { hits = 0; misses = 0; evictions = 0 } }
     {
         PageCache {
             map: LruMap::with_limiter_and_hasher(alloc, UnlimitedCompact, hasher),
             numbers: Vec::new(alloc),
             capacity: capacity.max(1),
             keeps_dirty: false,
-            counts: Counts { hits: 0, misses: 0 },
+            counts: Counts {
+                hits: 0,
+                misses: 0,
+                evictions: 0,
+            },
             device,
         }
     }
@@ -206,6 +210,19 @@ impl<B: Copy, D: BlockDevice<B>, S: KeyHasher<u64>> PageCache<B, D, S> {
         ensures { result ≡ self.now.counts.misses }
     {
         self.counts.misses
+    }
+
+    /// Returns how many pages were evicted, at most `u64::MAX`.
+    ///
+    /// Cost: `O(1)`.
+    ///
+    /// ```
+    /// assert_eq!(rt; cache.misses(), cache.evictions().saturating_add(cache.len() as u64));
+    /// ```
+    pub fn evictions(&self) -> u64
+        ensures { result ≡ self.now.counts.evictions }
+    {
+        self.counts.evictions
     }
 
     /// Lends the device. Dirty pages are not written to it yet.

@@ -192,6 +192,8 @@ fn cache_3(cache: &mut Cache<'_>) -> bool {
             && cache.hits() == hits.saturating_add(1)
             && cache.misses() == misses,
         rewrite(cache),
+        cache.misses() == cache.evictions().saturating_add(cache.len() as u64),
+        rewrite(cache),
         cache.device().blocks == [10, 11, 12, 13],
         rewrite(cache),
         cache.flush() == Ok(()),
@@ -360,6 +362,9 @@ fn of_memo(rt: HostRuntime) -> Result<(), Fail> {
     let seeded = RandomState::with_seeds([5, 6, 7, 8]);
     let cubes = Memo::with_hasher(alloc, ByLength::new(9), seeded, |n: &u64| n.wrapping_pow(3));
     let held = held & all!(cubes.is_empty());
+    squares.clear();
+    let held = held
+        & all!((squares.answer_full(3), squares.answer_full(3)) == ((9, true), (9, false)));
     let mut blocks = Memo::new(
         alloc,
         ByLength::new(9),
@@ -393,7 +398,6 @@ fn of_memo(rt: HostRuntime) -> Result<(), Fail> {
             squares.set_limiter(ByLength::new(1)).max_length() == 9 && squares.len() == 1,
             squares.answer(3) == 9 && squares.remove(&3) && squares.is_empty()
         );
-    squares.clear();
     check!(rt; held);
     Ok(())
 }

@@ -19,7 +19,7 @@ use Rattle.lru_tenants.specs.declared.error.TenantError.{TenantError}
 use Rattle.lru_tenants.specs.declared.error.TenantError.TheVariants.{NotOpen}
 
 module _ {K V : Type 0} (names : K → Bool) where
-  front-value : (xs : List (K × V)) (w : V) → lookup names xs ≡ Some w
+  pub front-value : (xs : List (K × V)) (w : V) → lookup names xs ≡ Some w
       → option_map (λ pair. pair.1) (first (front names xs)) ≡ Some w
   front-value xs w found = go (lookup_entry names xs) (sym (lookup-entry names xs) ∙ found)
     where

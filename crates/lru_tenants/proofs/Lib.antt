@@ -6,6 +6,8 @@ pub mod GetOrPuts
 pub mod OwnRuns
 pub mod TotalCosts
 pub mod PutFulls
+pub mod CountedPuts
+pub mod CountedGets
 pub mod Pools
 pub mod PoolEvict
 pub mod PoolKept

@@ -10,3 +10,5 @@ pub mod PoolLending
 pub mod ByteLending
 pub mod GetOrPuts
 pub mod PutFulls
+pub mod Counting
+pub mod CountedLending

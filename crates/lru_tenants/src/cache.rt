@@ -16,6 +16,7 @@ use std::alloc::Global;
 use std::hash::Hash;
 use std::marker::Model;
 
+mod counted;
 mod get_or_put;
 mod passing;
 mod reading;

@@ -8,6 +8,7 @@
 mod bytes;
 mod cache;
 mod call;
+mod counting;
 mod error;
 mod laws;
 mod pool;
@@ -17,10 +18,12 @@ mod tenant;
 pub use bytes::ByteTenants;
 pub use cache::TenantCache;
 pub use call::{TenantAnswer, TenantCall};
+pub use counting::Counting;
 pub use error::TenantError;
 pub use laws::{
     calls_spare_other_tenants, costs_are_within_the_total_limit, each_tenant_has_its_own_run,
 };
+pub use lru_caches::Counts;
 pub use lru_limits::{Budgeted, ByCost, ByWeight, Costed};
 pub use pool::TenantPool;
 pub use runs::run_tenants;

@@ -18,6 +18,8 @@ use schnellru::{Inserted, KeyHasher, LookupKey, LruMap, laws};
 use std::alloc::AllocError;
 use std::hash::Hash;
 
+pub(crate) mod counted;
+
 #[tactic(auto, using(lru_model::proofs::CallbackLemmas::may_take_always))]
 pub(crate) fn insert<
     K: Eq + Hash + Drop,

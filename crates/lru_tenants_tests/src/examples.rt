@@ -1,9 +1,10 @@
 //! Written by `docs/examples.py` from the examples in the doc comments. Do not change it by hand.
-use crate::numbers::{Bytes, Numbers, Shared, refill, reopen, restock};
+use crate::numbers::{Bytes, Counted, Numbers, Shared, recount, refill, reopen, restock};
 use lru_tenants::{
-    ByWeight, ByteTenants, TenantAnswer, TenantCache, TenantCall, TenantError, TenantPool,
-    run_tenants,
+    ByCost, ByWeight, ByteTenants, Counting, Counts, TenantAnswer, TenantCache, TenantCall,
+    TenantError, TenantPool, run_tenants,
 };
+use schnellru::RandomState;
 use std::test::Fail;
 use test_helpers::{all, check};
 
@@ -38,6 +39,58 @@ fn on_a_bytes(rt: HostRuntime) {
     let alloc = rt.alloc();
     let mut bytes: Bytes = ByteTenants::new(alloc, [1, 2, 3, 4], 4000);
     let held = all!(bytes_1(&mut bytes), bytes_2(&mut bytes));
+    check!(rt; held);
+}
+
+fn counted_1(counted: &mut Counted) -> Result<bool, TenantError> {
+    let held = all!(
+        recount(counted),
+        counted.counts(&1)?.insertions == 1,
+        recount(counted)
+    );
+    let mut counts = counted.counts(&1)?;
+    counts.count_look_up(false);
+    Ok(
+        held & all!(
+            (counted.set_counts(&1, counts), counted.counts(&1)) == (Ok(()), Ok(counts)),
+            recount(counted),
+            counted.take_counts(&1)?.insertions == 1,
+            counted.counts(&1) == Ok(Counts::default()),
+            recount(counted),
+            counted.get_counted(&1, &7) == Ok(Some(&2)),
+            counted.counts(&1)?.hits == 1
+        ),
+    )
+}
+
+fn counted_2(counted: &mut Counted) -> Result<bool, TenantError> {
+    let held = all!(
+        recount(counted),
+        (counted.put_counted(&1, 8, 2), counted.put_counted(&1, 9, 4)) == (Ok(true), Ok(false))
+    );
+    let counts = counted.counts(&1)?;
+    let held = held
+        & all!(
+            (counts.insertions, counts.rejections, counts.evictions) == (2, 1, 1),
+            recount(counted),
+            counted.get_counted(&1, &7) == Ok(Some(&2)),
+            counted.get_counted(&1, &8) == Ok(None)
+        );
+    let counts = counted.counts(&1)?;
+    Ok(held & all!((counts.hits, counts.misses, counts.insertions) == (1, 1, 1)))
+}
+
+#[test]
+fn on_a_counted(rt: HostRuntime) {
+    let alloc = rt.alloc();
+    let mut counted: Counted = TenantCache::with_hasher(
+        alloc,
+        RandomState::with_seeds([1, 2, 3, 4]),
+    );
+    let held = all!(
+        counted_1(&mut counted).unwrap_or(false),
+        counted_2(&mut counted).unwrap_or(false)
+    );
     check!(rt; held);
 }
 

@@ -1,7 +1,8 @@
 //! The caches of numbers in the examples of the docs. Tests of the texts of errors, and of names and keys
 //! that are texts.
 use lru_tenants::{
-    ByteTenants, TenantCache, TenantError, TenantPool, costs_are_within_the_total_limit,
+    ByCost, ByteTenants, Counting, TenantCache, TenantError, TenantPool,
+    costs_are_within_the_total_limit,
 };
 use std::test::Fail;
 use test_helpers::check;
@@ -16,6 +17,14 @@ pub fn refill(cache: &mut Numbers) -> bool {
         cache.set_total_limit(None),
     );
     (cache.open(1, 3), cache.put(&1, 7, 2)) == (Ok(()), Ok(true))
+}
+
+pub type Counted = TenantCache<u64, u64, u64, Counting<ByCost>>;
+
+/// Leaves one tenant, whose name is 1, with a budget of 3, the entry (7, 2) and the count of its insertion.
+pub fn recount(counted: &mut Counted) -> bool {
+    let _ = counted.close(&1);
+    (counted.open(1, 3), counted.put_counted(&1, 7, 2)) == (Ok(()), Ok(true))
 }
 
 pub type Shared = TenantPool<u64, u64, u64>;

@@ -15,10 +15,12 @@
 //! ```
 
 mod bytes;
+mod counted;
 mod entries;
 mod pool;
 
 pub use bytes::ByteTenants;
+pub use counted::Counting;
 pub use pool::TenantPool;
 
 use crate::erased::lru_limits::Budgeted;

@@ -1,7 +1,7 @@
-ghost use Rattle.std.specs.Prelude.{◌≡◌, ◌≢◌, ◌⊎◌, ◌≤◌, ◌<◌, ◌+◌, ℕ, ◌∷◌, length, nat_eq, None, Some, false};
+ghost use Rattle.std.specs.Prelude.{◌≡◌, ◌≢◌, ◌⊎◌, ◌≤◌, ◌<◌, ◌+◌, ◌-◌, ℕ, ◌∷◌, length, nat_eq, None, Some, false};
 ghost use Rattle.std.specs.Prelude.{IsTrue, IfErr, IfOk, OnOk, OnErr};
 ghost use Rattle.std.specs.Map.{lookup};
-ghost use Rattle.lru_caches.specs.Pages.{block_at, evicted, goes_dirty, missed, victim, with_room};
+ghost use Rattle.lru_caches.specs.Pages.{block_at, evicted, evicts, goes_dirty, missed, victim, with_room};
 ghost use Rattle.lru_caches.specs.Pages.{AreClean, AreThere, CrashAdds, IsFault, Serves};
 
 use crate::device::BlockDevice;
@@ -107,12 +107,16 @@ pub(super) fn replace<B: Copy, D: BlockDevice<B>, S: KeyHasher<u64>>(
     ensures untouched { goes_dirty gone map.old.pairs ≡ false → device.new ≡ device.old }
     ensures serves { Serves D.BlockDevice device.old device.new }
     ensures cause { IfErr result (λ e. IsFault D.BlockDevice device.old device.new e ⊎ (e ≡ PageError.Memory)) }
-    ensures left { IfErr result (λ e. (map.new.pairs ≡ map.old.pairs)
-        ⊎ ((e ≡ PageError.Memory) × (map.new.pairs ≡ evicted gone map.old.pairs))) }
-    ensures counted { OnOk result (counts.new ≡ missed counts.old) }
-    ensures uncounted { OnErr result (counts.new ≡ counts.old) }
+    ensures left { IfErr result (λ e. ((map.new.pairs ≡ map.old.pairs) × (counts.new ≡ counts.old))
+        ⊎ ((e ≡ PageError.Memory) × (map.new.pairs ≡ evicted gone map.old.pairs)
+        × (counts.new ≡ evicts (length map.old.pairs - length (evicted gone map.old.pairs)) counts.old))) }
+    ensures counted { OnOk result (counts.new
+        ≡ missed (length map.old.pairs - length (evicted gone map.old.pairs)) counts.old) }
 {
+    let before = map.len();
     evict(map, device, gone)?;
+    let evicted = before - map.len();
+    counts.evictions = counts.evictions.saturating_add(evicted as u64);
     add_page(map, hash, n, page)?;
     counts.misses = counts.misses.saturating_add(1);
     Ok(())

@@ -1,10 +1,10 @@
-ghost use Rattle.std.specs.Prelude.{◌≡◌, ◌≢◌, ◌⊎◌, ◌≤◌, ◌<◌, ◌+◌, ℕ, List, ◌∷◌, length, nat_eq, None, Some, Option};
+ghost use Rattle.std.specs.Prelude.{◌≡◌, ◌≢◌, ◌⊎◌, ◌≤◌, ◌<◌, ◌+◌, ◌-◌, ℕ, List, ◌∷◌, length, nat_eq, None, Some, Option};
 ghost use Rattle.std.specs.Prelude.{is_some, true, false, if◌then◌else◌, IsTrue, IfErr, IfOk, OnOk, OnErr};
 ghost use Rattle.std.specs.Fn.{FnOnceReturnsAt, FnOnceReturnsAtMut};
 ghost use Rattle.std.specs.Map.{lookup};
 ghost use Rattle.lru_model.specs.Calls.{promoted};
 ghost use Rattle.lru_model.specs.Lists.{without};
-ghost use Rattle.lru_caches.specs.Pages.{block_at, evicted, goes_dirty, hit, is_pinned, may_go, missed, unpinned_at};
+ghost use Rattle.lru_caches.specs.Pages.{block_at, evicted, evicts, goes_dirty, hit, is_pinned, may_go, missed, unpinned_at};
 ghost use Rattle.lru_caches.specs.Pages.{AreClean, AreThere, CrashAdds, CrashKeeps, IsFault, Serves};
 
 use crate::device::BlockDevice;
@@ -23,6 +23,7 @@ pub(super) struct Page<B> {
 pub(super) struct Counts {
     pub(super) hits: u64,
     pub(super) misses: u64,
+    pub(super) evictions: u64,
 }
 
 impl Counts {
@@ -107,10 +108,11 @@ pub(super) fn load<B: Copy, D: BlockDevice<B>, S: KeyHasher<u64>>(
     ensures within { (capacity : ℕ) → length map.old.pairs ≤ capacity → length (evicted gone map.old.pairs) < capacity
         → length map.new.pairs ≤ capacity }
     ensures no_more { length map.new.pairs ≤ length map.old.pairs + 1 }
-    ensures left { IfErr result (λ e. (map.new.pairs ≡ map.old.pairs)
-        ⊎ ((e ≡ PageError.Memory) × (map.new.pairs ≡ evicted gone map.old.pairs))) }
-    ensures counted { OnOk result (counts.new ≡ missed counts.old) }
-    ensures uncounted { OnErr result (counts.new ≡ counts.old) }
+    ensures left { IfErr result (λ e. ((map.new.pairs ≡ map.old.pairs) × (counts.new ≡ counts.old))
+        ⊎ ((e ≡ PageError.Memory) × (map.new.pairs ≡ evicted gone map.old.pairs)
+        × (counts.new ≡ evicts (length map.old.pairs - length (evicted gone map.old.pairs)) counts.old))) }
+    ensures counted { OnOk result (counts.new
+        ≡ missed (length map.old.pairs - length (evicted gone map.old.pairs)) counts.old) }
 {
     let block = read_block(device, n)?;
     let page = Page {

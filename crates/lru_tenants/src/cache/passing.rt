@@ -186,7 +186,7 @@ impl<
     }
 }
 
-fn put_answer<R>(inserted: Result<R, AllocError>) -> Result<R, TenantError>
+pub(super) fn put_answer<R>(inserted: Result<R, AllocError>) -> Result<R, TenantError>
     ensures { result ≡ put_answer inserted }
 {
     match inserted {

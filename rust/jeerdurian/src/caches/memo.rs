@@ -97,6 +97,20 @@ impl<K: Eq + Hash, V, F: Fn(&K) -> V, L: Admission<K, V>, S: BuildHasher> Memo<K
         self.memo.answer(key)
     }
 
+    /// Does what [`answer`](Self::answer) does, and also returns whether it called the function.
+    ///
+    /// ```
+    /// # use jeerdurian::{ByLength, caches::Memo};
+    /// let mut squares = Memo::new(ByLength::new(9), |n: &u64| n * n);
+    /// assert_eq!((squares.answer_full(3), squares.answer_full(3)), ((9, true), (9, false)));
+    /// ```
+    pub fn answer_full(&mut self, key: K) -> (V, bool)
+    where
+        V: Copy,
+    {
+        self.memo.answer_full(key)
+    }
+
     /// Lends a closure what [`answer`](Self::answer) would return, and returns what the closure returns. The values need
     /// not be `Copy`.
     ///

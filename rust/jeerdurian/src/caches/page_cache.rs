@@ -235,6 +235,19 @@ impl<B: Copy, D: BlockDevice<B>, S: BuildHasher> PageCache<B, D, S> {
         self.cache.misses()
     }
 
+    /// Returns how many pages were evicted, at most `u64::MAX`.
+    ///
+    /// ```
+    /// # use jeerdurian::caches::{FileDevice, PageCache};
+    /// # let file = std::io::Cursor::new(*b"zeroone.two.");
+    /// # let mut cache = PageCache::new(FileDevice::<_, 4>::new(file, 3), 2);
+    /// assert!((0..3).all(|n| cache.read(n).is_ok()));
+    /// assert_eq!((cache.misses(), cache.evictions()), (3, 1));
+    /// ```
+    pub fn evictions(&self) -> u64 {
+        self.cache.evictions()
+    }
+
     /// Returns the device. It lacks the writes that are in dirty pages alone.
     ///
     /// ```

@@ -85,7 +85,25 @@ impl<K: Eq + Hash, V: Copy, F: Fn(&K) -> V, L: Insertion<K, V, K>, S: KeyHasher<
     ///
     /// Cost: a get. If no result is stored, also a call of the function and an insert.
     pub fn answer(&mut self, key: K) -> V {
-        self.answer_with(key, |value| *value)
+        self.answer_full(key).0
+    }
+
+    /// Does what `answer` does, and also returns whether it called the function.
+    ///
+    /// ```text
+    /// squares.clear();
+    /// assert_eq!(rt; (squares.answer_full(3), squares.answer_full(3)), ((9, true), (9, false)));
+    /// ```
+    ///
+    /// Cost: as `answer`.
+    pub fn answer_full(&mut self, key: K) -> (V, bool) {
+        laws::inserts_evict_the_oldest::<K, V, K, L, S>();
+        if let Some(value) = self.map.get(&key) {
+            return (*value, false);
+        }
+        let value = (self.function)(&key);
+        let _kept = self.map.insert(key, value);
+        (value, true)
     }
 }
 

@@ -111,7 +111,7 @@ impl<B: Copy, D: BlockDevice<B>, S: KeyHasher<u64>> PageCache<B, D, S> {
             numbers: Vec::new(alloc),
             capacity: capacity.max(1),
             keeps_dirty: false,
-            counts: Counts { hits: 0, misses: 0 },
+            counts: Counts { hits: 0, misses: 0, evictions: 0 },
             device,
         }
     }
@@ -171,6 +171,17 @@ impl<B: Copy, D: BlockDevice<B>, S: KeyHasher<u64>> PageCache<B, D, S> {
     /// ```
     pub fn misses(&self) -> u64 {
         self.counts.misses
+    }
+
+    /// Returns how many pages were evicted, at most `u64::MAX`.
+    ///
+    /// Cost: `O(1)`.
+    ///
+    /// ```text
+    /// assert_eq!(rt; cache.misses(), cache.evictions().saturating_add(cache.len() as u64));
+    /// ```
+    pub fn evictions(&self) -> u64 {
+        self.counts.evictions
     }
 
     /// Lends the device. Dirty pages are not written to it yet.

@@ -8,6 +8,7 @@ use crate::erased::schnellru::{ByCost, Costed, KeyHasher, LookupKey, LruMap, Ran
 use crate::rattle_std::alloc::Global;
 use crate::rattle_std::hash::Hash;
 
+mod counted;
 mod get_or_put;
 mod passing;
 mod reading;

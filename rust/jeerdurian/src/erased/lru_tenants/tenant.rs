@@ -9,6 +9,8 @@ use crate::erased::schnellru::{Inserted, KeyHasher, LookupKey, LruMap, laws};
 use crate::rattle_std::alloc::AllocError;
 use crate::rattle_std::hash::Hash;
 
+pub(crate) mod counted;
+
 pub(crate) fn insert<K: Eq + Hash, V, L: Budgeted<K, V>, S: KeyHasher<K>, F: FnMut(K, V)>(
     map: &mut LruMap<K, V, L, S>,
     key: K,

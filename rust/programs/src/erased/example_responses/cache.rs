@@ -4,12 +4,10 @@
 #[allow(unused_imports)]
 use crate::rattle_std::prelude::*;
 
-use crate::erased::lru_caches::Counts;
 use crate::erased::lru_limits::{Budgeted, Insertion, KeyHasher, Limiter};
-use crate::erased::lru_tenants::{ByWeight, Costed, TenantCache, TenantError};
+use crate::erased::lru_tenants::{ByWeight, Costed, Counting, Counts, TenantCache, TenantError};
 use crate::erased::schnellru::RandomState;
-use crate::rattle_std::alloc::Global;
-use crate::rattle_std::collections::BTreeMap;
+use crate::rattle_std::alloc::{AllocError, Global};
 
 /// What an entry costs in addition to the bytes of its path and of its response.
 const OVERHEAD: u64 = 64;
@@ -27,20 +25,22 @@ impl Costed for Response {
     }
 }
 
-type Responses = TenantCache<String, String, Response, ByWeight<OVERHEAD>>;
+type Responses = TenantCache<String, String, Response, Counting<ByWeight<OVERHEAD>>>;
 
-/// Looks a path up. Returns whether its response is fresh. Removes a stale response.
-fn has_fresh(entries: &mut Responses, host: &str, path: &str, now: u64) -> Result<bool, TenantError> {
-    let expires = match entries.get(&host, &path)? {
-        Some(response) => response.expires,
-        None => return Ok(false),
-    };
-    if now < expires {
-        return Ok(true);
+fn is_fresh(entries: &Responses, host: &str, path: &str, now: u64) -> Result<bool, TenantError> {
+    match entries.peek(&host, &path)? {
+        Some(response) => Ok(now < response.expires),
+        None => Ok(false),
     }
+}
+
+fn drop_stale(entries: &mut Responses, host: &str, path: &str, now: u64) -> Result<(), TenantError> {
     let _len = entries.len();
+    if is_fresh(entries, host, path, now)? {
+        return Ok(());
+    }
     entries.remove(&host, &path)?;
-    Ok(false)
+    Ok(())
 }
 
 fn is_below(path: &String, prefix: &str) -> bool {
@@ -54,6 +54,13 @@ fn owned(alloc: Global, text: &str) -> Result<String, TenantError> {
     }
 }
 
+fn copy(alloc: Global, response: &Response) -> Result<Option<Response>, TenantError> {
+    match Vec::from_slice(alloc, &response.body) {
+        Ok(body) => Ok(Some(Response { body, expires: response.expires })),
+        Err(_) => Err(TenantError::Memory),
+    }
+}
+
 fn put_path(
     alloc: Global,
     entries: &mut Responses,
@@ -62,64 +69,49 @@ fn put_path(
     response: Response,
 ) -> Result<bool, TenantError> {
     let path = owned(alloc, path)?;
-    entries.put(&host, path, response)
+    entries.put_counted(&host, path, response)
 }
 
 pub struct ResponseCache {
     alloc: Global,
     entries: Responses,
-    counts: BTreeMap<String, Counts>,
 }
 
 impl ResponseCache {
     pub fn new(alloc: Global) -> ResponseCache {
-        ResponseCache {
-            alloc,
-            entries: TenantCache::with_hasher(alloc, RandomState::with_seeds([1, 2, 3, 4])),
-            counts: BTreeMap::new(alloc),
+        ResponseCache { alloc, entries: TenantCache::with_hasher(alloc, RandomState::with_seeds([1, 2, 3, 4])) }
+    }
+
+    /// Returns the hosts in order.
+    pub fn hosts(&self) -> Result<Vec<&str>, AllocError> {
+        let mut hosts = Vec::new(self.alloc);
+        for host in self.entries.names() {
+            hosts.push(host.as_str())?;
         }
+        hosts.sort()?;
+        Ok(hosts)
     }
 
-    pub fn counts(&self) -> &BTreeMap<String, Counts> {
-        &self.counts
+    pub fn counts(&self, host: &str) -> Counts {
+        self.entries.counts(&host).unwrap_or_default()
     }
 
-    fn count_look_up(&mut self, host: &str, found: bool) {
-        if let Some(counts) = self.counts.get_mut(host) {
-            counts.count_look_up(found);
-        }
-    }
-
-    fn count_evicted(&mut self, host: &str, evicted: u64) {
-        if let Some(counts) = self.counts.get_mut(host) {
-            counts.evictions = counts.evictions.saturating_add(evicted);
-        }
-    }
-
-    fn count_put(&mut self, host: &str, stored: &Result<bool, TenantError>, evicted: u64) {
-        if let Some(counts) = self.counts.get_mut(host) {
-            counts.count_insert(stored, evicted);
-        }
-    }
-
-    fn open(&mut self, name: String, budget: u64) -> Result<(), TenantError> {
-        let counted = owned(self.alloc, name.as_str())?;
-        self.entries.open(name, budget)?;
-        // If memory runs out, the host is open, but its calls are not counted.
-        let _ = self.counts.insert(counted, Counts::default());
-        Ok(())
+    fn count_evicted(&mut self, host: &str, evicted: u64) -> Result<(), TenantError> {
+        let mut counts = self.entries.counts(&host)?;
+        counts.evictions = counts.evictions.saturating_add(evicted);
+        self.entries.set_counts(&host, counts)
     }
 
     /// Opens a host, or sets its budget. Returns `host opened` or `budget set`, and how many entries were evicted.
     pub fn set_host(&mut self, host: &str, budget: u64) -> Result<(&'static str, u64), TenantError> {
         let (before, _) = self.size(host);
         if self.entries.set_budget(&host, budget).is_err() {
-            self.open(owned(self.alloc, host)?, budget)?;
+            self.entries.open(owned(self.alloc, host)?, budget)?;
             return Ok(("host opened", 0));
         }
         let (after, _) = self.size(host);
         let evicted = before.saturating_sub(after) as u64;
-        self.count_evicted(host, evicted);
+        self.count_evicted(host, evicted)?;
         Ok(("budget set", evicted))
     }
 
@@ -136,32 +128,17 @@ impl ResponseCache {
         let before = self.others(host, path);
         let stored = put_path(self.alloc, &mut self.entries, host, path, response);
         let evicted = before.saturating_sub(self.others(host, path));
-        self.count_put(host, &stored, evicted);
         (stored, evicted)
     }
 
-    fn look_up(&mut self, host: &str, path: &str, now: u64) -> Result<bool, TenantError> {
-        let found = has_fresh(&mut self.entries, host, path, now);
-        self.count_look_up(host, found == Ok(true));
-        found
-    }
-
-    fn copy(&self, host: &str, path: &str) -> Result<Option<Response>, TenantError> {
-        let Some(response) = self.entries.peek(&host, &path)? else {
-            return Ok(None);
-        };
-        match Vec::from_slice(self.alloc, &response.body) {
-            Ok(body) => Ok(Some(Response { body, expires: response.expires })),
-            Err(_) => Err(TenantError::Memory),
-        }
-    }
-
-    /// Returns a copy of the path's response if it is fresh. Removes a stale response.
+    /// Returns a copy of the path's response if it is fresh, and counts a hit. Otherwise counts a miss, and removes a
+    /// stale response.
     pub fn get(&mut self, host: &str, path: &str, now: u64) -> Result<Option<Response>, TenantError> {
-        if !self.look_up(host, path, now)? {
-            return Ok(None);
+        drop_stale(&mut self.entries, host, path, now)?;
+        match self.entries.get_counted(&host, &path)? {
+            Some(response) => copy(self.alloc, response),
+            None => Ok(None),
         }
-        self.copy(host, path)
     }
 
     pub fn purge(&mut self, host: &str, path: &str) -> Result<bool, TenantError> {

@@ -3,7 +3,6 @@
 #[allow(unused_imports)]
 use crate::rattle_std::prelude::*;
 
-use crate::erased::lru_caches::Counts;
 use crate::programs::example_responses::cache::ResponseCache;
 use crate::rattle_std::io;
 
@@ -18,7 +17,8 @@ const METRICS: [(&str, &str); 7] = [
 ];
 
 /// Returns the values in the order of `METRICS`.
-fn values_of(cache: &ResponseCache, host: &str, counts: &Counts) -> [u64; 7] {
+fn values_of(cache: &ResponseCache, host: &str) -> [u64; 7] {
+    let counts = cache.counts(host);
     let (entries, cost) = cache.size(host);
     [counts.hits, counts.misses, counts.insertions, counts.rejections, counts.evictions, entries as u64, cost]
 }
@@ -34,14 +34,15 @@ fn write_label(rt: &HostRuntime, host: &str) -> io::Result<()> {
 }
 
 pub fn write(rt: &HostRuntime, cache: &ResponseCache) -> io::Result<()> {
+    let hosts = cache.hosts()?;
     for (place, (name, kind)) in METRICS.iter().enumerate() {
         println!(rt; "# TYPE {name} {kind}")?;
-        for (host, counts) in cache.counts() {
-            let values = values_of(cache, host.as_str(), counts);
+        for host in &hosts {
+            let values = values_of(cache, host);
             if let Some(value) = values.get(place) {
                 print!(rt; "{name}")?;
                 print!(rt; "{}", "{host=\"")?;
-                write_label(rt, host.as_str())?;
+                write_label(rt, host)?;
                 print!(rt; "{}", "\"} ")?;
                 println!(rt; "{value}")?;
             }

@@ -171,6 +171,8 @@ fn cache_3(cache: &mut Cache<'_>) -> bool {
     held & all!(
         cache.read(1) == Ok(20) && cache.hits() == hits.saturating_add(1) && cache.misses() == misses,
         rewrite(cache),
+        cache.misses() == cache.evictions().saturating_add(cache.len() as u64),
+        rewrite(cache),
         cache.device().blocks == [10, 11, 12, 13],
         rewrite(cache),
         cache.flush() == Ok(()),
@@ -343,6 +345,8 @@ fn of_memo() {
         let seeded = RandomState::with_seeds([5, 6, 7, 8]);
         let cubes = Memo::with_hasher(alloc, ByLength::new(9), seeded, |n: &u64| n.wrapping_pow(3));
         let held = held & all!(cubes.is_empty());
+        squares.clear();
+        let held = held & all!((squares.answer_full(3), squares.answer_full(3)) == ((9, true), (9, false)));
         let mut blocks = Memo::new(alloc, ByLength::new(9), |n: &usize| vec![in alloc; 7u8; *n].ok());
         let held = held & all!((blocks.answer_with(3, |block| block.is_some()), blocks.len()) == (true, 1));
         let mut lengths = Memo::new(alloc, ByLength::new(9), |text: &String| text.as_bytes().len());
@@ -360,7 +364,6 @@ fn of_memo() {
                 squares.set_limiter(ByLength::new(1)).max_length() == 9 && squares.len() == 1,
                 squares.answer(3) == 9 && squares.remove(&3) && squares.is_empty()
             );
-        squares.clear();
         check!(rt; held);
         Ok(())
     };

@@ -4,9 +4,11 @@
 use crate::rattle_std::prelude::*;
 
 use crate::erased::lru_tenants::{
-    ByWeight, ByteTenants, TenantAnswer, TenantCache, TenantCall, TenantError, TenantPool, run_tenants,
+    ByCost, ByWeight, ByteTenants, Counting, Counts, TenantAnswer, TenantCache, TenantCall, TenantError, TenantPool,
+    run_tenants,
 };
-use crate::programs::lru_tenants_tests::numbers::{Bytes, Numbers, Shared, refill, reopen, restock};
+use crate::erased::schnellru::RandomState;
+use crate::programs::lru_tenants_tests::numbers::{Bytes, Counted, Numbers, Shared, recount, refill, reopen, restock};
 use crate::programs::test_helpers::{all, check};
 use crate::rattle_std::test::Fail;
 
@@ -42,6 +44,48 @@ fn on_a_bytes() {
         let alloc = rt.alloc();
         let mut bytes: Bytes = ByteTenants::new(alloc, [1, 2, 3, 4], 4000);
         let held = all!(bytes_1(&mut bytes), bytes_2(&mut bytes));
+        check!(rt; held);
+    };
+    run(HostRuntime).passes();
+}
+
+fn counted_1(counted: &mut Counted) -> Result<bool, TenantError> {
+    let held = all!(recount(counted), counted.counts(&1)?.insertions == 1, recount(counted));
+    let mut counts = counted.counts(&1)?;
+    counts.count_look_up(false);
+    Ok(held
+        & all!(
+            (counted.set_counts(&1, counts), counted.counts(&1)) == (Ok(()), Ok(counts)),
+            recount(counted),
+            counted.take_counts(&1)?.insertions == 1,
+            counted.counts(&1) == Ok(Counts::default()),
+            recount(counted),
+            counted.get_counted(&1, &7) == Ok(Some(&2)),
+            counted.counts(&1)?.hits == 1
+        ))
+}
+
+fn counted_2(counted: &mut Counted) -> Result<bool, TenantError> {
+    let held =
+        all!(recount(counted), (counted.put_counted(&1, 8, 2), counted.put_counted(&1, 9, 4)) == (Ok(true), Ok(false)));
+    let counts = counted.counts(&1)?;
+    let held = held
+        & all!(
+            (counts.insertions, counts.rejections, counts.evictions) == (2, 1, 1),
+            recount(counted),
+            counted.get_counted(&1, &7) == Ok(Some(&2)),
+            counted.get_counted(&1, &8) == Ok(None)
+        );
+    let counts = counted.counts(&1)?;
+    Ok(held & all!((counts.hits, counts.misses, counts.insertions) == (1, 1, 1)))
+}
+
+#[test]
+fn on_a_counted() {
+    let run = |rt: HostRuntime| -> () {
+        let alloc = rt.alloc();
+        let mut counted: Counted = TenantCache::with_hasher(alloc, RandomState::with_seeds([1, 2, 3, 4]));
+        let held = all!(counted_1(&mut counted).unwrap_or(false), counted_2(&mut counted).unwrap_or(false));
         check!(rt; held);
     };
     run(HostRuntime).passes();

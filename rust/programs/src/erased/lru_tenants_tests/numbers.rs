@@ -4,7 +4,9 @@
 #[allow(unused_imports)]
 use crate::rattle_std::prelude::*;
 
-use crate::erased::lru_tenants::{ByteTenants, TenantCache, TenantError, TenantPool, costs_are_within_the_total_limit};
+use crate::erased::lru_tenants::{
+    ByCost, ByteTenants, Counting, TenantCache, TenantError, TenantPool, costs_are_within_the_total_limit,
+};
 use crate::programs::test_helpers::check;
 use crate::rattle_std::test::Fail;
 
@@ -14,6 +16,14 @@ pub type Numbers = TenantCache<u64, u64, u64>;
 pub fn refill(cache: &mut Numbers) -> bool {
     let _ = (cache.close(&1), cache.close(&2), cache.set_total_limit(None));
     (cache.open(1, 3), cache.put(&1, 7, 2)) == (Ok(()), Ok(true))
+}
+
+pub type Counted = TenantCache<u64, u64, u64, Counting<ByCost>>;
+
+/// Leaves one tenant, whose name is 1, with a budget of 3, the entry (7, 2) and the count of its insertion.
+pub fn recount(counted: &mut Counted) -> bool {
+    let _ = counted.close(&1);
+    (counted.open(1, 3), counted.put_counted(&1, 7, 2)) == (Ok(()), Ok(true))
 }
 
 pub type Shared = TenantPool<u64, u64, u64>;

@@ -1,8 +1,9 @@
-use Rattle.std.proofs.Common.{rules, ◌≡◌, ◌⊎◌, ◌∷◌, nat_eq, IfErr, subst, true, false, sym, ap, ◌∙◌}
+use Rattle.std.proofs.Common.{rules, ◌≡◌, cond, ◌∷◌, nat_eq, true, false, sym, ap, ◌∙◌}
 use Rattle.std.specs.Map.{lookup}
 use Rattle.lru_model.specs.Lists.{without}
-use Rattle.lru_caches.specs.Pages.{evicted, is_pinned, with_room}
+use Rattle.lru_caches.specs.Pages.{evicted, hit, is_pinned, with_room}
 use Rattle.lru_caches.specs.declared.page_cache.PageError.TheVariants.{Memory}
+use Rattle.lru_caches.proofs.EvictionCounts.{failed-counts, missed-counts}
 use Rattle.lru_caches.proofs.Outcomes.{none_there, some_there, on_ok}
 use Rattle.lru_caches.proofs.PageOrder.{used-found, used-new}
 use Rattle.lru_caches.proofs.page_cache.PageCache.write.Goals as goal
@@ -34,24 +35,24 @@ returns-clause-pages g c =
 pub returns-clause-uses : goal.returns-clause-uses
 returns-clause-uses g c =
     let it = c.self.inside in
-    let was = c.overwrite.new.map.pairs in
-    let new = c.replace.new.map.pairs in
-    let gone = c.in_ok-gone.gone in
     let stays = c.overwrite.ensures.stays c.if-overwrite.false in
+    let none = none_there (lookup (nat_eq c.args.n) it.map.pairs) (sym c.overwrite.ensures.there ∙ c.if-overwrite.false) in
     let room = c.in_ok-gone.ensures.room ∙ ap (with_room it.capacity it.keeps_dirty) stays in
+    let same = c.overwrite.ensures.counts ∙ ap (λ b. cond b (hit it.counts) it.counts) c.if-overwrite.false in
     record {
       crash = search rules;
       unwritten = search rules;
       untouched = search rules;
       serves = search rules;
       cause = search rules;
-      left =
-          rw (← c.self.view_is) (subst (λ l. IfErr c.replace.result (λ e. (new ≡ it.map.pairs) ⊎ ((e ≡ Memory) × (new ≡ l))))
-          room (subst (λ l. IfErr c.replace.result (λ e. (new ≡ l) ⊎ ((e ≡ Memory) × (new ≡ evicted gone was))))
-          stays c.replace.ensures.left));
+      left = rw (← c.self.view_is) (failed-counts Memory c.replace.result it.map.pairs c.overwrite.new.map.pairs
+          (evicted c.in_ok-gone.gone c.overwrite.new.map.pairs) (with_room it.capacity it.keeps_dirty it.map.pairs)
+          c.replace.new.map.pairs it.counts c.overwrite.new.counts c.replace.new.counts stays same room c.replace.ensures.left);
       full = search rules;
       capacity = search rules;
       mode = search rules;
-      counted = search rules;
-      uncounted = search rules;
+      counted = rw (← c.self.view_is) (missed-counts Memory c.replace.result it.map.pairs c.overwrite.new.map.pairs
+          (evicted c.in_ok-gone.gone c.overwrite.new.map.pairs) (with_room it.capacity it.keeps_dirty it.map.pairs)
+          c.replace.new.map.pairs it.counts c.overwrite.new.counts c.replace.new.counts stays same room
+          (lookup (nat_eq c.args.n) it.map.pairs) none c.replace.ensures.counted);
     }

@@ -57,7 +57,10 @@ pub(super) fn replace<B: Copy, D: BlockDevice<B>, S: KeyHasher<u64>>(
     n: u64,
     page: Page<B>,
 ) -> Result<(), PageError<D::Error>> {
+    let before = map.len();
     evict(map, device, gone)?;
+    let evicted = before - map.len();
+    counts.evictions = counts.evictions.saturating_add(evicted as u64);
     add_page(map, hash, n, page)?;
     counts.misses = counts.misses.saturating_add(1);
     Ok(())

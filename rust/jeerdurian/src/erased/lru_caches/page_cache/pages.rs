@@ -18,6 +18,7 @@ pub(super) struct Page<B> {
 pub(super) struct Counts {
     pub(super) hits: u64,
     pub(super) misses: u64,
+    pub(super) evictions: u64,
 }
 
 impl Counts {

@@ -129,7 +129,7 @@ impl<N: Eq + Hash, K: Eq + Hash, V, L: Budgeted<K, V>, S: KeyHasher<K> + Copy> T
     }
 }
 
-fn put_answer<R>(inserted: Result<R, AllocError>) -> Result<R, TenantError> {
+pub(super) fn put_answer<R>(inserted: Result<R, AllocError>) -> Result<R, TenantError> {
     match inserted {
         Ok(inserted) => Ok(inserted),
         Err(_) => Err(TenantError::Memory),

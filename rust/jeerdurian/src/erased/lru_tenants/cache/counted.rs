@@ -1,0 +1,128 @@
+// Erased from crates/lru_tenants/src/cache/counted.rt: do not edit.
+//! Calls that count. The limiter carries the counts of each tenant.
+
+#[allow(unused_imports)]
+use crate::rattle_std::prelude::*;
+
+use crate::erased::lru_caches::Counts;
+use crate::erased::lru_limits::Budgeted;
+use crate::erased::lru_tenants::cache::TenantCache;
+use crate::erased::lru_tenants::cache::passing::put_answer;
+use crate::erased::lru_tenants::counting::Counting;
+use crate::erased::lru_tenants::error::TenantError;
+use crate::erased::lru_tenants::tenant::counted::{insert_counted, look_up, set_counts};
+use crate::erased::lru_tenants::tenant::newest;
+use crate::erased::schnellru::{KeyHasher, LookupKey};
+use crate::rattle_std::hash::Hash;
+
+impl<N: Eq + Hash, K: Eq + Hash, V, L: Budgeted<K, V>, S: KeyHasher<K> + Copy> TenantCache<N, K, V, Counting<L>, S> {
+    /// Returns the counts of a tenant since it was opened, or since its last `take_counts`.
+    ///
+    /// ```text
+    /// assert_eq!(rt; counted.counts(&1)?.insertions, 1);
+    /// ```
+    ///
+    /// Cost: `O(1)` expected.
+    ///
+    /// # Errors
+    ///
+    /// `NotOpen`.
+    pub fn counts<T: LookupKey<N>>(&self, name: &T) -> Result<Counts, TenantError> {
+        let Some(map) = self.tenants.peek(name) else {
+            return Err(TenantError::NotOpen);
+        };
+        Ok(map.limiter().counts)
+    }
+
+    /// Sets the counts of a tenant.
+    ///
+    /// So you can count other calls, with the calls of [`Counts`].
+    ///
+    /// ```text
+    /// let mut counts = counted.counts(&1)?;
+    /// counts.count_look_up(false);
+    /// assert_eq!(rt; (counted.set_counts(&1, counts), counted.counts(&1)), (Ok(()), Ok(counts)));
+    /// ```
+    ///
+    /// Cost: `O(1)` expected.
+    ///
+    /// # Errors
+    ///
+    /// `NotOpen`.
+    pub fn set_counts<T: LookupKey<N>>(&mut self, name: &T, counts: Counts) -> Result<(), TenantError> {
+        let Some(own) = self.tenants.peek_mut(name) else {
+            return Err(TenantError::NotOpen);
+        };
+        set_counts(own, counts);
+        Ok(())
+    }
+
+    /// Returns the counts of a tenant, and sets them to zeros.
+    ///
+    /// ```text
+    /// assert_eq!(rt; counted.take_counts(&1)?.insertions, 1);
+    /// assert_eq!(rt; counted.counts(&1), Ok(Counts::default()));
+    /// ```
+    ///
+    /// Cost: `O(1)` expected.
+    ///
+    /// # Errors
+    ///
+    /// `NotOpen`.
+    pub fn take_counts<T: LookupKey<N>>(&mut self, name: &T) -> Result<Counts, TenantError> {
+        let Some(own) = self.tenants.peek_mut(name) else {
+            return Err(TenantError::NotOpen);
+        };
+        let counts = own.limiter().counts;
+        set_counts(own, Counts::default());
+        Ok(counts)
+    }
+
+    /// Does what `get` does, and counts a hit or a miss.
+    ///
+    /// ```text
+    /// assert_eq!(rt; counted.get_counted(&1, &7), Ok(Some(&2)));
+    /// assert_eq!(rt; counted.counts(&1)?.hits, 1);
+    /// ```
+    ///
+    /// Cost: `O(1)` expected.
+    ///
+    /// # Errors
+    ///
+    /// `NotOpen`.
+    pub fn get_counted<T: LookupKey<N>, Q: LookupKey<K>>(
+        &mut self,
+        name: &T,
+        key: &Q,
+    ) -> Result<Option<&V>, TenantError> {
+        let Some(own) = self.tenants.peek_mut(name) else {
+            return Err(TenantError::NotOpen);
+        };
+        if !look_up(own, key) {
+            return Ok(None);
+        }
+        Ok(newest(own))
+    }
+}
+
+impl<N: Eq + Hash, K: Eq + Hash, V, L: Budgeted<K, V>, S: KeyHasher<K> + Copy> TenantCache<N, K, V, Counting<L>, S> {
+    /// Does what `put` does, and counts an insertion or a rejection, and the evictions.
+    ///
+    /// ```text
+    /// assert_eq!(rt; (counted.put_counted(&1, 8, 2), counted.put_counted(&1, 9, 4)), (Ok(true), Ok(false)));
+    /// let counts = counted.counts(&1)?;
+    /// assert_eq!(rt; (counts.insertions, counts.rejections, counts.evictions), (2, 1, 1));
+    /// ```
+    ///
+    /// Cost: as `put`, and a search.
+    ///
+    /// # Errors
+    ///
+    /// As `put`. The evicted entries are counted.
+    pub fn put_counted<T: LookupKey<N>>(&mut self, name: &T, key: K, value: V) -> Result<bool, TenantError> {
+        let Some(own) = self.tenants.peek_mut(name) else {
+            return Err(TenantError::NotOpen);
+        };
+        put_answer(insert_counted(own, key, value))
+    }
+}

@@ -1,0 +1,136 @@
+//! The counts of tenants and of a page cache, beside a plain count.
+
+use jeerdurian::ByCost;
+use jeerdurian::caches::{Counts, FileDevice, PageCache};
+use jeerdurian::tenants::{Counting, TenantCache, TenantError};
+use std::collections::BTreeMap;
+
+type Tenants = TenantCache<u64, u64, u64, Counting<ByCost>>;
+
+/// The next random number below `n` of a generator.
+fn next(state: &mut u64, n: u64) -> u64 {
+    *state = state.wrapping_mul(6364136223846793005).wrapping_add(1442695040888963407);
+    (*state >> 33) % n
+}
+
+/// A tenant: its budget, its entries, newest first, and its counts.
+#[derive(Default)]
+struct Plain {
+    budget: u64,
+    list: Vec<(u64, u64)>,
+    counts: Counts,
+}
+
+impl Plain {
+    fn take(&mut self, key: u64) -> Option<(u64, u64)> {
+        let place = self.list.iter().position(|entry| entry.0 == key)?;
+        Some(self.list.remove(place))
+    }
+
+    fn get(&mut self, key: u64) -> Option<u64> {
+        let found = self.take(key);
+        self.list.splice(..0, found);
+        self.counts.hits += u64::from(found.is_some());
+        self.counts.misses += u64::from(found.is_none());
+        Some(found?.1)
+    }
+
+    fn put(&mut self, key: u64, cost: u64) -> bool {
+        self.take(key);
+        if cost > self.budget {
+            self.counts.rejections += 1;
+            return false;
+        }
+        self.list.insert(0, (key, cost));
+        self.counts.insertions += 1;
+        while self.list.iter().map(|entry| entry.1).sum::<u64>() > self.budget {
+            self.list.pop();
+            self.counts.evictions += 1;
+        }
+        true
+    }
+
+    /// Takes out the oldest entries without counting them.
+    fn trim(&mut self) {
+        while self.list.iter().map(|entry| entry.1).sum::<u64>() > self.budget {
+            self.list.pop();
+        }
+    }
+}
+
+/// Makes one call on the cache and on the plain tenants.
+fn call(cache: &mut Tenants, tenants: &mut BTreeMap<u64, Plain>, [kind, name, key, cost]: [u64; 4]) {
+    let Some(own) = tenants.get_mut(&name) else {
+        assert_eq!(cache.get_counted(&name, &key), Err(TenantError::NotOpen));
+        assert_eq!(cache.put_counted(&name, key, cost), Err(TenantError::NotOpen));
+        assert_eq!(cache.take_counts(&name), Err(TenantError::NotOpen));
+        assert_eq!(cache.open(name, 60), Ok(()));
+        tenants.insert(name, Plain { budget: 60, ..Plain::default() });
+        return;
+    };
+    match kind {
+        0..=39 => assert_eq!(cache.get_counted(&name, &key).map(|it| it.copied()), Ok(own.get(key))),
+        40..=79 => assert_eq!(cache.put_counted(&name, key, cost), Ok(own.put(key, cost))),
+        80..=89 => assert_eq!(cache.remove(&name, &key), Ok(own.take(key).map(|entry| entry.1))),
+        90..=92 => assert_eq!(cache.take_counts(&name), Ok(std::mem::take(&mut own.counts))),
+        93 => {
+            own.counts.misses = u64::MAX - 1;
+            assert_eq!(cache.set_counts(&name, own.counts), Ok(()));
+            (0..3).for_each(|_| assert_eq!(cache.get_counted(&name, &(key + 100)), Ok(None)));
+            own.counts.misses = u64::MAX;
+            assert_eq!(cache.take_counts(&name), Ok(std::mem::take(&mut own.counts)));
+        }
+        94..=95 => {
+            own.budget = 30 + cost;
+            own.trim();
+            assert_eq!(cache.set_budget(&name, own.budget), Ok(()));
+        }
+        96 => {
+            own.list.clear();
+            assert_eq!(cache.clear(&name), Ok(()));
+        }
+        97 => {
+            assert_eq!(cache.close(&name), Ok(own.list.len()));
+            tenants.remove(&name);
+        }
+        _ => {
+            let counts = own.counts;
+            assert_eq!(cache.get(&name, &key).map(|it| it.copied()), Ok(own.get(key)));
+            own.counts = counts;
+        }
+    }
+}
+
+#[test]
+fn counts_of_tenants_are_plain_counts() {
+    let (mut state, mut cache, mut tenants) = (5, Tenants::new(), BTreeMap::new());
+    let mut total = 0;
+    for _ in 0..100_000 {
+        let random = [100, 8, 40, 70].map(|n| next(&mut state, n));
+        call(&mut cache, &mut tenants, random);
+        for (name, own) in &tenants {
+            assert_eq!(cache.counts(name), Ok(own.counts));
+            assert_eq!(cache.entries(name), Ok(own.list.len()));
+            total += own.counts.evictions;
+        }
+    }
+    assert!(total > 100_000);
+}
+
+/// A cache evicts exactly the pages that were brought and are no longer cached.
+#[test]
+fn evictions_of_a_page_cache_are_plain_counts() {
+    let device = FileDevice::<_, 4>::new(std::io::Cursor::new(vec![0; 400]), 100);
+    let (mut state, mut cache) = (5, PageCache::new(device, 20));
+    for _ in 0..100_000 {
+        let (kind, n) = (next(&mut state, 4), next(&mut state, 101));
+        match kind {
+            0 => _ = cache.write(n, [7; 4]),
+            1 => _ = cache.pin(n).map(|()| cache.unpin(n)),
+            _ => _ = cache.read(n),
+        }
+        assert_eq!(cache.misses(), cache.evictions() + cache.len() as u64);
+    }
+    assert!(cache.evictions() > 10_000);
+    cache.discard();
+}
