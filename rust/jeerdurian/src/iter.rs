@@ -177,9 +177,8 @@ impl<'a, K, V, N: LinkType> WalkMut<'a, K, V, N> {
     #[cfg(feature = "hashlink")]
     pub(crate) fn left(&self) -> impl Iterator<Item = (&K, &V)> {
         let newer = |&(b, left): &(usize, usize)| (left > 1).then(|| (self.entries.newer_unless_first(b), left - 1));
-        core::iter::successors((self.left > 0).then_some((self.back, self.left)), newer).map(|(b, _)| {
-            self.entries.pair(b)
-        })
+        core::iter::successors((self.left > 0).then_some((self.back, self.left)), newer)
+            .map(|(b, _)| self.entries.pair(b))
     }
 
     #[inline]
