@@ -75,7 +75,7 @@ module _ {K V S H : Type 0} (cache : Cache K V S H) where
     pub stored : new.counts.placed ≡ old.counts.placed
 
   -- The program made the references of a trace on the map `old`, and left the map `new`. `missed` references did not
-  -- find their key. Between references the program may have read.
+  -- find their key. Between references the program may have read the map or written values (`Reads`).
   pub data Referenced (old : State K V S H) : (trace : List K) (missed : ℕ) (new : State K V S H) → Type 0 where
     begins : Referenced old [] 0 old
     refers : (key : K) (trace : List K) (missed : ℕ) (mid new : State K V S H) → Referenced old trace missed mid →

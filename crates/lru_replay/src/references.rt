@@ -115,8 +115,9 @@ pub fn calls_change_the_keys<K: Eq + Hash + Drop, V: Drop, S: KeyHasher<K>>()
     laws::calls_keep_the_length::<K, V, ByLength, S>();
 }
 
-/// A program made the references of a trace, and makes one more reference, which hits (`hits`) or misses (`misses`).
-/// The map still keeps to its length (`keeps`).
+/// If a program made the references of a trace, and then makes one more, it made the references of the longer trace:
+/// with as many misses if the reference hits (`hits`), and one more if it misses (`misses`). The map still keeps to its
+/// length (`keeps`).
 pub fn programs_make_references<K: Eq + Hash + Drop, V: Drop, S: KeyHasher<K>>()
     ensures hits { (trace : List K) (missed : ℕ) (key : K) (value : V) (old mid new : State K V ByLength S) →
         Referenced (of_length K.eq) old trace missed mid → lookup (K.eq key) mid.pairs ≡ Some value →

@@ -88,7 +88,7 @@ impl ResponseCache {
         for host in self.entries.names() {
             hosts.push(host.as_str())?;
         }
-        hosts.sort()?;
+        hosts.sort_unstable();
         Ok(hosts)
     }
 

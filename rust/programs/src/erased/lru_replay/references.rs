@@ -39,8 +39,9 @@ pub fn calls_change_the_keys<K: Eq + Hash, V, S: KeyHasher<K>>() {
     laws::calls_keep_the_length::<K, V, ByLength, S>();
 }
 
-/// A program made the references of a trace, and makes one more reference, which hits (`hits`) or misses (`misses`).
-/// The map still keeps to its length (`keeps`).
+/// If a program made the references of a trace, and then makes one more, it made the references of the longer trace:
+/// with as many misses if the reference hits (`hits`), and one more if it misses (`misses`). The map still keeps to its
+/// length (`keeps`).
 pub fn programs_make_references<K: Eq + Hash, V, S: KeyHasher<K>>() {}
 
 /// After the references of a trace, the map contains the `max_length` keys that were referenced last (`keys`). A

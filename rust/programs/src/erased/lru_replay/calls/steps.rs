@@ -1,5 +1,5 @@
 // Erased from crates/lru_replay/src/calls/steps.rt: do not edit.
-//! The calls of a run that take more than one call of the map.
+//! The calls of a run whose answer is not what the map's call returns: they copy a lent value, write, or join results.
 
 #[allow(unused_imports)]
 use crate::rattle_std::prelude::*;
