@@ -262,6 +262,21 @@ fn memos_count_the_bytes_of_their_entries() {
     }
 }
 
+/// Memos and loaders call their functions once for an answer that is not stored, also while they evict.
+#[test]
+fn memos_call_their_functions_once() {
+    let (mut state, calls) = (5, Cell::new(0));
+    let count = || calls.set(calls.get() + 1);
+    let mut memo = Memo::new(ByLength::new(60), |n: &u64| (count(), n * n).1);
+    let mut loader = Loader::new(ByLength::new(60), |n: &u64| (count(), Ok::<_, ()>(n * n)).1);
+    for _ in 0..10_000 {
+        let key = next(&mut state, 100);
+        let is_new = memo.get(&key).is_none();
+        assert_eq!((memo.answer_full(key), calls.replace(0)), ((key * key, is_new), u32::from(is_new)));
+        assert_eq!((loader.load(key), calls.replace(0)), (Ok(key * key), u32::from(is_new)));
+    }
+}
+
 #[test]
 fn a_curve_of_many_keys() {
     let mut curve = Curve::new().unwrap();

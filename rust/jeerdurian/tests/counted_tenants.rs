@@ -63,7 +63,8 @@ fn call(cache: &mut Tenants, tenants: &mut BTreeMap<u64, Plain>, [kind, name, ke
     let Some(own) = tenants.get_mut(&name) else {
         assert_eq!(cache.get_counted(&name, &key), Err(TenantError::NotOpen));
         assert_eq!(cache.put_counted(&name, key, cost), Err(TenantError::NotOpen));
-        assert_eq!(cache.take_counts(&name), Err(TenantError::NotOpen));
+        assert_eq!([cache.counts(&name), cache.take_counts(&name)], [Err(TenantError::NotOpen); 2]);
+        assert_eq!(cache.set_counts(&name, Counts::default()), Err(TenantError::NotOpen));
         assert_eq!(cache.open(name, 60), Ok(()));
         tenants.insert(name, Plain { budget: 60, ..Plain::default() });
         return;
@@ -117,20 +118,40 @@ fn counts_of_tenants_are_plain_counts() {
     assert!(total > 100_000);
 }
 
+/// The counts of many tenants, and of a put that evicts many entries.
+#[test]
+fn counts_of_many_tenants_and_entries() {
+    let mut cache = Tenants::new();
+    for name in 0..3000 {
+        assert_eq!(cache.open(name, 2), Ok(()));
+        (0..name % 5).for_each(|key| assert_eq!(cache.put_counted(&name, key, 1), Ok(true)));
+    }
+    for name in 0..3000 {
+        let counts = Counts { insertions: name % 5, evictions: (name % 5).saturating_sub(2), ..Counts::default() };
+        assert_eq!([cache.take_counts(&name), cache.take_counts(&name)], [Ok(counts), Ok(Counts::default())]);
+    }
+    assert_eq!(cache.set_budget(&7, 6000), Ok(()));
+    (0..6000).for_each(|key| assert_eq!(cache.put_counted(&7, key, 1), Ok(true)));
+    assert_eq!(cache.put_counted(&7, 6000, 5500), Ok(true));
+    assert_eq!(cache.counts(&7), Ok(Counts { insertions: 6001, evictions: 5500, ..Counts::default() }));
+}
+
 /// A cache evicts exactly the pages that were brought and are no longer cached.
 #[test]
 fn evictions_of_a_page_cache_are_plain_counts() {
-    let device = FileDevice::<_, 4>::new(std::io::Cursor::new(vec![0; 400]), 100);
-    let (mut state, mut cache) = (5, PageCache::new(device, 20));
-    for _ in 0..100_000 {
-        let (kind, n) = (next(&mut state, 4), next(&mut state, 101));
-        match kind {
-            0 => _ = cache.write(n, [7; 4]),
-            1 => _ = cache.pin(n).map(|()| cache.unpin(n)),
-            _ => _ = cache.read(n),
+    for (capacity, blocks) in [(20, 100), (6000, 20_000)] {
+        let file = std::io::Cursor::new(vec![0; 4 * blocks as usize]);
+        let (mut state, mut cache) = (5, PageCache::new(FileDevice::<_, 4>::new(file, blocks), capacity));
+        for _ in 0..100_000 {
+            let (kind, n) = (next(&mut state, 4), next(&mut state, blocks + 1));
+            match kind {
+                0 => _ = cache.write(n, [7; 4]),
+                1 => _ = cache.pin(n).map(|()| cache.unpin(n)),
+                _ => _ = cache.read(n),
+            }
+            assert_eq!(cache.misses(), cache.evictions() + cache.len() as u64);
         }
-        assert_eq!(cache.misses(), cache.evictions() + cache.len() as u64);
+        assert!(cache.len() == capacity && cache.evictions() > 10_000);
+        cache.discard();
     }
-    assert!(cache.evictions() > 10_000);
-    cache.discard();
 }

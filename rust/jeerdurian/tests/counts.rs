@@ -1,8 +1,8 @@
 //! How often and when callbacks are called, which no clause of a contract says.
 
 use jeerdurian::caches::{CountedMap, FileDevice, PageCache};
-use jeerdurian::tenants::ByteTenants;
-use jeerdurian::{Admission, Limiter, LruMap, More, UnlimitedCompact, Updated};
+use jeerdurian::tenants::{ByteTenants, Counting as CountingTenant, TenantCache};
+use jeerdurian::{Admission, ByCost, Limiter, LruMap, More, UnlimitedCompact, Updated};
 use std::cell::{Cell, RefCell};
 use std::hash::{BuildHasherDefault, DefaultHasher};
 use std::io::Cursor;
@@ -305,6 +305,22 @@ fn counted_maps_and_tenants_hash_once() {
     assert_eq!((bytes.peek(&1, &7), builds.0.replace(0)), (Ok(Some(&2)), 2));
     assert_eq!((bytes.remove(&1, &7), builds.0.replace(0)), (Ok(Some(2)), 2));
     assert_eq!((bytes.close(&1), builds.0.replace(0)), (Ok(0), 1));
+}
+
+/// A counted look-up hashes the name and the key once, and a counted put looks the key up once more.
+#[test]
+fn counted_calls_of_tenants_hash_once() {
+    let builds = Builds::default();
+    let mut cache: TenantCache<u64, u64, u64, CountingTenant<ByCost>, _> = TenantCache::with_hasher(Shared(&builds));
+    assert_eq!((cache.open(1, 9), builds.0.take() > 0), (Ok(()), true));
+    for (key, hashes) in [(7, 3), (8, 3), (7, 3)] {
+        assert_eq!((cache.put_counted(&1, key, 2), builds.0.replace(0)), (Ok(true), hashes));
+    }
+    for (key, found) in [(8, Some(&2)), (7, Some(&2)), (9, None)] {
+        assert_eq!((cache.get_counted(&1, &key), builds.0.replace(0)), (Ok(found), 2));
+    }
+    let counts = cache.counts(&1).unwrap();
+    assert_eq!((cache.set_counts(&1, counts), cache.take_counts(&1), builds.0.replace(0)), (Ok(()), Ok(counts), 3));
 }
 
 /// A table that stays at most half full is rehashed at its size, and never grows, by inserts of both kinds.

@@ -3,7 +3,9 @@
 
 mod refusing;
 
-use jeerdurian::caches::{BlockDevice, Durable, FileDevice, FileError, HashedFileDevice, PageCache, PageError};
+use jeerdurian::caches::{
+    BlockDevice, Durable, FileDevice, FileError, HashedFileDevice, PageCache, PageError, with_cache,
+};
 use jeerdurian::{LruMap, UnlimitedCompact};
 use refusing::held;
 use std::cell::{Cell, RefCell};
@@ -169,6 +171,7 @@ fn a_block_without_its_checksum_is_damaged() {
 }
 
 /// A sync flushes the file, and then makes it durable. After one of these calls failed, the device makes no more calls.
+/// A new cache over it is broken, too.
 #[test]
 fn a_sync_that_fails_is_the_last_call() {
     for (fails, calls) in [(None, 2), (Some(Call::Flush), 1), (Some(Call::Sync), 2)] {
@@ -177,6 +180,9 @@ fn a_sync_that_fails_is_the_last_call() {
         assert_eq!(device.file().take(), [Call::Flush, Call::Sync][..calls]);
         assert_eq!((device.is_usable(), device.sync().is_ok()), (fails.is_none(), fails.is_none()));
         assert_eq!(device.file().take().len(), if fails.is_none() { 2 } else { 0 });
+        let mut cache = PageCache::new(device, 9);
+        assert_eq!(cache.write(1, [1; 16]).err(), fails.map(|_| PageError::Broken));
+        cache.discard();
         let mut hashed = HashedFileDevice::<_, 16>::new(Listed { fails, ..Listed::new(16) }, 9);
         assert_eq!((hashed.sync().is_ok(), hashed.is_usable()), (fails.is_none(), fails.is_none()));
         assert_eq!(hashed.file().take(), [Call::Flush, Call::Sync][..calls]);
@@ -206,7 +212,7 @@ fn open_counts_the_whole_blocks() {
     assert!(FileDevice::<_, 16>::open(Listed { fails, ..Listed::new(16) }).is_err_and(|e| e == FileError::File));
 }
 
-/// A device of blocks that are their numbers. It counts its reads, writes and syncs. Reads of 7 fail.
+/// A device of blocks that are their numbers. It counts its reads, writes and syncs. Reads and writes of 7 fail.
 #[derive(Default)]
 struct Counted(Cell<[u32; 3]>);
 
@@ -227,9 +233,9 @@ impl BlockDevice<u64> for Counted {
         self.count(0);
         if n == 7 { Err(n) } else { Ok(n) }
     }
-    fn write(&mut self, _n: u64, _block: &u64) -> std::result::Result<(), u64> {
+    fn write(&mut self, n: u64, _block: &u64) -> std::result::Result<(), u64> {
         self.count(1);
-        Ok(())
+        if n == 7 { Err(n) } else { Ok(()) }
     }
     fn sync(&mut self) -> std::result::Result<(), u64> {
         self.count(2);
@@ -257,7 +263,13 @@ fn a_cache_calls_its_device_only_if_it_has_to() {
     assert_eq!(calls(&mut |it| assert_eq!((it.prefetch(20..520), it.hits()), (Ok(()), 3))), [500, 0, 0]);
     assert_eq!(calls(&mut |it| assert_eq!((it.write(9, 9), it.flush()), (Ok(()), Ok(())))), [0, 1, 1]);
     assert_eq!(calls(&mut |it| assert_eq!(it.flush(), Ok(()))), [0, 0, 1]);
-    cache.discard();
+    assert_eq!(
+        calls(&mut |it| assert_eq!((it.write(7, 8), it.flush()), (Ok(()), Err(PageError::Device(7))))),
+        [0, 1, 0]
+    );
+    let unclosed = cache.close().err().unwrap();
+    assert_eq!((unclosed.error, unclosed.cache.dirty_len()), (PageError::Device(7), 1));
+    assert_eq!(unclosed.cache.discard().0.get(), [0, 1, 0]);
 }
 
 /// While memory lasts, no number of pages makes a call fail. A page takes a number of 8 bytes, and at most 16, besides
@@ -291,4 +303,16 @@ fn a_page_is_dirty_if_its_closure_panics() {
     assert!(written.is_err());
     assert_eq!((cache.read(1), cache.dirty_len(), cache.flush()), (Ok(5), 1, Ok(())));
     assert_eq!(cache.discard().0.get(), [1, 1, 1]);
+}
+
+/// A cache whose work panics is dropped, and its device.
+#[test]
+fn a_cache_is_dropped_if_its_work_panics() {
+    let bytes = held();
+    let work = |cache: &mut PageCache<u64, Counted>| -> Option<u64> {
+        assert_eq!(cache.write(1, 5), Ok(()));
+        std::panic::resume_unwind(Box::new(()));
+    };
+    assert!(catch_unwind(AssertUnwindSafe(|| with_cache(Counted::default(), 9, work))).is_err());
+    assert_eq!(held(), bytes);
 }

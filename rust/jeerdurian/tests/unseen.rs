@@ -4,7 +4,8 @@
 mod refusing;
 
 use jeerdurian::caches::{CountedMap, Counts, OrderedMap};
-use jeerdurian::{ByLength, LruMap, More, UnlimitedCompact};
+use jeerdurian::tenants::{Counting, TenantCache, TenantError};
+use jeerdurian::{ByCost, ByLength, LruMap, More, UnlimitedCompact};
 use refusing::refused;
 use std::hash::{BuildHasher, Hasher};
 
@@ -107,6 +108,18 @@ fn a_counted_insert_without_memory() {
     assert_eq!((counted.take_counts(), counted.len()), (Counts { evictions: 1, ..Counts::default() }, 27));
     assert!(counted.insert(OF_HASH_28, 5));
     assert_eq!(counted.counts(), Counts { insertions: 1, ..Counts::default() });
+}
+
+/// The same of a put of a tenant, which returns `Memory`.
+#[test]
+fn a_counted_put_without_memory() {
+    let mut cache: TenantCache<u64, u64, u64, Counting<ByCost>, _> = TenantCache::with_hasher(Thousands::default());
+    assert_eq!(cache.open(1, 28), Ok(()));
+    (0..28).for_each(|n| assert_eq!(cache.put(&1, n, 1), Ok(true)));
+    assert_eq!(refused(1, || cache.put_counted(&1, OF_HASH_28, 1)), (Err(TenantError::Memory), true));
+    assert_eq!(cache.take_counts(&1), Ok(Counts { evictions: 1, ..Counts::default() }));
+    assert_eq!((cache.entries(&1), cache.put_counted(&1, OF_HASH_28, 1)), (Ok(27), Ok(true)));
+    assert_eq!(cache.counts(&1), Ok(Counts { insertions: 1, ..Counts::default() }));
 }
 
 /// No form of an insert fails above some number of entries.
