@@ -63,7 +63,8 @@ fn call(cache: &mut Tenants, tenants: &mut BTreeMap<u64, Plain>, [kind, name, ke
     let Some(own) = tenants.get_mut(&name) else {
         assert_eq!(cache.get_counted(&name, &key), Err(TenantError::NotOpen));
         assert_eq!(cache.put_counted(&name, key, cost), Err(TenantError::NotOpen));
-        assert_eq!(cache.take_counts(&name), Err(TenantError::NotOpen));
+        assert_eq!([cache.counts(&name), cache.take_counts(&name)], [Err(TenantError::NotOpen); 2]);
+        assert_eq!(cache.set_counts(&name, Counts::default()), Err(TenantError::NotOpen));
         assert_eq!(cache.open(name, 60), Ok(()));
         tenants.insert(name, Plain { budget: 60, ..Plain::default() });
         return;

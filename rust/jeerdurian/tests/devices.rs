@@ -267,7 +267,9 @@ fn a_cache_calls_its_device_only_if_it_has_to() {
         calls(&mut |it| assert_eq!((it.write(7, 8), it.flush()), (Ok(()), Err(PageError::Device(7))))),
         [0, 1, 0]
     );
-    cache.discard();
+    let unclosed = cache.close().err().unwrap();
+    assert_eq!((unclosed.error, unclosed.cache.dirty_len()), (PageError::Device(7), 1));
+    assert_eq!(unclosed.cache.discard().0.get(), [0, 1, 0]);
 }
 
 /// While memory lasts, no number of pages makes a call fail. A page takes a number of 8 bytes, and at most 16, besides

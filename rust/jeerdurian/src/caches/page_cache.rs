@@ -6,7 +6,7 @@ use crate::rattle_std::alloc::Global;
 use core::hash::BuildHasher;
 
 /// Why a call on a page cache failed. A call that fails changes no block that the cache shows, unless a `sync` of the
-/// device failed: each later call returns `Broken` then.
+/// device failed: later writes and flushes return `Broken` then, and so do reads and pins of pages that are not cached.
 ///
 /// ```
 /// use jeerdurian::caches::PageError;
@@ -117,8 +117,8 @@ impl<B, D: BlockDevice<B>> proved::BlockDevice<B> for Called<D> {
 /// then, and goes to the device when it is evicted or flushed.
 ///
 /// Proved: after a flush that returned `Ok`, a crash leaves each block as it was shown then or was written later, if the
-/// device does as its docs say. A call that fails shows the same blocks as before. After a `sync` that failed, each call
-/// but `discard`, and reads of cached pages, returns `Broken`.
+/// device does as its docs say. A call that fails shows the same blocks as before. After a `sync` that failed, writes
+/// and flushes return `Broken`, and so do reads and pins of pages that are not cached.
 ///
 /// A cache that is dropped loses its dirty pages without a word, so call [`close`](Self::close).
 ///
@@ -209,8 +209,8 @@ impl<B: Copy, D: BlockDevice<B>, S: BuildHasher> PageCache<B, D, S> {
         self.cache.contains(n)
     }
 
-    /// Returns how many calls that read, write or pin a page found it cached. A call that fails counts nothing. The count
-    /// stays at `u64::MAX`.
+    /// Returns how many calls that read, write or pin a page found it cached. A call that fails does not count here. The
+    /// count stays at `u64::MAX`.
     ///
     /// ```
     /// # use jeerdurian::caches::{FileDevice, PageCache};
@@ -275,7 +275,7 @@ impl<B: Copy, D: BlockDevice<B>, S: BuildHasher> PageCache<B, D, S> {
     ///
     /// None if the page is cached. `Broken`: a `sync` has failed. `NoBlock`: the device has no such number. `Full`: no
     /// page may go. `Device`: the read failed, or a page could not be written back. `Memory`: out of memory for one page
-    /// more.
+    /// more; a page may have been evicted.
     ///
     /// ```
     /// # use jeerdurian::caches::{FileDevice, PageCache};
