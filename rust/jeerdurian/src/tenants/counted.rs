@@ -11,8 +11,8 @@ impl<K: Eq + Hash, V, L: Budget<K, V>> Budget<K, V> for Counting<L> {}
 
 /// Calls that count, for a cache over [`Counting`]. No other call changes a count.
 ///
-/// Proved of the sources: a counted call does what the call without counts does, and counts exactly, until a count reaches `u64::MAX`.
-/// It changes no count of another tenant.
+/// Proved of the sources: a counted call does what the call without counts does, and counts exactly, until a count
+/// reaches `u64::MAX`. It changes no count of another tenant.
 ///
 /// ```
 /// use jeerdurian::ByCost;
