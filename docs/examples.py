@@ -22,8 +22,8 @@ GENERICS = re.compile(r"(?:::|->\s*\w*)<[^<>;(){}]*(?:<[^<>]*>[^<>;(){}]*)*>")
 FOUND = r"(\w+(?:\.\w+\([^()]*\))+) == Some"
 ERRORS = {"_fallible(": "GetOrInsertError<u8>", "put_full(": "TenantError", "counts(&1)?": "TenantError", ".iter(&1)?": "TenantError"}
 LENGTH = 12
-READS = {"len", "is_empty", "contains", "contains_key", "peek", "peek_key_value", "peek_oldest", "peek_newest", "keys",
-         "values", "iter", "get_index", "get_index_of", "first", "last", "entries", "budget", "cost",
+READS = {"len", "is_empty", "contains", "contains_key", "peek", "peek_key_value", "peek_oldest", "peek_newest", "peek_older",
+         "peek_newer", "keys", "values", "iter", "get_index", "get_index_of", "first", "last", "entries", "budget", "cost",
          "names", "total_cost", "total_budget", "total_limit", "limit", "share"}
 
 

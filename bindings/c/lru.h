@@ -42,7 +42,7 @@ extern "C" {
 
 /* The version of these functions and structs. Compare it with lru_abi_version() if the library is not built with the
  * program. It rises with each change of them. */
-#define LRU_ABI_VERSION 4u
+#define LRU_ABI_VERSION 5u
 uint32_t lru_abi_version(void);
 
 /* A handle: the address of a map on the heap, or null. Begin with LRU_NONE. */
@@ -137,6 +137,12 @@ struct lru_pair lru_peek_oldest(struct lru *lru);
 
 /* Returns the newest entry. Nothing changes. */
 struct lru_pair lru_peek_newest(struct lru *lru);
+
+/* Returns the entry that is next older than the entry of a key. If the key is not there, or its entry is the oldest,
+ * finds nothing. Nothing changes. So this loop goes over a map:
+ *
+ *     for (struct lru_pair p = lru_peek_newest(&lru); p.found; p = lru_peek_older(&lru, p.key)) .. */
+struct lru_pair lru_peek_older(struct lru *lru, uint64_t key);
 
 /* Copies the newest entries into `entries`, the newest first: all of them, or `count` if there are more. Returns
  * how many it copied. The other places of `entries` and the map stay as they are. */
@@ -258,10 +264,14 @@ struct lru_popped lru_bytes_peek_oldest(struct lru_bytes *lru, uint8_t *key, siz
                                         size_t value_size);
 
 /* Does what lru_bytes_peek_oldest does, for the entry at an index in the order of use. The newest has the index 0.
- * Takes a step for each entry before the index: to go over a large map, make a copy with lru_bytes_clone, and pop from
- * it. */
+ * Takes a step for each entry before the index. */
 struct lru_popped lru_bytes_peek_at(struct lru_bytes *lru, size_t index, uint8_t *key, size_t key_size, uint8_t *value,
                                     size_t value_size);
+
+/* Does what lru_bytes_peek_oldest does, for the entry that is next older than the entry of a key. If the key is not
+ * there, or its entry is the oldest, finds nothing. To go over a map, begin with lru_bytes_peek_at(&lru, 0, ..). */
+struct lru_popped lru_bytes_peek_older(struct lru_bytes *lru, const uint8_t *key, size_t key_len, uint8_t *key_buffer,
+                                       size_t key_size, uint8_t *value_buffer, size_t value_size);
 
 /* Makes `copy` a copy of the map, with the same budget, seeds, capacity, and bytes of entries in the same order.
  * Returns whether it did; false says that there was no map, or no memory (tested). A map that `copy` had is dropped in
@@ -320,6 +330,33 @@ static inline struct lru_entry *lru_entries_out(struct lru_entry *entries) {
     (lru_bytes_peek_oldest)(lru, lru_bytes_out(key), key_size, lru_bytes_out(value), value_size)
 #define lru_bytes_peek_at(lru, index, key, key_size, value, value_size) \
     (lru_bytes_peek_at)(lru, index, lru_bytes_out(key), key_size, lru_bytes_out(value), value_size)
+#define lru_bytes_peek_older(lru, key, key_len, key_buffer, key_size, value_buffer, value_size) \
+    (lru_bytes_peek_older)(lru, lru_bytes_in(key), key_len, lru_bytes_out(key_buffer), key_size, \
+                           lru_bytes_out(value_buffer), value_size)
+
+/* What operators watch of a map. Begin with zeros. The two functions below count what a call returned; they are C, and
+ * tested. A map of a program that does not call them costs nothing more. */
+struct lru_counts {
+    uint64_t hits;       /* look-ups that found their key */
+    uint64_t misses;     /* look-ups that did not */
+    uint64_t insertions; /* inserts that left their key in the map */
+    uint64_t rejections; /* inserts that returned LRU_REJECTED */
+    uint64_t evictions;  /* entries that inserts evicted */
+};
+
+/* Counts a look-up, by the `found` of its result. */
+static inline void lru_count_look_up(struct lru_counts *counts, bool found) {
+    if (found) counts->hits++;
+    else counts->misses++;
+}
+
+/* Counts an insert, by its code and the number of entries that it evicted. After lru_insert, pass `code` and `evicted`
+ * of its result. Before lru_bytes_put, count each entry that lru_bytes_pop_for removes. */
+static inline void lru_count_insert(struct lru_counts *counts, uint32_t code, uint64_t evicted) {
+    counts->insertions += code == LRU_STORED;
+    counts->rejections += code == LRU_REJECTED;
+    counts->evictions += evicted;
+}
 
 #ifdef __cplusplus
 }

@@ -187,9 +187,10 @@ static bool try_pop_for(struct lru_bytes *lru, struct list *list, struct text ke
     return true;
 }
 
-/* Peeks at the oldest entry, or at an index. */
-static bool try_peek(struct lru_bytes *lru, const struct list *list, bool oldest) {
-    size_t index = oldest ? list->len - 1 : next() % (list->len + 2);
+/* Peeks at the oldest entry, at an index, or at the entry that is next older than the entry of a key. */
+static bool try_peek(struct lru_bytes *lru, const struct list *list, unsigned kind, struct text named) {
+    int i = find(list, &named);
+    size_t index = kind == 0 ? list->len - 1 : kind == 1 ? next() % (list->len + 2) : i < 0 ? SIZE_MAX : list->len - (size_t)i;
     bool found = index < list->len;
     const struct text *own_key = &list->key[found ? list->len - 1 - index : 0];
     const struct text *own_value = &list->value[found ? list->len - 1 - index : 0];
@@ -198,8 +199,10 @@ static bool try_peek(struct lru_bytes *lru, const struct list *list, bool oldest
     struct buffer value = buffer_of(next() % 4 ? value_len + next() % 3 : next() % (value_len + 1));
     bool fits = found && key_len <= key.size && value_len <= value.size;
     uint8_t *key_start = start_of(key), *value_start = start_of(value);
-    struct lru_popped seen = oldest ? lru_bytes_peek_oldest(lru, key_start, key.size, value_start, value.size)
-                                    : lru_bytes_peek_at(lru, index, key_start, key.size, value_start, value.size);
+    struct lru_popped seen =
+        kind == 0   ? lru_bytes_peek_oldest(lru, key_start, key.size, value_start, value.size)
+        : kind == 1 ? lru_bytes_peek_at(lru, index, key_start, key.size, value_start, value.size)
+                    : lru_bytes_peek_older(lru, bytes_of(&named), named.len, key_start, key.size, value_start, value.size);
     CHECK(seen.found == found && !seen.removed && seen.key_len == key_len && seen.value_len == value_len);
     CHECK(holds(key, fits ? own_key : NULL) && holds(value, fits ? own_value : NULL));
     return true;
@@ -250,7 +253,7 @@ static bool try_call(struct lru_bytes *lru, struct list *list, const uint64_t se
     } else if (kind < 960) {
         return try_pop(lru, list, list->len > 0, NULL, 0);
     } else if (kind < 978) {
-        return try_peek(lru, list, kind % 2);
+        return try_peek(lru, list, kind % 3, key);
     } else if (kind < 980) {
         return try_clone(lru, list);
     } else if (kind < 990) {
@@ -278,7 +281,10 @@ static bool try_nothing(struct lru_bytes *lru) {
     struct lru_popped newest = lru_bytes_peek_at(lru, 0, key.block + SPARE, 1, value.block + SPARE, 1);
     struct lru_bytes copy = LRU_NONE;
     CHECK(!oldest.found && !oldest.removed && !oldest.key_len && !oldest.value_len);
+    struct lru_popped older =
+        lru_bytes_peek_older(lru, value.block, 1, key.block + SPARE, 1, value.block + SPARE, 1);
     CHECK(!newest.found && !newest.removed && !newest.key_len && !newest.value_len);
+    CHECK(!older.found && !older.removed && !older.key_len && !older.value_len);
     CHECK(!lru_bytes_clone(lru, &copy) && !copy.map);
     CHECK(!got.found && !got.len && !seen.found && !seen.len);
     CHECK(!popped.found && !popped.removed && !popped.key_len && !popped.value_len);

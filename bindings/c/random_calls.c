@@ -15,6 +15,9 @@ struct list {
     size_t len, most;
 };
 
+/* What the header counts, and what the list counts. */
+static struct lru_counts counts, counted;
+
 static int find(const struct list *list, uint64_t key) {
     for (size_t i = 0; i < list->len; i++)
         if (list->key[i] == key) return (int)i;
@@ -59,10 +62,12 @@ static bool try_insert(struct lru *lru, struct list *list, uint64_t key, uint64_
     CHECK(in.replaced == (i >= 0) && in.old_value == (i >= 0 ? list->value[i] : 0));
     if (in.code == LRU_OUT_OF_MEMORY) CHECK(fail_each && i < 0 && list->most);
     else CHECK(in.code == (list->most ? LRU_STORED : LRU_REJECTED));
+    lru_count_insert(&counts, in.code, in.evicted);
     if (gets && i >= 0) value = list->value[i];
     if (i >= 0) drop(list, i);
-    if (evicted.found) drop(list, 0);
-    if (in.code == LRU_STORED) add(list, key, value);
+    if (evicted.found) drop(list, 0), counted.evictions++;
+    if (in.code == LRU_STORED) add(list, key, value), counted.insertions++;
+    else counted.rejections += !list->most;
     return true;
 }
 
@@ -87,8 +92,22 @@ static bool try_key(struct lru *lru, struct list *list, unsigned kind, uint64_t 
     }
     struct lru_found got = kind == 2 ? lru_get(lru, key) : kind == 3 ? lru_peek(lru, key) : lru_remove(lru, key);
     CHECK(got.found == there && got.value == (there ? list->value[i] : 0));
+    lru_count_look_up(&counts, got.found);
+    if (there) counted.hits++;
+    else counted.misses++;
     if (there && kind == 2) promote(list, i);
     if (there && kind == 4) drop(list, i);
+    return true;
+}
+
+/* Goes over the map, and asks for what is next older than a key that is not there. */
+static bool try_walk(struct lru *lru, const struct list *list) {
+    size_t left = list->len;
+    for (struct lru_pair p = lru_peek_newest(lru); p.found; p = lru_peek_older(lru, p.key)) {
+        CHECK(left && same(p, at(list, left - 1)));
+        left--;
+    }
+    CHECK(!left && !lru_peek_older(lru, UINT64_MAX).found);
     return true;
 }
 
@@ -145,6 +164,8 @@ static bool try_rare(struct lru *lru, struct list *list, unsigned kind, const ui
         return true;
     case 5:
         return try_clone(lru, list);
+    case 6:
+        return try_walk(lru, list);
     default:
         return try_copy(lru, list);
     }
@@ -161,6 +182,7 @@ static bool try_nothing(struct lru *lru) {
     CHECK(!lru_get(lru, 1).found && !lru_peek(lru, 1).found && !lru_remove(lru, 1).found);
     CHECK(!lru_contains(lru, 1) && !lru_promote(lru, 1) && !lru_reserve(lru, 1) && !lru_shrink(lru));
     CHECK(same(lru_pop_oldest(lru), none) && same(lru_peek_oldest(lru), none) && same(lru_peek_newest(lru), none));
+    CHECK(same(lru_peek_older(lru, 1), none));
     CHECK(!lru_len(lru) && !lru_capacity(lru) && !lru_memory_usage(lru) && !lru_max_length(lru));
     CHECK(!lru_clone(lru, &copy) && !copy.map);
     CHECK(!lru_copy_newest(lru, &entry, 1) && entry.key == 3 && entry.value == 4);
@@ -186,11 +208,12 @@ static bool run(uint32_t most, long calls) {
         else if (kind < 96) {
             CHECK(same(lru_pop_oldest(&lru), at(&list, 0)));
             if (list.len) drop(&list, 0);
-        } else if (next() % 8 == 0) CHECK(try_rare(&lru, &list, (unsigned)(next() % 7), seeds));
+        } else if (next() % 8 == 0) CHECK(try_rare(&lru, &list, (unsigned)(next() % 8), seeds));
         CHECK(lru_len(&lru) == list.len && lru_max_length(&lru) == list.most && lru_capacity(&lru) >= list.len);
         CHECK(same(lru_peek_oldest(&lru), at(&list, 0)));
         CHECK(same(lru_peek_newest(&lru), at(&list, list.len ? list.len - 1 : 0)));
     }
+    CHECK(!memcmp(&counts, &counted, sizeof counts));
     for (; list.len; drop(&list, 0)) CHECK(same(lru_pop_oldest(&lru), at(&list, 0)));
     lru_free(&lru);
     return try_nothing(&lru);

@@ -1,8 +1,10 @@
 //! The calls on a map that return structs for C.
 ghost use Rattle.std.specs.Prelude.{◌≡◌, ◌≤◌, ℕ, nat_eq, false, length, List, Option, None, IfOk, OnErr, IfSome};
+ghost use Rattle.std.specs.Prelude.{option_map};
+ghost use Rattle.std.specs.Map.Iter.{deref_pair};
 ghost use Rattle.lru_limits.specs.Limiters.{length_rules, length_offers};
 ghost use Rattle.lru_model.specs.Calls.{Remove, PopOldest, promoted};
-ghost use Rattle.lru_model.specs.Lists.{lookup, first, last};
+ghost use Rattle.lru_model.specs.Lists.{lookup};
 ghost use Rattle.lru_model.specs.Callbacks.{InsertPasses};
 ghost use Rattle.lru_model.specs.Inserts.{kept_of};
 ghost use Rattle.lru_model.specs.Kept.{most_exact_length};
@@ -106,20 +108,10 @@ pub fn pop_oldest(map: &mut Map) -> Pair
 }
 
 #[inline]
-pub fn peek_oldest(map: &Map) -> Pair
-    ensures { result ≡ pair_of (last map.now.pairs) }
+pub fn show(pair: Option<(&u64, &u64)>) -> Pair
+    ensures { result ≡ pair_of (option_map deref_pair pair.entry) }
 {
-    match map.peek_oldest() {
-        Some((key, value)) => as_pair(Some((*key, *value))),
-        None => as_pair(None),
-    }
-}
-
-#[inline]
-pub fn peek_newest(map: &Map) -> Pair
-    ensures { result ≡ pair_of (first map.now.pairs) }
-{
-    match map.peek_newest() {
+    match pair {
         Some((key, value)) => as_pair(Some((*key, *value))),
         None => as_pair(None),
     }

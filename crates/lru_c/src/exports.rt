@@ -9,7 +9,7 @@ ghost use Rattle.lru_limits.specs.Limiters.{length_rules, length_offers};
 ghost use Rattle.lru_limits.specs.Mixing.{seeded};
 ghost use Rattle.lru_model.specs.Calls.{Remove, PopOldest, promoted, cleared};
 ghost use Rattle.lru_model.specs.Inserts.{Insert};
-ghost use Rattle.lru_model.specs.Lists.{lookup, first, last};
+ghost use Rattle.lru_model.specs.Lists.{lookup, first, last, next_older};
 ghost use Rattle.lru_model.specs.Reservations.{Reserve};
 ghost use Rattle.lru_model.specs.Shrinks.{Shrink};
 ghost use Rattle.lru_model.specs.Sizes.{max_of_32_bits, usage};
@@ -23,8 +23,7 @@ use crate::answers::{
     Entry, Found, Inserted, NO_MAP, Pair, as_code, as_found, as_inserted, as_pair,
 };
 use crate::calls::{
-    copied, copy_entries, get, get_or_insert, insert, peek, peek_newest, peek_oldest, pop_oldest,
-    remove,
+    copied, copy_entries, get, get_or_insert, insert, peek, pop_oldest, remove, show,
 };
 use crate::handle::{Lru, with_map};
 use schnellru::{ByLength, LruMap};
@@ -35,9 +34,9 @@ const ENTRY_BYTES: usize = 24;
 
 #[unsafe(no_mangle)]
 pub extern "C" fn lru_abi_version() -> u32
-    ensures { result ≡ 4 }
+    ensures { result ≡ 5 }
 {
-    4
+    5
 }
 
 #[unsafe(no_mangle)]
@@ -166,7 +165,7 @@ pub extern "C" fn lru_peek_oldest(alloc: Global, lru: &mut Lru) -> Pair
     ensures { OnMap (result ≡ pair_of None)
         (λ old new. (result ≡ pair_of (last old.pairs)) × (new ≡ old)) lru.old.map lru.new.map }
 {
-    with_map!(lru, alloc, |map| peek_oldest(&map), as_pair(None))
+    with_map!(lru, alloc, |map| show(map.peek_oldest()), as_pair(None))
 }
 
 #[unsafe(no_mangle)]
@@ -174,7 +173,15 @@ pub extern "C" fn lru_peek_newest(alloc: Global, lru: &mut Lru) -> Pair
     ensures { OnMap (result ≡ pair_of None)
         (λ old new. (result ≡ pair_of (first old.pairs)) × (new ≡ old)) lru.old.map lru.new.map }
 {
-    with_map!(lru, alloc, |map| peek_newest(&map), as_pair(None))
+    with_map!(lru, alloc, |map| show(map.peek_newest()), as_pair(None))
+}
+
+#[unsafe(no_mangle)]
+pub extern "C" fn lru_peek_older(alloc: Global, lru: &mut Lru, key: u64) -> Pair
+    ensures { OnMap (result ≡ pair_of None)
+        (λ old new. (result ≡ pair_of (next_older (nat_eq key) old.pairs)) × (new ≡ old)) lru.old.map lru.new.map }
+{
+    with_map!(lru, alloc, |map| show(map.peek_older(&key)), as_pair(None))
 }
 
 #[unsafe(no_mangle)]

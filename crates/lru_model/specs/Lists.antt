@@ -1,6 +1,7 @@
 -- Functions on lists, mostly of pairs, newest first.
 use Rattle.std.specs.Prelude.{◌≡◌, ℕ, zero, suc, Bool, true, false, if◌then◌else◌, List, [], ◌∷◌, ◌++◌, Option, Some}
-use Rattle.std.specs.Prelude.{None, slice_get, option_map, option_to_list}
+use Rattle.std.specs.Prelude.{None, ◌+◌, slice_get, option_map, option_to_list, position}
+use Rattle.std.specs.Option.{option_and_then}
 pub use Rattle.std.specs.Map.{lookup, lookup_entry, remove_entry as without, keys_of}
 
 module _ {X : Type 0} where
@@ -67,6 +68,14 @@ module _ {K V : Type 0} where
   -- the other places in their order, and then the place of the named key's pair
   abbrev pub back_places : (K → Bool) → List (K × V) → List ℕ → List ℕ
   back_places names pairs places = other_places names pairs places ++ option_to_list (place_of names pairs places)
+
+  -- the pair behind the named key's pair, which is the next older one
+  abbrev pub next_older : (K → Bool) → List (K × V) → Option (K × V)
+  next_older names pairs = option_and_then (λ i. slice_get pairs (i + 1)) (position (λ pair. names pair.0) pairs)
+
+  -- the pair before the named key's pair, which is the next newer one
+  abbrev pub next_newer : (K → Bool) → List (K × V) → Option (K × V)
+  next_newer names pairs = option_and_then (λ i. last_of i pairs) (position (λ pair. names pair.0) pairs)
 
   -- the list with `entry` in place of the pair of the named key
   abbrev pub set_entry : (K → Bool) → K × V → List (K × V) → List (K × V)

@@ -4,6 +4,7 @@ mod FoundEntries
 mod Positions
 mod OutlivedLifetimes
 mod LentPairs
+mod Neighbours
 mod NextPairs
 mod LentValues
 mod LentAnswers

@@ -2,6 +2,7 @@
 ghost use Rattle.std.specs.Prelude.{◌≡◌, ◌<◌, ◌^◌, length, slice_get, position, option_map};
 ghost use Rattle.std.specs.Map.{keys_of, values_of};
 ghost use Rattle.std.specs.Map.Iter.{ShowsInOrder, ShowsInReverse, deref, deref_pair};
+ghost use Rattle.lru_model.specs.Lists.{next_older, next_newer};
 ghost use Rattle.lru_model.specs.State.{IsMap};
 
 use crate::map::LruMap;
@@ -110,6 +111,40 @@ impl<K: Eq + Hash, V, L: Limiter<K, V>, S: KeyHasher<K>> LruMap<K, V, L, S> {
     {
         let b = self.find(key)?;
         Some(self.entries.index_of(b))
+    }
+
+    /// Returns the next older entry than the entry of a key. So a walk needs no iterator.
+    ///
+    /// ```
+    /// assert!(rt; map.peek_older(&2) == Some((&1, &10)) && map.peek_older(&1).is_none());
+    /// ```
+    ///
+    /// Cost: `O(1)` expected.
+    pub fn peek_older<Q: LookupKey<K>>(&self, key: &Q) -> Option<(&K, &V)>
+        ensures { option_map deref_pair result ≡ next_older (Q.names key.now) self.now.pairs }
+    {
+        let b = self.find(key)?;
+        if b == self.entries.oldest() {
+            return None;
+        }
+        Some(self.entries.pair(self.entries.older_unless_last(b)))
+    }
+
+    /// Returns the next newer entry than the entry of a key.
+    ///
+    /// ```
+    /// assert!(rt; map.peek_newer(&2) == Some((&3, &30)) && map.peek_newer(&3).is_none());
+    /// ```
+    ///
+    /// Cost: `O(1)` expected.
+    pub fn peek_newer<Q: LookupKey<K>>(&self, key: &Q) -> Option<(&K, &V)>
+        ensures { option_map deref_pair result ≡ next_newer (Q.names key.now) self.now.pairs }
+    {
+        let b = self.find(key)?;
+        if b == self.entries.newest() {
+            return None;
+        }
+        Some(self.entries.pair(self.entries.newer_unless_first(b)))
     }
 }
 

@@ -89,6 +89,14 @@ where
     /// key's entry in the order, and `None` exactly if there is none.
     fn get_index_of(&self, key: &(impl Hash + PartialEq<K> + ?Sized)) -> Option<usize>;
 
+    /// Returns the next older entry than the entry of a key. Cost: `O(1)` expected. Proved: it is the entry behind the
+    /// key's entry in the order, and `None` exactly if the key is not there or its entry is the oldest.
+    fn peek_older(&self, key: &(impl Hash + PartialEq<K> + ?Sized)) -> Option<(&K, &V)>;
+
+    /// Returns the next newer entry than the entry of a key. Cost: `O(1)` expected. Proved: it is the entry before the
+    /// key's entry in the order, and `None` exactly if the key is not there or its entry is the newest.
+    fn peek_newer(&self, key: &(impl Hash + PartialEq<K> + ?Sized)) -> Option<(&K, &V)>;
+
     /// Returns the keys, the newest first. Proved: each key comes once, in the order of use, from either end.
     fn keys(&self) -> Keys<'_, K, V, L>;
 
@@ -239,6 +247,14 @@ where
 
     fn get_index_of(&self, key: &(impl Hash + PartialEq<K> + ?Sized)) -> Option<usize> {
         self.map.get_index_of(&Named(key))
+    }
+
+    fn peek_older(&self, key: &(impl Hash + PartialEq<K> + ?Sized)) -> Option<(&K, &V)> {
+        self.map.peek_older(&Named(key))
+    }
+
+    fn peek_newer(&self, key: &(impl Hash + PartialEq<K> + ?Sized)) -> Option<(&K, &V)> {
+        self.map.peek_newer(&Named(key))
     }
 
     fn keys(&self) -> Keys<'_, K, V, L> {

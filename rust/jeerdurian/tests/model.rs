@@ -69,7 +69,13 @@ fn step(map: &mut LruMap<String, u64>, list: &mut List, kind: u64, k: &str, v: u
             map.retain(|_, it| it % 11 != v % 11);
             list.pairs.retain(|it| it.1 % 11 != v % 11);
         }
-        20 => assert_eq!(map.get_index_of(k), list.at(k)),
+        20 => {
+            let at = list.at(k);
+            let pair = |i: usize| list.pairs.get(i).map(|it| (&it.0, &it.1));
+            assert_eq!(map.get_index_of(k), at);
+            assert_eq!(map.peek_older(k), at.and_then(|i| pair(i + 1)));
+            assert_eq!(map.peek_newer(k), at.and_then(|i| pair(i.wrapping_sub(1))));
+        }
         21 => assert_eq!(map.get_index(v as usize % 9), list.pairs.get(v as usize % 9).map(|it| (&it.0, &it.1))),
         22 => update(map, list, k, v),
         _ => {

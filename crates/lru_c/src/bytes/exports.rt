@@ -6,7 +6,7 @@ ghost use Rattle.std.specs.Prelude.{◌≡◌, ◌≤◌, ◌∷◌, length, is_
 ghost use Rattle.std.specs.Prelude.{true, false};
 ghost use Rattle.lru_limits.specs.Mixing.{seeded};
 ghost use Rattle.lru_model.specs.Calls.{Remove, promoted, cleared};
-ghost use Rattle.lru_model.specs.Lists.{lookup, last, without};
+ghost use Rattle.lru_model.specs.Lists.{lookup, last, next_older, without};
 ghost use Rattle.lru_model.specs.Sizes.{max_of_64_bits};
 ghost use Rattle.lru_model.specs.State.{empty_map, contents, Trims, IsWithin};
 ghost use Rattle.lru_c.specs.Answers.{OnMap};
@@ -171,6 +171,27 @@ pub extern "C" fn lru_bytes_peek_oldest(
         lru,
         alloc,
         |map| show(map.peek_oldest(), key, value),
+        nothing_popped()
+    )
+}
+
+#[unsafe(no_mangle)]
+pub extern "C" fn lru_bytes_peek_older(
+    alloc: Global,
+    lru: &mut LruBytes,
+    key: &[u8],
+    key_buffer: &mut [u8],
+    value_buffer: &mut [u8],
+) -> Popped
+    ensures { OnMap
+        ((result ≡ no_entry) × (key_buffer.new ≡ key_buffer.old) × (value_buffer.new ≡ value_buffer.old))
+        (λ old new. Shows (next_older (names_bytes key.now) old.pairs) result key_buffer.old key_buffer.new
+        value_buffer.old value_buffer.new × (new ≡ old)) lru.old.map lru.new.map }
+{
+    with_map!(
+        lru,
+        alloc,
+        |map| show(map.peek_older(&Named(key)), key_buffer, value_buffer),
         nothing_popped()
     )
 }

@@ -95,6 +95,36 @@ impl<K: Eq + Hash, V, L: Limiter<K, V>, S: KeyHasher<K>> LruMap<K, V, L, S> {
         let b = self.find(key)?;
         Some(self.entries.index_of(b))
     }
+
+    /// Returns the next older entry than the entry of a key. So a walk needs no iterator.
+    ///
+    /// ```text
+    /// assert!(rt; map.peek_older(&2) == Some((&1, &10)) && map.peek_older(&1).is_none());
+    /// ```
+    ///
+    /// Cost: `O(1)` expected.
+    pub fn peek_older<Q: LookupKey<K>>(&self, key: &Q) -> Option<(&K, &V)> {
+        let b = self.find(key)?;
+        if b == self.entries.oldest() {
+            return None;
+        }
+        Some(self.entries.pair(self.entries.older_unless_last(b)))
+    }
+
+    /// Returns the next newer entry than the entry of a key.
+    ///
+    /// ```text
+    /// assert!(rt; map.peek_newer(&2) == Some((&3, &30)) && map.peek_newer(&3).is_none());
+    /// ```
+    ///
+    /// Cost: `O(1)` expected.
+    pub fn peek_newer<Q: LookupKey<K>>(&self, key: &Q) -> Option<(&K, &V)> {
+        let b = self.find(key)?;
+        if b == self.entries.newest() {
+            return None;
+        }
+        Some(self.entries.pair(self.entries.newer_unless_first(b)))
+    }
 }
 
 /// `for (key, value) in &map` walks the entries, newest first.

@@ -310,12 +310,18 @@ fn map_21(map: &mut LruMap<u64, u64>) -> bool {
 }
 
 fn map_22(map: &mut LruMap<u64, u64>) -> bool {
-    let held = all!(
+    all!(
         fill(map),
         is_value(map.values().next(), 30) && map.values().len() == 3,
         is_pair(map.get_index(0), 3, 30) && map.get_index(3).is_none(),
-        (map.get_index_of(&1), map.get_index_of(&9)) == (Some(2), None)
-    );
+        (map.get_index_of(&1), map.get_index_of(&9)) == (Some(2), None),
+        is_pair(map.peek_older(&2), 1, 10) && map.peek_older(&1).is_none(),
+        is_pair(map.peek_newer(&2), 3, 30) && map.peek_newer(&3).is_none()
+    )
+}
+
+fn map_23(map: &mut LruMap<u64, u64>) -> bool {
+    let held = fill(map);
     let answer = map.ensure_newest_fallible(4, || Err(7u8));
     held & all!(answer == Err(GetOrInsertError::Caller(7)))
 }
@@ -350,7 +356,8 @@ fn on_a_map() {
             map_19(&mut map),
             map_20(&mut map),
             map_21(&mut map),
-            map_22(&mut map)
+            map_22(&mut map),
+            map_23(&mut map)
         );
         check!(rt; held);
     };
