@@ -9,7 +9,7 @@ use lru_limits::{KeyHasher, Limiter};
 use std::hash::Hash;
 
 impl<K: Eq + Hash, V, L: Limiter<K, V>, S: KeyHasher<K>> LruMap<K, V, L, S> {
-    /// Removes and returns the oldest entry if the closure returns true for it. Otherwise returns `None` and changes
+    /// Removes and returns the oldest entry if the closure returns true for it. If not, returns `None` and changes
     /// nothing.
     ///
     /// If each use writes the time into the value, `while map.pop_oldest_if(..).is_some() {}` removes the entries that
@@ -49,7 +49,7 @@ impl<K: Eq + Hash, V, L: Limiter<K, V>, S: KeyHasher<K>> LruMap<K, V, L, S> {
     ///
     /// # Errors
     ///
-    /// Returns the error of the closure. Then nothing has changed.
+    /// Returns the error of the closure, and changes nothing.
     pub fn try_pop_oldest<E, F: FnOnce(&K, &V) -> Result<(), E>>(
         &mut self,
         release: F,
