@@ -12,7 +12,7 @@ const SIZES: Sizes = Sizes {
     cache: 2,
 };
 
-/// How many records the trial changes: three of each page, one of which lies across two sectors.
+/// How many records the trial changes: three of each page, including one that lies across two sectors.
 const USED: u64 = 12;
 
 fn id_of(n: u64) -> u64 {
@@ -21,7 +21,7 @@ fn id_of(n: u64) -> u64 {
         .wrapping_add((n % 3).wrapping_mul(31))
 }
 
-/// More calls than the work between two crashes makes.
+/// A number greater than the number of calls between two crashes.
 const CALLS: u64 = 150;
 
 type Files<'a> = (Disk<'a>, Disk<'a>);

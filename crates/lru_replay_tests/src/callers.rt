@@ -1,4 +1,4 @@
-//! Callers of runs, as in docs/CALLING.md. Their contracts follow from laws on runs.
+//! Callers of runs, whose contracts follow from laws on runs, as in docs/CALLING.md.
 ghost use Rattle.std.specs.Prelude.{◌≡◌, ◌≤◌, ◌+◌, ◌*◌, ℕ, Bool, true, length, IfOk, OnOk, nat_eq};
 ghost use Rattle.std.specs.List.{IsDistinct, sum_by};
 ghost use Rattle.lru_model.specs.Exact.{HasTableFor};
@@ -43,7 +43,7 @@ fn put_both(
     run_calls(alloc, map, calls)
 }
 
-/// Inserts two entries by a list of calls. A map that was within its limit of cost still is.
+/// Inserts two entries by a list of calls. A map that was within its limit of cost still is afterwards.
 fn charge_both(
     alloc: Global,
     map: &mut LruMap<u64, u64, ByCost>,

@@ -5,7 +5,8 @@ use lru_replay::{ReplayEnd, ReplayError, replay, status};
 use std::alloc::Global;
 use std::io::{BufReader, ErrorKind};
 
-/// The longest input for which each read and each write fails in turn. For a longer input only the first three fail.
+/// The longest input for which each read and each write fails in turn. For a longer input only the first three reads
+/// and writes fail.
 const LONGEST_CUT: usize = 2000;
 
 type End = Result<ReplayEnd, ReplayError>;
