@@ -20,12 +20,12 @@ pub struct Column {
     pub separator: u8,
 }
 
-/// What the size of a cache is.
+/// What the size of a cache counts: entries or bytes.
 #[derive(Clone, Copy, Debug, PartialEq, Eq)]
 pub enum Measure {
     /// How many entries the cache can contain.
     Places,
-    /// How many bytes its entries can take together.
+    /// How many bytes the entries can take together.
     Bytes,
 }
 

@@ -12,7 +12,7 @@ use crate::rattle_std::alloc::{AllocError, Global};
 /// What an entry costs in addition to the bytes of its path and of its response.
 const OVERHEAD: u64 = 64;
 
-/// A response. It is stale from the time `expires` on.
+/// A response, which is stale from the time `expires` on.
 
 pub struct Response {
     pub body: Vec<u8>,
@@ -131,8 +131,8 @@ impl ResponseCache {
         (stored, evicted)
     }
 
-    /// Returns a copy of the path's response if it is fresh, and counts a hit. Otherwise counts a miss, and removes a
-    /// stale response.
+    /// If the path's response is fresh, returns a copy, and counts a hit. If there is no fresh response, counts a miss,
+    /// and removes a stale response.
     pub fn get(&mut self, host: &str, path: &str, now: u64) -> Result<Option<Response>, TenantError> {
         drop_stale(&mut self.entries, host, path, now)?;
         match self.entries.get_counted(&host, &path)? {

@@ -9,7 +9,8 @@ use crate::programs::rows::streams::{Failure, Narrow, Slow, count_lines, error_a
 use crate::rattle_std::alloc::Global;
 use crate::rattle_std::io::{BufReader, ErrorKind};
 
-/// The longest input for which each read and each write fails in turn. For a longer input only the first three fail.
+/// The longest input for which each read and each write fails in turn. For a longer input only the first three reads
+/// and writes fail.
 const LONGEST_CUT: usize = 2000;
 
 type End = Result<ReplayEnd, ReplayError>;

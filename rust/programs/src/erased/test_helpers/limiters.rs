@@ -27,8 +27,8 @@ impl<N: LinkType> Limiter<u64, u64> for LinkedBy<N> {
     }
 }
 
-/// Is over the limit at every length or at none, and permits every second growth. Counts removals and growths, and
-/// keeps their last arguments.
+/// Is either always or never over its limit, and permits every second growth. Counts removals and growths, and keeps
+/// their last arguments.
 #[derive(Clone, Copy, Debug)]
 pub struct Alternating {
     pub over: bool,

@@ -24,8 +24,8 @@ impl<B: Copy, D: BlockDevice<B>, S: KeyHasher<u64>> PageCache<B, D, S> {
 
     /// Returns a block, and makes its page the newest.
     ///
-    /// If the page is not cached and the cache is full, evicts the oldest page that may be evicted. If that page is
-    /// dirty, writes it to the device first. A pinned page may not be evicted. If the cache
+    /// If the page is not cached and the cache is full, evicts the oldest page that may be evicted. If the evicted page
+    /// is dirty, writes it to the device first. A pinned page may not be evicted. If the cache
     /// [keeps dirty pages](Self::set_keeps_dirty), a dirty page may not be evicted either.
     ///
     /// ```text
@@ -37,8 +37,8 @@ impl<B: Copy, D: BlockDevice<B>, S: KeyHasher<u64>> PageCache<B, D, S> {
     ///
     /// # Errors
     ///
-    /// Fails only if the page is not cached. `Broken`, `NoBlock` or `Full`: see [`PageError`]. `Device`: the read
-    /// failed, or a page could not be written back; no page was evicted. `Memory`: a page may have been evicted.
+    /// Fails only if the page is not cached. `Broken`, `NoBlock` or `Full`: see [`PageError`]. `Device`: the read, or
+    /// the write of a dirty page, failed, and no page was evicted. `Memory`: a page may have been evicted.
     pub fn read(&mut self, n: u64) -> Result<B, PageError<D::Error>> {
         self.read_with(n, |block| *block)
     }
@@ -69,7 +69,7 @@ impl<B: Copy, D: BlockDevice<B>, S: KeyHasher<u64>> PageCache<B, D, S> {
     ///
     /// # Errors
     ///
-    /// The error of the first `read` that fails. The blocks before it were read.
+    /// The error of the first `read` that fails. All blocks before this block were read.
     pub fn prefetch(&mut self, blocks: Range<u64>) -> Result<(), PageError<D::Error>> {
         for n in blocks.start..blocks.end {
             self.bring(n)?;
