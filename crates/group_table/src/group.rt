@@ -1,4 +1,4 @@
-//! Groups of sixteen control bytes, called lanes, and masks with a bit for each lane.
+//! Groups of sixteen control bytes. Each byte is a lane, and a mask has a bit for each lane.
 ghost use Rattle.std.specs.Prelude.{◌≡◌, ◌≢◌, ◌≤◌, ◌<◌, ◌+◌, ◌-◌, ◌^◌, ◌↔◌, ℕ, length, slice_index};
 ghost use Rattle.std.specs.Int.Count.{count_trailing_zeros};
 ghost use Rattle.group_table.specs.Bytes.{empty_byte, IsTag, IsFreeByte};

@@ -1,4 +1,4 @@
-//! How many entries a number of buckets holds, and how many buckets a number of entries needs.
+//! How many entries n buckets hold, and how many buckets n entries need.
 ghost use Rattle.std.specs.Prelude.{◌≡◌, ◌<◌, ◌≤◌, IfSome};
 ghost use Rattle.group_table.specs.Sizes.{IsBucketCount, full_capacity, buckets_for};
 
