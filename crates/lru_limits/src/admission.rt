@@ -18,7 +18,7 @@ use std::hash::Hash;
 /// assert!(rt; limiter.accepts_in_place(1, &1u64, &2u64, &3u64));
 /// ```
 pub trait Admission<K, V>: Limiter<K, V> {
-    /// Defines which entries are accepted, and the limiter after an offer.
+    /// Defines which entries the limiter accepts, and how an offer changes the limiter.
     ghost terms: { Terms K V Self };
 
     /// Returns whether `admit` would accept this entry.
