@@ -35,7 +35,7 @@ impl<K: Eq + Hash + Drop, V: Drop, L: Limiter<K, V>, S: KeyHasher<K>> LruMap<K, 
     /// limiter.
     ///
     /// A new limiter with a running total, such as `ByCost`, must begin with the sum of the costs of the stored
-    /// entries, because it is not notified of them. `map.limiter().with_limit(n)` begins with this sum.
+    /// entries, because it is not notified of them. `map.limiter().with_limit(n)` begins with the right sum.
     ///
     /// ```
     /// let old = map.set_limiter(ByLength::new(1));
