@@ -30,8 +30,8 @@ pub fn maps_keep_to_their_cost<K: Eq + Hash + Drop, V: Drop, S: KeyHasher<K>>()
         max) }
 {}
 
-/// These calls make a reference if they return `Ok`: an insert, a `try_insert`, and a call of a memo. The inserted
-/// entry must cost what its key costs, and at most the limit. A get and a promotion make a reference if the map
+/// These calls make a reference if they return `Ok`: an insert, a `try_insert`, and a call of a memo. The weight of the
+/// inserted entry must be the cost of its key, and at most the limit. A get and a promotion make a reference if the map
 /// contains the key. A value that is written through a get must cost as much as the old value.
 pub fn calls_make_references<K: Eq + Hash + Drop, V: Drop, S: KeyHasher<K>>()
     ensures inserts { (weight : K → V → ℕ) (cost : K → ℕ) (key : K) (value : V) (kept : Bool)
