@@ -41,25 +41,25 @@ pub trait BlockDevice<B> {
     /// A number that changes exactly when a call fails, such as the number of failed calls.
     ghost faults: { Self → ℕ };
 
-    /// What a crash during a write may leave, other than the old and the new block. By default this is any block. A
-    /// device that never tears a block defines `λ _. ⊥` (none).
+    /// What a crash during a write may leave, other than the old and the new block. By default, a crash may leave any
+    /// block. A device that never tears a block defines `λ _. ⊥` (none).
     ghost IsTorn: { Self.Seen → Type 0 } = { λ _. Unit {0} };
 
     /// Says that each read of a known block has returned this block. For a file, `IsHonest` is a premise.
     ghost IsHonest: { Self → Type 0 } = { λ _. Unit {0} };
 
-    /// Says that a `write` of a block to this number may lead from the first state to the second. By default, any two
-    /// states satisfy this.
+    /// Says that a `write` of a block to this number may lead from the first state to the second. By default,
+    /// `write_gives` holds for any two states.
     ghost write_gives: { Self → ℕ → Self.Seen → Self → Type 0 } = { λ _ _ _ _. Unit {0} };
 
-    /// As `write_gives`, for a `sync`.
+    /// Says that a `sync` may lead from the first state to the second.
     ghost sync_gives: { Self → Self → Type 0 } = { λ _ _. Unit {0} };
 
     /// Returns whether the device has a block of this number.
     fn has(&self, n: u64) -> bool
         ensures { result ≡ has self.now n };
 
-    /// Returns whether no `sync` has failed.
+    /// Returns true unless a `sync` has failed.
     fn is_usable(&self) -> bool
         ensures { result ≡ is_usable self.now };
 

@@ -25,7 +25,7 @@ pub enum FileError {
     /// A seek, a read, a write or a sync of the file failed.
     #[error("the file failed")]
     File,
-    /// The block does not have its checksum.
+    /// The checksum of the block is wrong.
     #[error("a damaged block")]
     Damaged,
 }

@@ -131,7 +131,7 @@ impl<
     /// assert_eq!(rt; (squares.answer(3), squares.len()), (9, 1));
     /// ```
     ///
-    /// Cost: a get. If no result is stored, also a call of the function and an insert.
+    /// Cost: a get, and if no result is stored, a call of the function and an insert.
     pub fn answer(&mut self, key: K) -> V
         requires callable { F.IsAlwaysCallable self.old.function }
         requires known { AreAnswers K.eq (FnReturnsAt F.Fn self.old.function) self.old.map.pairs }

@@ -141,7 +141,7 @@ impl<
     /// assert_eq!(rt; (blocks.load(1), blocks.len()), (Ok(11), 1));
     /// ```
     ///
-    /// Cost: a get. If no value is stored, also a call of the function and an insert.
+    /// Cost: a get, and if no value is stored, a call of the function and an insert.
     ///
     /// # Errors
     ///

@@ -49,7 +49,7 @@ impl<B: Copy, D: BlockDevice<B>, S: KeyHasher<u64>> PageCache<B, D, S> {
     /// ```
     ///
     /// Cost: `O(1)` expected, amortised over the growth of the table, and at most one read and one write of the device.
-    /// If a page is evicted, also `O(k)` for k older pages that may not be evicted.
+    /// An eviction also takes `O(k)` for k older pages that may not be evicted.
     ///
     /// # Errors
     ///
@@ -96,7 +96,7 @@ impl<B: Copy, D: BlockDevice<B>, S: KeyHasher<u64>> PageCache<B, D, S> {
         Ok(read_newest(&self.map, read))
     }
 
-    /// Calls `read` for each of these numbers, in order.
+    /// Calls `read` for each number of the range, in order.
     ///
     /// ```
     /// assert!(rt; cache.prefetch(2..4) == Ok(()) && cache.contains(2) && cache.contains(3));
@@ -106,7 +106,7 @@ impl<B: Copy, D: BlockDevice<B>, S: KeyHasher<u64>> PageCache<B, D, S> {
     ///
     /// # Errors
     ///
-    /// The error of the first `read` that fails. All blocks before this block were read.
+    /// The error of the first `read` that fails. All earlier blocks were read.
     pub fn prefetch(&mut self, blocks: Range<u64>) -> Result<(), PageError<D::Error>>
         ensures reads { OnOk result
             (ReadsPages D.BlockDevice blocks.start (blocks.end - blocks.start) self.old self.new) }
@@ -133,7 +133,7 @@ impl<B: Copy, D: BlockDevice<B>, S: KeyHasher<u64>> PageCache<B, D, S> {
     ///
     /// # Errors
     ///
-    /// `Broken`, even if the page is cached. Otherwise as `read`. After an error, the block is not replaced.
+    /// `Broken` is possible even if the page is cached. Otherwise as `read`. After an error, the block is not replaced.
     pub fn write(&mut self, n: u64, block: B) -> Result<(), PageError<D::Error>>
         ensures written { OnOk result (shown D.BlockDevice self.new n ≡ Some (D.seen block)) }
         ensures others { D.IsHonest self.new.device →
@@ -180,7 +180,7 @@ impl<B: Copy, D: BlockDevice<B>, S: KeyHasher<u64>> PageCache<B, D, S> {
     ///
     /// # Errors
     ///
-    /// `Broken`, even if the page is cached. Otherwise as `read`. After an error, the closure is not called.
+    /// `Broken` is possible even if the page is cached. Otherwise as `read`. After an error, the closure is not called.
     pub fn write_with<R, U: FnOnce(&mut B) -> R>(
         &mut self,
         n: u64,
