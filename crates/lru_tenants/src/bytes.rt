@@ -1,4 +1,4 @@
-//! One limit for the bytes of all tenants.
+//! `ByteTenants`.
 ghost use Rattle.std.specs.Prelude.{◌≡◌, ◌+◌, [], length};
 ghost use Rattle.std.specs.Borrow.{u32 as link};
 ghost use Rattle.std.specs.Result.{OnErr};

@@ -3,7 +3,7 @@ ghost use Rattle.lru_tenants.specs.Counting.{counting_rules, counting_terms, cou
 use lru_caches::Counts;
 use lru_limits::{Admission, Budgeted, Limiter, Summing};
 
-/// Wraps a limiter, and carries the counts of its map.
+/// Limits as the limiter inside does, and carries the counts of the map.
 ///
 /// In a `TenantCache` with this limiter, call `get_counted` and `put_counted`. No other call counts.
 ///

@@ -77,7 +77,8 @@ impl<
     ///
     /// # Errors
     ///
-    /// As `put`. After `NotOpen`, the key and the value are dropped. After `Memory`, the callback got both.
+    /// As `put`. After `NotOpen`, the key and the value are dropped. After `Memory`, the callback got the key and the
+    /// value.
     pub fn put_full<T: LookupKey<N>, F: FnMut(K, V)>(
         &mut self,
         name: &T,
