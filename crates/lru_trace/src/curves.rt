@@ -1,4 +1,4 @@
-//! A curve of either measure.
+//! A curve of entries or of bytes.
 ghost use Rattle.std.specs.Prelude.{◌≡◌, ◌+◌, ◌-◌, ◌<◌, ◌≤◌, ◌^◌, ℕ, List, [], ◌∷◌, ◌++◌, IfOk, OnOk, IfErr, is_some, length};
 ghost use Rattle.std.specs.Map.{keys_of};
 ghost use Rattle.lru_trace.specs.Curves.{IsCurveOf, AreAlike, AreTooLarge, Follows, Has, Leads, measure_in, references_of, keeps};

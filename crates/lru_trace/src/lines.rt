@@ -147,7 +147,7 @@ fn refer_line(
 ///
 /// # Errors
 ///
-/// `Read`, `Memory` or `TooLarge`, as `trace`.
+/// `Read`, `Memory` or `TooLarge`, as for `trace`.
 pub fn read_keys<R: BufRead, P: Write>(
     reader: &mut R,
     line: &mut Vec<u8>,
