@@ -1,4 +1,4 @@
-//! The functions that C calls. `bindings/c/lru.h` documents each. C does not pass the parameter `alloc`.
+//! The functions that C calls. `bindings/c/lru.h` documents each function. C does not pass the parameter `alloc`.
 //!
 //! If a handle has no map, every call except `lru_new` and `lru_clone` changes nothing and finds nothing. Without a
 //! map, a call that inserts returns `NO_MAP`.

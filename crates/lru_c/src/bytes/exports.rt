@@ -1,4 +1,4 @@
-//! The functions that C calls on a map of byte strings. `bindings/c/lru.h` documents each, without `alloc`.
+//! The functions that C calls on a map of byte strings. `bindings/c/lru.h` documents each function, without `alloc`.
 //!
 //! If a handle has no map, every call except `lru_bytes_new` and `lru_bytes_clone` changes nothing and finds nothing.
 //! Without a map, a put returns `NO_MAP`.
