@@ -5,7 +5,7 @@ use crate::store::{Sizes, Store, StoreError};
 use std::alloc::Global;
 use test_helpers::Random;
 
-/// With these sizes the cache evicts, and the log is full after a few transactions.
+/// Sizes so small that the cache evicts, and that the log is full after a few transactions.
 const SIZES: Sizes = Sizes {
     pages: 4,
     log: 8,

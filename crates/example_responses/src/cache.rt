@@ -167,7 +167,8 @@ impl ResponseCache {
         }
     }
 
-    /// Stores a response. Returns whether the host has it afterwards, and how many other responses were evicted.
+    /// Stores a response. Returns whether the host has the response afterwards, and how many other responses were
+    /// evicted.
     pub fn put(
         &mut self,
         host: &str,

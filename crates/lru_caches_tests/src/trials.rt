@@ -1,4 +1,4 @@
-//! What no contract says: how often functions and devices are called, and that inserts find memory.
+//! Tests what no contract says: how often functions and devices are called, and that inserts find memory.
 mod memos;
 mod pages;
 mod recursion;

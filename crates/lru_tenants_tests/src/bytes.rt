@@ -34,7 +34,7 @@ fn serve_within(pages: &mut Pages, host: &str, paths: Vec<String>) -> Result<u64
         pages.new.tenants ≤ pages.old.limit }
 {
     let served = serve(pages, host, paths);
-    // The clause `within` of `len`.
+    // Shows the prover the clause `within` of `len`.
     let _len = pages.len();
     served
 }

@@ -1,4 +1,4 @@
-//! Limiters of maps from numbers to numbers. Put each into a map as `Storing(..)`.
+//! Limiters of maps from numbers to numbers. Put such a limiter into a map as `Storing(..)`.
 ghost use Rattle.std.specs.Prelude.{◌≡◌, ◌+◌, true, false, not, if◌then◌else◌, min};
 ghost use Rattle.lru_limits.specs.Limiters.{no_rules};
 ghost use Rattle.lru_limits.specs.Stores.{answers};
