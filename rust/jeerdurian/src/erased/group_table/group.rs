@@ -1,5 +1,5 @@
 // Erased from crates/group_table/src/group.rt: do not edit.
-//! Groups of sixteen control bytes, called lanes, and masks with a bit for each lane.
+//! Groups of sixteen control bytes. Each byte is a lane, and a mask has a bit for each lane.
 
 #[allow(unused_imports)]
 use crate::rattle_std::prelude::*;

@@ -1,5 +1,5 @@
 // Erased from crates/group_table/src/sizes.rt: do not edit.
-//! How many entries a number of buckets holds, and how many buckets a number of entries needs.
+//! How many entries n buckets hold, and how many buckets n entries need.
 
 #[allow(unused_imports)]
 use crate::rattle_std::prelude::*;

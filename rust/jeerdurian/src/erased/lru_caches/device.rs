@@ -28,7 +28,7 @@ pub trait BlockDevice<B> {
     /// Returns whether the device has a block of this number.
     fn has(&self, n: u64) -> bool;
 
-    /// Returns whether no `sync` has failed.
+    /// Returns true unless a `sync` has failed.
     fn is_usable(&self) -> bool;
 
     /// Returns a block. A block that was not known may become known.

@@ -22,7 +22,7 @@ pub(crate) mod recorded;
 pub enum FileError {
     /// A seek, a read, a write or a sync of the file failed.
     File,
-    /// The block does not have its checksum.
+    /// The checksum of the block is wrong.
     Damaged,
 }
 

@@ -28,19 +28,19 @@ pub trait Limiter<K, V> {
     ///
     /// Called in two cases:
     ///
-    /// - Before an insert stores a new entry in a map that is not empty. `length` is the map's length plus 1.
-    ///   `try_insert` makes this call on a copy of the limiter, even if the map is empty, and evicts nothing.
+    /// - Before an insert stores a new entry in a map that is not empty, the map passes its length plus 1. `try_insert`
+    ///   calls `is_over_the_limit` on a copy of the limiter, even if the map is empty, and evicts nothing.
     ///
-    /// - In `trim` and `set_limiter`, and after an insert or an update stored an entry or replaced a value. `length` is
-    ///   the map's length. The map repeats the call after each eviction, until the map is empty.
+    /// - In `trim` and `set_limiter`, and after an insert or an update stored an entry or replaced a value, the map
+    ///   passes its length. The map repeats the call after each eviction, until it is empty.
     fn is_over_the_limit(&self, length: usize) -> bool;
 
     /// Called with each entry that is evicted, removed, popped or taken by an iterator, as soon as the entry is out of
     /// the map. The limiter may write to the key and the value before the caller of the map gets them.
     ///
-    /// Also called with an entry that `on_insert` returned but the map cannot store. Not called for entries that a
-    /// clear or a `Drain` drops. Not called for entries that are dropped with the map or an `IntoIter`, but no contract
-    /// says so.
+    /// Also called with an entry that `on_insert` returned but the map cannot store. If a clear or a `Drain` drops an
+    /// entry, the map does not call `on_removed`. The same holds if an entry is dropped with the map or an `IntoIter`,
+    /// but no contract says so.
     fn on_removed(&mut self, key: &mut K, value: &mut V);
 
     /// Called once by each clear of the map, even if the map is empty. The drop of a `Drain` is a clear.
@@ -73,8 +73,8 @@ pub trait Insertion<K: Eq + Hash, V, I: LookupKey<K>>: Limiter<K, V> {
     ///
     /// # Errors
     ///
-    /// The limiter could not allocate the key, and has not changed. `offers.may_run_out` says when this error may
-    /// occur.
+    /// The limiter could not allocate the key, and has not changed. `offers.may_run_out` says when the limiter may run
+    /// out of memory.
     fn on_insert(&mut self, alloc: Global, length: usize, key: I, value: V) -> Result<Option<(K, V)>, AllocError>;
 
     /// Called by an insert or an update before `new_value` replaces `old_value`. The map has `length` entries, and

@@ -29,8 +29,8 @@ pub use runs::{
 };
 pub use shrinks::{shrinks_keep_the_list, shrinks_leave_a_tight_table, shrinks_pay_for_moves};
 
-/// An insert either evicts only the oldest entries, or removes only the entry of its key, because the limiter rejected
-/// the new value.
+/// An insert evicts only the oldest entries. If the limiter rejects a new value, the insert removes only the entry of
+/// its key.
 pub fn inserts_evict_the_oldest<K: Eq + Hash, V, I: LookupKey<K>, L: Insertion<K, V, I>, S: KeyHasher<K>>() {}
 
 /// If an insert finds n entries, leaves m, and passes p to its callback, m + p is at most n + 1 (`few`). An insert with
@@ -39,8 +39,8 @@ pub fn inserts_pass_few<K: Eq + Hash, V, I: LookupKey<K>, L: Insertion<K, V, I>,
 
 /// A `Report` (`specs/Exact`) says whether a table queried the limiter for an insert, and how many entries a refused
 /// growth evicted. If a table has up to 16 buckets, `small_report` computes the report from the entries, the limiter,
-/// the number of buckets, the growth left, and constants of the map. The insert changes the entries as this report
-/// says, unless memory runs out.
+/// the number of buckets, the growth left, and constants of the map. The insert changes the entries as the report says,
+/// unless memory runs out.
 pub fn small_inserts_are_exact<K: Eq + Hash, V, I: LookupKey<K>, L: Insertion<K, V, I>, S: KeyHasher<K>>() {}
 
 /// An insert changes the entries as the `Report` of the table says (`exact`; see `small_inserts_are_exact`). Every

@@ -41,7 +41,7 @@ pub enum Updated<V> {
     /// The old value, because the limiter accepted the new value. The entry may have been evicted afterwards, if the
     /// limiter was over its limit.
     Replaced(V),
-    /// The new value, because the limiter rejected it, and the entry was removed.
+    /// The new value, because the limiter rejected it. The entry was removed.
     Rejected(V),
     /// The new value, because the key is not in the map.
     Absent(V),

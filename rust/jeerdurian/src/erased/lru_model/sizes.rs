@@ -37,7 +37,7 @@ pub fn larger_table(max: usize, entry_bytes: usize, buckets: usize, pairs: usize
 }
 
 /// Returns the bytes of the largest table that has fewer than `max` buckets and takes at most `budget` bytes. A table
-/// has 4, 8, 16 or a greater power of 2 buckets. Returns 0 if there is no such table.
+/// has 4, 8, 16 or a greater power of 2 buckets. Returns 0 if no table fits.
 pub fn usage_within(max: usize, entry_bytes: usize, budget: usize) -> usize {
     let mut best = 0;
     for k in 0..62u32 {

@@ -1,5 +1,5 @@
 // Erased from crates/lru_tenants/src/bytes.rt: do not edit.
-//! One limit for the bytes of all tenants.
+//! `ByteTenants`.
 
 #[allow(unused_imports)]
 use crate::rattle_std::prelude::*;

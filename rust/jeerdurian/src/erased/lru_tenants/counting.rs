@@ -5,7 +5,7 @@ use crate::rattle_std::prelude::*;
 use crate::erased::lru_caches::Counts;
 use crate::erased::lru_limits::{Admission, Budgeted, Limiter, Summing};
 
-/// Wraps a limiter, and carries the counts of its map.
+/// Limits as the limiter inside does, and carries the counts of the map.
 ///
 /// In a `TenantCache` with this limiter, call `get_counted` and `put_counted`. No other call counts.
 ///

@@ -34,8 +34,8 @@ pub fn costs_are_within_the_total_limit<N: Eq + Hash, K: Eq + Hash, V, L: Budget
 /// If no call of a list names a tenant of a pool, the tenant keeps its share, and only its oldest entries are evicted.
 /// If the tenant's cost is within its share, its map stays as it is (`others`).
 ///
-/// The premise: each call spares every tenant that the call does not name. `put` ensures this by its clause `spares`.
-/// No other call changes a tenant that the call does not name (`leaves`). `joins` joins two calls that name the same
+/// The premise: each call spares every tenant that the call does not name, as the clause `spares` of `put` says. No
+/// other call changes a tenant that the call does not name (`leaves`). `joins` joins two calls that name the same
 /// tenants.
 ///
 /// ```text

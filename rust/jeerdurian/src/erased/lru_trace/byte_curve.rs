@@ -34,8 +34,8 @@ impl From<AllocError> for SizeError {
 /// The misses of a trace in LRU caches with limits of bytes, counted in one pass.
 ///
 /// A reference needs the size of its key, plus the sizes of the other keys that were referenced since the last
-/// reference to its key. A reference misses if it is the first to its key, or if it needs more than the limit. The size
-/// of a key is what its first reference says. The memory is in proportion to the number of keys and of limits.
+/// reference to its key. A reference misses if it is the first to its key, or if it needs more than the limit. The
+/// first reference to a key says its size. The memory is in proportion to the number of keys and of limits.
 ///
 /// ```text
 /// let mut curve = ByteCurve::new(alloc, vec![in alloc; 10, 30]?)?;

@@ -1,5 +1,5 @@
 // Erased from crates/lru_trace/src/curves.rt: do not edit.
-//! A curve of either measure.
+//! A curve of entries or of bytes.
 
 #[allow(unused_imports)]
 use crate::rattle_std::prelude::*;

@@ -14,7 +14,8 @@ const MOST_LEVELS: u32 = 59;
 
 /// The keys of a trace, by the time of their last reference.
 ///
-/// A key is a number that `add_key` or `add_weighed_key` returned. A key of `add_key` has the weight 1.
+/// A key is a number that `add_key` or `add_weighed_key` returned. Its weight is 1, or the weight that
+/// `add_weighed_key` got.
 ///
 /// Each reference takes the next slot of a log, and the slot that its key had before becomes free. If the log is full,
 /// the keys move to the front of a new log. If about half of the slots or more contain keys, the new log has twice as

@@ -100,7 +100,7 @@ fn refer_line(curve: &mut AnyCurve, options: Options, warm: bool, line: &[u8]) -
 ///
 /// # Errors
 ///
-/// `Read`, `Memory` or `TooLarge`, as `trace`.
+/// `Read`, `Memory` or `TooLarge`, as for `trace`.
 pub fn read_keys<R: BufRead, P: Write>(
     reader: &mut R,
     line: &mut Vec<u8>,

@@ -34,7 +34,7 @@ pub enum Measure {
 pub enum Policies {
     /// LRU. The first `warm_up` keys fill the caches, and their references are not counted.
     Lru { warm_up: u64 },
-    /// LRU and the best possible policies. All begin with no keys.
+    /// LRU and the best possible policies, which all begin with no keys.
     Best,
     /// LRU with limits of bytes, after a warm-up. The column `size` says how many bytes an entry takes.
     Sized { warm_up: u64, size: Column },

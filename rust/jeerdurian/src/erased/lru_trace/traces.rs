@@ -1,5 +1,5 @@
 // Erased from crates/lru_trace/src/traces.rt: do not edit.
-//! Reads a trace from lines, and writes its report.
+//! `trace`.
 
 #[allow(unused_imports)]
 use crate::rattle_std::prelude::*;
@@ -84,8 +84,8 @@ fn read_trace<R: BufRead, P: Write>(
 /// # Errors
 ///
 /// `Read`: a read failed, or there were 2 ^ 64 - 2 lines. `Memory`: out of memory. `TooLarge`: the sizes of all keys
-/// sum to 2 ^ 64 or more. After these errors nothing of the report was written. `Write`: a write or the flush failed; a
-/// part of the report was written.
+/// sum to 2 ^ 64 or more. After `Read`, `Memory` or `TooLarge`, nothing of the report was written. `Write`: a write or
+/// the flush failed; a part of the report was written.
 pub fn trace<R: BufRead, W: Write, P: Write>(
     alloc: Global,
     options: Options,

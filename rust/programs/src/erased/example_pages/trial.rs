@@ -9,7 +9,7 @@ use crate::programs::example_pages::store::{Sizes, Store, StoreError};
 use crate::programs::test_helpers::Random;
 use crate::rattle_std::alloc::Global;
 
-/// With these sizes the cache evicts, and the log is full after a few transactions.
+/// Sizes so small that the cache evicts, and that the log is full after a few transactions.
 const SIZES: Sizes = Sizes { pages: 4, log: 8, cache: 2 };
 
 /// How many records the trial changes: three of each page, including one that lies across two sectors.

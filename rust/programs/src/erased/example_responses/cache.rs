@@ -123,7 +123,8 @@ impl ResponseCache {
         }
     }
 
-    /// Stores a response. Returns whether the host has it afterwards, and how many other responses were evicted.
+    /// Stores a response. Returns whether the host has the response afterwards, and how many other responses were
+    /// evicted.
     pub fn put(&mut self, host: &str, path: &str, response: Response) -> (Result<bool, TenantError>, u64) {
         let before = self.others(host, path);
         let stored = put_path(self.alloc, &mut self.entries, host, path, response);

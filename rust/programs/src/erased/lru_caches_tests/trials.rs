@@ -1,5 +1,5 @@
 // Erased from crates/lru_caches_tests/src/trials.rt: do not edit.
-//! What no contract says: how often functions and devices are called, and that inserts find memory.
+//! Tests what no contract says: how often functions and devices are called, and that inserts find memory.
 #[allow(unused_imports)]
 use crate::rattle_std::prelude::*;
 

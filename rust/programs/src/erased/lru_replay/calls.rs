@@ -39,7 +39,7 @@ pub enum Call<K, V, L> {
     GetByHash(u64, K),
     /// `peek_by_hash`, with a closure that accepts only this key.
     PeekByHash(u64, K),
-    /// Writes the value through `peek_mut` of the key.
+    /// Writes the value, by `peek_mut`.
     Write(K, V),
     Remove(K),
     RemoveEntry(K),

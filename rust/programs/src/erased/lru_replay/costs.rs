@@ -13,8 +13,8 @@ use crate::rattle_std::hash::Hash;
 /// 31 buckets.
 pub fn maps_keep_to_their_cost<K: Eq + Hash, V, S: KeyHasher<K>>() {}
 
-/// These calls make a reference if they return `Ok`: an insert, a `try_insert`, and a call of a memo. The inserted
-/// entry must cost what its key costs, and at most the limit. A get and a promotion make a reference if the map
+/// These calls make a reference if they return `Ok`: an insert, a `try_insert`, and a call of a memo. The weight of the
+/// inserted entry must be the cost of its key, and at most the limit. A get and a promotion make a reference if the map
 /// contains the key. A value that is written through a get must cost as much as the old value.
 pub fn calls_make_references<K: Eq + Hash, V, S: KeyHasher<K>>() {}
 

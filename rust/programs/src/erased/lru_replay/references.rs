@@ -65,7 +65,7 @@ pub fn a_smaller_map_is_included<K: Eq + Hash, V, S: KeyHasher<K>>() {}
 /// LRU is competitive, whichever calls make the references. Take a map with `ByLength(k)` and any keys, and any policy
 /// of h ≤ k places. The policy may know the trace in advance, begins with the keys `first`, and pays `paid` times for
 /// the same references. If the policy stores each referenced key, the map misses at most
-/// `k / (k + 1 - h) * paid + length first` times. This bound holds for a policy that may load keys ahead (`loads`), and
+/// `k / (k + 1 - h) * paid + length first` times. The bound holds for a policy that may load keys ahead (`loads`), and
 /// for a policy that loads on demand and begins with at most h keys (`demands`). If the policy need not store the key,
 /// and h < k, the map misses at most `k / (k - h) * paid + length first` times (`bypasses`).
 pub fn maps_are_competitive<K: Eq + Hash, V, S: KeyHasher<K>>() {

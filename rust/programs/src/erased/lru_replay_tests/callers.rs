@@ -49,7 +49,7 @@ fn charge_both(
 }
 
 /// Makes m calls on a map with a maximum length and n entries. If there is a table for 8 * (n + m + 1) entries, the
-/// calls do to the map what they do to a list without a table.
+/// calls change the map as they would change a list without a table.
 fn call_on_list<S: KeyHasher<u64>>(
     alloc: Global,
     map: &mut LruMap<u64, u64, ByLength, S>,

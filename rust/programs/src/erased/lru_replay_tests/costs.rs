@@ -98,8 +98,8 @@ fn try_to_remember<F: FnOnce() -> Result<Vec<u8>, u64>>(
     Ok(kept)
 }
 
-/// Inserts a text under a number, with a limit of weight. If the entry costs what its key costs, and at most the limit,
-/// a successful call is a reference.
+/// Inserts a text under a number, with a limit of weight. If the weight of the entry is the cost of its key, and at
+/// most the limit, a successful call is a reference.
 fn insert_weighed(map: &mut LruMap<u64, String, ByWeight<16>>, key: u64, text: String) -> Result<bool, AllocError> {
     calls_make_references::<u64, String, RandomState>();
     let kept = map.insert(key, text)?;

@@ -29,7 +29,7 @@ fn serve(pages: &mut Pages, host: &str, paths: Vec<String>) -> Result<u64, Tenan
 /// limit.
 fn serve_within(pages: &mut Pages, host: &str, paths: Vec<String>) -> Result<u64, TenantError> {
     let served = serve(pages, host, paths);
-    // The clause `within` of `len`.
+    // Shows the prover the clause `within` of `len`.
     let _len = pages.len();
     served
 }

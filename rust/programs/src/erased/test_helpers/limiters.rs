@@ -1,5 +1,5 @@
 // Erased from crates/test_helpers/src/limiters.rt: do not edit.
-//! Limiters of maps from numbers to numbers. Put each into a map as `Storing(..)`.
+//! Limiters of maps from numbers to numbers. Put such a limiter into a map as `Storing(..)`.
 
 #[allow(unused_imports)]
 use crate::rattle_std::prelude::*;

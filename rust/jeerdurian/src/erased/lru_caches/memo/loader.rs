@@ -83,7 +83,7 @@ impl<K: Eq + Hash, V: Copy, E, F: Fn(&K) -> Result<V, E>, L: Insertion<K, V, K>,
     /// assert_eq!(rt; (blocks.load(1), blocks.len()), (Ok(11), 1));
     /// ```
     ///
-    /// Cost: a get. If no value is stored, also a call of the function and an insert.
+    /// Cost: a get, and if no value is stored, a call of the function and an insert.
     ///
     /// # Errors
     ///

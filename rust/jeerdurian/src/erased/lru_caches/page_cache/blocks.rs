@@ -33,7 +33,7 @@ impl<B: Copy, D: BlockDevice<B>, S: KeyHasher<u64>> PageCache<B, D, S> {
     /// ```
     ///
     /// Cost: `O(1)` expected, amortised over the growth of the table, and at most one read and one write of the device.
-    /// If a page is evicted, also `O(k)` for k older pages that may not be evicted.
+    /// An eviction also takes `O(k)` for k older pages that may not be evicted.
     ///
     /// # Errors
     ///
@@ -59,7 +59,7 @@ impl<B: Copy, D: BlockDevice<B>, S: KeyHasher<u64>> PageCache<B, D, S> {
         Ok(read_newest(&self.map, read))
     }
 
-    /// Calls `read` for each of these numbers, in order.
+    /// Calls `read` for each number of the range, in order.
     ///
     /// ```text
     /// assert!(rt; cache.prefetch(2..4) == Ok(()) && cache.contains(2) && cache.contains(3));
@@ -69,7 +69,7 @@ impl<B: Copy, D: BlockDevice<B>, S: KeyHasher<u64>> PageCache<B, D, S> {
     ///
     /// # Errors
     ///
-    /// The error of the first `read` that fails. All blocks before this block were read.
+    /// The error of the first `read` that fails. All earlier blocks were read.
     pub fn prefetch(&mut self, blocks: Range<u64>) -> Result<(), PageError<D::Error>> {
         for n in blocks.start..blocks.end {
             self.bring(n)?;
@@ -89,7 +89,7 @@ impl<B: Copy, D: BlockDevice<B>, S: KeyHasher<u64>> PageCache<B, D, S> {
     ///
     /// # Errors
     ///
-    /// `Broken`, even if the page is cached. Otherwise as `read`. After an error, the block is not replaced.
+    /// `Broken` is possible even if the page is cached. Otherwise as `read`. After an error, the block is not replaced.
     pub fn write(&mut self, n: u64, block: B) -> Result<(), PageError<D::Error>> {
         admit(&self.device, n)?;
         let hash = self.map.hasher().hash_named(&n);
@@ -115,7 +115,7 @@ impl<B: Copy, D: BlockDevice<B>, S: KeyHasher<u64>> PageCache<B, D, S> {
     ///
     /// # Errors
     ///
-    /// `Broken`, even if the page is cached. Otherwise as `read`. After an error, the closure is not called.
+    /// `Broken` is possible even if the page is cached. Otherwise as `read`. After an error, the closure is not called.
     pub fn write_with<R, U: FnOnce(&mut B) -> R>(&mut self, n: u64, write: U) -> Result<R, PageError<D::Error>> {
         if !self.device.is_usable() {
             return Err(PageError::Broken);

@@ -9,9 +9,9 @@ use crate::erased::lru_limits::limiter::Limiter;
 /// Limits a map by two limiters.
 ///
 /// A map is over the limit if either limiter says so. The table may grow if both limiters permit it. The map queries
-/// both for each growth. An entry or a new value is accepted if both limiters accept it. If either limiter rejects the
-/// entry or the value, neither changes. Both limiters are notified of each evicted or removed entry. The second limiter
-/// sees what the first limiter wrote to the entry.
+/// both limiters for each growth. An entry or a new value is accepted if both limiters accept it. If either limiter
+/// rejects the entry or the value, neither changes. Both limiters are notified of each evicted or removed entry. The
+/// second limiter sees what the first limiter wrote to the entry.
 ///
 /// Put a limiter by cost first, because `Both` uses the link type and the running total of the first limiter.
 /// `map.limiter().0` is the first limiter.

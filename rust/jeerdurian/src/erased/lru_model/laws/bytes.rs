@@ -6,7 +6,7 @@ use crate::erased::lru_limits::{Admission, ByBytes, Insertion, KeyHasher, Limite
 use crate::rattle_std::hash::Hash;
 
 /// `ByBytes` limits the bytes of the table plus the bytes that the entries own. A map keeps to its limit (`KeepsBytes`)
-/// if its limiter counts all these bytes, and the count is at most the limit. The bytes of such a map are at most its
+/// if its limiter counts all its bytes, and the count is at most the limit. The bytes of such a map are at most its
 /// limit (`memory`). The map still keeps to its limit after each `Step` (`kept`) and each `try_insert` (`tried`). No
 /// `Step` changes the limit (`limit`). The limiter permits a growth only if the new table plus the owned bytes are
 /// within the limit (`grown`). The old table, which exists until all entries have moved, is not counted.

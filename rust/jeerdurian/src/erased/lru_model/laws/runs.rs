@@ -42,5 +42,5 @@ pub fn runs_keep_the_memory_usage<K: Eq + Hash, V, L: Insertion<K, V, K>, S: Key
 /// the old values. Writes of other values do not change the budget, either (`budget`).
 pub fn runs_keep_the_budget<K: Eq + Hash, V, L: Budgeted<K, V>, S: KeyHasher<K>>() {}
 
-/// A new map, without entries or buckets, satisfies `IsMap`, the premise of `runs_keep_maps`.
+/// A new map, without entries or buckets, satisfies `IsMap`.
 pub fn runs_begin_with_maps<K: Eq + Hash, V, L: Limiter<K, V>, S: KeyHasher<K>>() {}

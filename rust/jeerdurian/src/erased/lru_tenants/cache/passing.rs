@@ -56,7 +56,8 @@ impl<N: Eq + Hash, K: Eq + Hash, V, L: Budgeted<K, V>, S: KeyHasher<K> + Copy> T
     ///
     /// # Errors
     ///
-    /// As `put`. After `NotOpen`, the key and the value are dropped. After `Memory`, the callback got both.
+    /// As `put`. After `NotOpen`, the key and the value are dropped. After `Memory`, the callback got the key and the
+    /// value.
     pub fn put_full<T: LookupKey<N>, F: FnMut(K, V)>(
         &mut self,
         name: &T,

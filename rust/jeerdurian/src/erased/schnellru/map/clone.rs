@@ -17,8 +17,8 @@ impl<K: TryClone, V: TryClone, L: Limiter<K, V> + TryClone, S: TryClone> LruMap<
     /// ```
     ///
     /// A clone of a key must equal the key, and a clone of the hasher must return the same hashes. `LruMap` does not
-    /// implement `Clone`, because `Clone` cannot require this. Cost: `O(buckets)`, two allocations if the map has
-    /// buckets, and what the clones of keys, values, limiter and hasher allocate.
+    /// implement `Clone`, because `Clone` cannot require equal clones. Cost: `O(buckets)`, two allocations if the map
+    /// has buckets, and what the clones of keys, values, limiter and hasher allocate.
     ///
     /// # Errors
     ///

@@ -185,8 +185,7 @@ impl<K: Eq + Hash, V, L: Limiter<K, V>, S: KeyHasher<K>> LruMap<K, V, L, S> {
     /// Inserts a key that is not in the map, without a search. Takes what `insert_hashed` takes, and returns what
     /// `insert` returns. The callback gets what `insert_with` passes.
     ///
-    /// The prover checks that the key is absent. In Rust nothing checks this: a key that is there would be in the map
-    /// twice.
+    /// The prover checks that the key is absent. Rust does not, so a map may contain a key twice.
     ///
     /// ```text
     /// let hash = map.hasher().hash_named(&5);

@@ -7,8 +7,8 @@ use crate::erased::schnellru::map::LruMap;
 use crate::rattle_std::hash::Hash;
 
 impl<K: Eq + Hash, V, L: Limiter<K, V>, S: KeyHasher<K>> LruMap<K, V, L, S> {
-    /// Removes and returns the oldest entry if the closure returns true for it. If not, returns `None` and changes
-    /// nothing.
+    /// Removes and returns the oldest entry if the closure returns true for it. In any other case, returns `None` and
+    /// changes nothing.
     ///
     /// If each use writes the time into the value, `while map.pop_oldest_if(..).is_some() {}` removes the entries that
     /// were not used since a given time.

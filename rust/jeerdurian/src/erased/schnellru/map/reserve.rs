@@ -35,7 +35,7 @@ impl<K: Eq + Hash, V, L: Limiter<K, V>, S: KeyHasher<K>> LruMap<K, V, L, S> {
     ///
     /// - `Memory`: out of memory.
     ///
-    /// If `on_grow` changed the limiter before a `Refused` or `Memory`, the change stays.
+    /// After `Refused` and `Memory`, the limiter stays as `on_grow` left it.
     ///
     /// Follows schnellru's `LruMap::try_reserve`.
     pub fn try_reserve(&mut self, n: usize) -> Result<(), ReserveError> {

@@ -30,7 +30,7 @@ impl<K: Eq + Hash, V, L: Limiter<K, V>, S: KeyHasher<K>> LruMap<K, V, L, S> {
     /// limiter.
     ///
     /// A new limiter with a running total, such as `ByCost`, must begin with the sum of the costs of the stored
-    /// entries, because it is not notified of them. `map.limiter().with_limit(n)` begins with this sum.
+    /// entries, because it is not notified of them. `map.limiter().with_limit(n)` begins with the right sum.
     ///
     /// ```text
     /// let old = map.set_limiter(ByLength::new(1));
