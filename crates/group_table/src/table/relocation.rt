@@ -1,5 +1,5 @@
-//! The calls of `Table` that move every entry. The calls do not require that entries implement `Drop`, so they would
-//! not compile if they lost an entry.
+//! The calls of `Table` that move every entry. The compiler would reject a call that loses an entry, because entries
+//! need not implement `Drop`.
 ghost use Rattle.std.specs.Prelude.{◌≡◌, ℕ, ◌+◌, ◌^◌, ◌<◌, ◌≤◌, [], length, count_by, IfOk, OnErr, OnOk, IsOk};
 ghost use Rattle.group_table.specs.Sizes.{IsBucketCount, full_capacity};
 ghost use Rattle.group_table.specs.Bucket.{bucket_states, entry_at, entry_count, is_deleted, growth_left};

@@ -46,9 +46,9 @@ pub fn calls_keep_the_length<K: Eq + Hash, V, L: Insertion<K, V, K>, S: KeyHashe
         length old.pairs ≤ most old.limiter → length new.pairs ≤ most old.limiter }
 {}
 
-/// Suppose that the limiter permits only tables of at most `most` bytes (`LimitsMemory`). `ByMemoryUsage` is such a
-/// limiter, alone or in `Storing` or `Both`. No `Step` changes this limit (`limit`). If the table takes at most `most`
-/// bytes before a `Step`, it takes at most `most` bytes after it (`usage`).
+/// Suppose that the limiter permits only tables of at most `most` bytes (`LimitsMemory`), as `ByMemoryUsage` does,
+/// alone or in `Storing` or `Both`. No `Step` changes this limit (`limit`). If the table takes at most `most` bytes
+/// before a `Step`, it takes at most `most` bytes after it (`usage`).
 pub fn calls_keep_the_memory_usage<K: Eq + Hash, V, L: Insertion<K, V, K>, S: KeyHasher<K>>()
     ensures limit { (most : L → ℕ) → LimitsMemory L.rules L.offers most → (old new : State K V L S) →
         Step L.rules L.offers K.eq S.hash_of old new → most new.limiter ≡ most old.limiter }
