@@ -30,7 +30,7 @@ pub fn match_empty(bytes: &[u8; 16]) -> u16 {
     match_tag(bytes, EMPTY)
 }
 
-/// Returns which of the bytes have the top bit set. A free bucket has such a byte: 255 if empty, 128 if deleted.
+/// Returns which of the bytes have the top bit set: 255 for an empty bucket, and 128 for a deleted bucket.
 ///
 /// ```text
 /// let bytes: [u8; 16] = [0, 255, 128, 5, 255, 255, 255, 255, 255, 255, 255, 255, 255, 255, 255, 255];

@@ -1,6 +1,6 @@
 // Erased from crates/group_table/src/table/relocation.rt: do not edit.
-//! The calls of `Table` that move every entry. The calls do not require that entries implement `Drop`, so they would
-//! not compile if they lost an entry.
+//! The calls of `Table` that move every entry. The compiler would reject a call that loses an entry, because entries
+//! need not implement `Drop`.
 
 #[allow(unused_imports)]
 use crate::rattle_std::prelude::*;

@@ -22,9 +22,9 @@ pub fn calls_keep_sums<K: Eq + Hash, V, I: LookupKey<K>, L: Insertion<K, V, I>, 
 /// (`length`).
 pub fn calls_keep_the_length<K: Eq + Hash, V, L: Insertion<K, V, K>, S: KeyHasher<K>>() {}
 
-/// Suppose that the limiter permits only tables of at most `most` bytes (`LimitsMemory`). `ByMemoryUsage` is such a
-/// limiter, alone or in `Storing` or `Both`. No `Step` changes this limit (`limit`). If the table takes at most `most`
-/// bytes before a `Step`, it takes at most `most` bytes after it (`usage`).
+/// Suppose that the limiter permits only tables of at most `most` bytes (`LimitsMemory`), as `ByMemoryUsage` does,
+/// alone or in `Storing` or `Both`. No `Step` changes this limit (`limit`). If the table takes at most `most` bytes
+/// before a `Step`, it takes at most `most` bytes after it (`usage`).
 pub fn calls_keep_the_memory_usage<K: Eq + Hash, V, L: Insertion<K, V, K>, S: KeyHasher<K>>() {}
 
 /// Suppose that the limiter has a budget, as `ByCost` and `ByWeight` have. No `Step` changes the budget (`budget`). If

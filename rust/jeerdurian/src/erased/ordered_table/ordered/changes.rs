@@ -72,7 +72,7 @@ impl<K, V, N: LinkType> OrderedTable<K, V, N> {
         self.linked.take(b, false)
     }
 
-    /// Takes out the oldest entry. The table must not be empty. Does not read the older link of this entry.
+    /// Takes out the oldest entry. The table must not be empty. Does not read the link of this entry to an older entry.
     ///
     /// Cost: `O(1)`.
     #[inline(always)]

@@ -120,7 +120,7 @@ impl<'a, K: Eq + Hash, V, L: Limiter<K, V>, S: KeyHasher<K>> IterMut<'a, K, V, L
 }
 
 impl<K: Eq + Hash, V, L: Limiter<K, V>, S: KeyHasher<K>> LruMap<K, V, L, S> {
-    /// Returns an iterator over the entries, newest first, that lends each value for writing. The order stays.
+    /// Returns an iterator that lends each value for writing, newest first. The order stays.
     ///
     /// `IterMut` is no `Iterator`, so it cannot be in a `for` loop. Write `while let Some((key, value)) = walk.next()`,
     /// or call `for_each_mut`.
