@@ -1,6 +1,6 @@
 -- What a look-up of a response does to its host.
---     names path      whether this path is looked up
---     now             the time of the look-up
+--     `names path`: whether this path is looked up.
+--     `now`: the time of the look-up.
 use Rattle.std.specs.Prelude.{◌≡◌, ◌⊎◌, ℕ, nat_lt, Bool, if◌then◌else◌, List, vec_items, Option, Some, None, is_some}
 use Rattle.std.specs.Prelude.{Result, Ok, Err}
 use Rattle.lru_caches.specs.Counted.{looked_up as count_look_up}

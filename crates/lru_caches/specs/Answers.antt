@@ -1,6 +1,6 @@
 -- What a memo or a loader may return, and what a memo remembers.
---     eq            the keys' `==`
---     post k v      the function may return v at k
+--     `eq`: the keys' `==`.
+--     `post k v`: the function may return v at k.
 use Rattle.std.specs.Prelude.{◌≡◌, ℕ, Bool, true, List, Result, Ok, Err}
 use Rattle.std.specs.List.{All}
 use Rattle.std.specs.declared.alloc.AllocError.{AllocError}

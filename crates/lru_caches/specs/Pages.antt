@@ -1,5 +1,5 @@
 -- A page cache: which blocks it shows, which of its pages are dirty, and what a crash may leave.
---     d    the ghost members of the device: what contracts see of a block, the blocks, what a crash may leave of them
+--     `d`: the ghost members of the device: what contracts see of a block, the blocks, what a crash may leave of them.
 use Rattle.std.specs.Prelude.{◌≡◌, ◌≢◌, ◌⊎◌, ◌+◌, ◌-◌, ◌^◌, ◌<◌, ℕ, zero, suc, min, Bool, true, false, not, ◌&&◌, ◌||◌}
 use Rattle.std.specs.Prelude.{if◌then◌else◌, List, [], ◌∷◌, ◌++◌, map, length, reverse, filter, nat_eq, nat_lt, Option}
 use Rattle.std.specs.Prelude.{Some, None, option_map, is_some, IsTrue, IsPermutation, Result, Ok, Err, IfErr, OnOk, OnErr}

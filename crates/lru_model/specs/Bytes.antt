@@ -1,5 +1,5 @@
 -- A map under a limit of the bytes of its table plus the bytes that its pairs own.
---     bytes_of k v      how many bytes the pair of k and v owns
+--     `bytes_of k v`: how many bytes the pair of k and v owns.
 use Rattle.std.specs.Prelude.{◌≡◌, ℕ, ◌+◌, ◌≤◌, Some, sum_by}
 use Rattle.lru_limits.specs.Bytes.{Bytes}
 use Rattle.lru_model.specs.Sizes.{usage}

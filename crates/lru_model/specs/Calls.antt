@@ -1,5 +1,5 @@
 -- How gets, writes, removals, pops and a clear change a map. Each other kind of call has a file of its own.
---     names      whether a key is the looked-up key
+--     `names`: whether a key is the looked-up key.
 use Rattle.std.specs.Prelude.{◌≡◌, Bool, List, [], Option, Some, None, option_map, replicate}
 use Rattle.std.specs.Map.{set_value}
 use Rattle.group_table.specs.Bucket.{empty}

@@ -1,5 +1,5 @@
 -- A clone of a map is the same map with clones of its keys, values, limiter and hasher.
---     same_key, same_value, ..    whether the second argument is a clone of the first
+--     `same_key`, `same_value`, ..: whether the second argument is a clone of the first.
 use Rattle.std.specs.Prelude.{◌≡◌}
 use Rattle.std.specs.List.{AllZip}
 use Rattle.lru_model.specs.State.{State}

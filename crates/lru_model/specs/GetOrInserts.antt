@@ -1,5 +1,5 @@
 -- What `ensure_newest` and `get_or_insert` do: they look up a key, and insert it if it is not there.
---     makes v             the closure may return v
+--     `makes v`: the closure may return v.
 use Rattle.std.specs.Prelude.{◌≡◌, ℕ, Bool, true, Some, None, Result, Ok, OnErr}
 use Rattle.std.specs.declared.alloc.AllocError.{AllocError}
 use Rattle.lru_limits.specs.Rules.{Rules, Offers}

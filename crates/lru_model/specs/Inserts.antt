@@ -1,7 +1,7 @@
 -- What an insert does.
---     rules, offers       the limiter's `Rules` and `Offers` (`lru_limits`)
---     names i k           the inserted key i names k
---     hash_of h k         the hash of k by the hasher h
+--     `rules`, `offers`: the limiter's `Rules` and `Offers` (`lru_limits`).
+--     `names i k`: the inserted key i names k.
+--     `hash_of h k`: the hash of k by the hasher h.
 use Rattle.std.specs.Prelude.{◌≡◌, ℕ, ◌+◌, ◌⊎◌, ◌<◌, Bool, true, false, not, if◌then◌else◌, ◌∷◌, length, Option, Some}
 use Rattle.std.specs.Prelude.{None, option_map, Result, Ok, Err, IsErr}
 use Rattle.std.specs.declared.alloc.AllocError.{AllocError}

@@ -1,5 +1,5 @@
 -- What `pop_oldest_if` and `try_pop_oldest` do: a closure decides whether the oldest pair is popped.
---     says pair answer   the closure may return `answer` for the pair
+--     `says pair answer`: the closure may return `answer` for the pair.
 use Rattle.std.specs.Prelude.{◌≡◌, Bool, true, false, Option, Some, None, Result, Ok, Err}
 use Rattle.std.specs.Borrow.{Bor}
 use Rattle.lru_limits.specs.Rules.{Rules}

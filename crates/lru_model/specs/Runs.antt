@@ -1,7 +1,7 @@
 -- How one call changes a map (`Step`), and how calls one after another change it (`Run`).
---     rules, offers       the limiter's `Rules` and `Offers` (`lru_limits`)
---     names i k           the key i of a call names k
---     hash_of h k         the hash of k by the hasher h
+--     `rules`, `offers`: the limiter's `Rules` and `Offers` (`lru_limits`).
+--     `names i k`: the key i of a call names k.
+--     `hash_of h k`: the hash of k by the hasher h.
 use Rattle.std.specs.Prelude.{◌≡◌, ◌⊎◌, ℕ, Bool, true, false, List, Option, IfSome, Result, Contains, map}
 use Rattle.std.specs.declared.alloc.AllocError.{AllocError}
 use Rattle.lru_limits.specs.Rules.{Rules, Offers}

@@ -1,5 +1,5 @@
 -- What `update` does: it offers the limiter a new value for a key that is there.
---     names i k           the given key i names the key k
+--     `names i k`: the given key i names the key k.
 use Rattle.std.specs.Prelude.{◌≡◌, Bool, true, false, List, [], Some, None}
 use Rattle.lru_limits.specs.Rules.{Rules, Offers}
 use Rattle.lru_model.specs.Lists.{lookup_entry, set_entry}

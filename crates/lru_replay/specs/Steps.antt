@@ -1,8 +1,8 @@
 -- What each call does to a map, and to a list of pairs (newest first) with a limiter and no table, as if a bucket were
 -- always free.
---     rules, offers       the limiter's `Rules` and `Offers` (`lru_limits`)
---     eq                  when two keys are equal
---     hash_of h k         the hash of k by the hasher h
+--     `rules`, `offers`: the limiter's `Rules` and `Offers` (`lru_limits`).
+--     `eq`: when two keys are equal.
+--     `hash_of h k`: the hash of k by the hasher h.
 use Rattle.std.specs.Prelude.{◌≡◌, ℕ, ◌++◌, Bool, List, [], Option, Some, None, Result, MatchOption, is_some, length}
 use Rattle.std.specs.Prelude.{option_map, unwrap_or, if◌then◌else◌}
 use Rattle.std.specs.declared.alloc.AllocError.{AllocError}

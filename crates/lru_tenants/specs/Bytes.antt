@@ -1,7 +1,7 @@
 -- A cache of tenants within one limit of bytes.
---     names name             whether the call names the tenant of this name
---     of_name name           how many bytes the name owns
---     of_pair key value      how many bytes the entry owns
+--     `names name`: whether the call names the tenant of this name.
+--     `of_name name`: how many bytes the name owns.
+--     `of_pair key value`: how many bytes the entry owns.
 use Rattle.std.specs.Prelude.{◌≡◌, ℕ, ◌+◌, ◌≤◌, Bool, false, List, Option, nat_lt, sum_by, unwrap_or}
 use Rattle.lru_limits.specs.Bytes.{Bytes, both_own, in_word}
 use Rattle.lru_model.specs.Lists.{lookup}

@@ -1,5 +1,5 @@
 -- A cache of tenants: a map for each open tenant.
---     names name      whether the call names the tenant of this name
+--     `names name`: whether the call names the tenant of this name.
 use Rattle.std.specs.Prelude.{◌≡◌, ℕ, ◌≤◌, ◌<◌, ◌+◌, ◌-◌, ◌^◌, nat_lt, Bool, true, false, List, cond, Option, Some, None}
 use Rattle.std.specs.Prelude.{sum_by}
 use Rattle.std.specs.Option.{option_map, unwrap_or}

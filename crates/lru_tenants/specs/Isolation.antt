@@ -1,7 +1,7 @@
 -- Calls of any kind on a cache, one after another, and what they do to one tenant.
---     names name                    whether the call names the tenant of this name
---     named call                    the tenant that the call names
---     Does call old answer new      what the call may do to this tenant, and may return
+--     `names name`: whether the call names the tenant of this name.
+--     `named call`: the tenant that the call names.
+--     `Does call old answer new`: what the call may do to this tenant, and may return.
 use Rattle.std.specs.Prelude.{◌≡◌, ◌⊎◌, Bool, true, false, List, [], ◌∷◌, Option}
 use Rattle.lru_model.specs.State.{State}
 use Rattle.lru_tenants.specs.Cache.{Cache, tenant, Leaves}

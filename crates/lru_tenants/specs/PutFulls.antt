@@ -1,5 +1,5 @@
 -- The value that a `put_full` returns.
---     accepts s k v       whether the limiter s accepts the entry of a new key
+--     `accepts s k v`: whether the limiter s accepts the entry of a new key.
 use Rattle.std.specs.Prelude.{Bool, Option, Some, is_some, not, ◌&&◌, if◌then◌else◌}
 use Rattle.lru_limits.specs.Rules.{Rules, Offers}
 use Rattle.lru_model.specs.Inserts.{unkept_value}

@@ -1,5 +1,5 @@
 -- Calls on LRU caches of several sizes.
---     eq        when two keys are equal
+--     `eq`: when two keys are equal.
 use Rattle.std.specs.Prelude.{◌≡◌, ℕ, ◌+◌, ◌-◌, ◌≤◌, Bool, true, if◌then◌else◌, List, [], ◌∷◌, length}
 use Rattle.std.specs.Set.{remove_key}
 use Rattle.lru_theory.specs.Traces.{is_in, refer}

@@ -1,5 +1,5 @@
 -- Other eviction policies. The order of the keys in their caches means nothing.
---     eq        when two keys are equal
+--     `eq`: when two keys are equal.
 use Rattle.std.specs.Prelude.{◌≡◌, ℕ, ◌+◌, ◌≤◌, Bool, true, false, List, [], ◌∷◌, length}
 use Rattle.std.specs.Set.{remove_key}
 use Rattle.lru_theory.specs.Traces.{is_in, fault}

@@ -1,6 +1,6 @@
 -- Definitions for traces. A trace is the list of the keys that were referenced, in order of time.
---     eq        when two keys are equal
---     past      the keys of earlier references, newest first; a key may occur more than once
+--     `eq`: when two keys are equal.
+--     `past`: the keys of earlier references, newest first; a key may occur more than once.
 use Rattle.std.specs.Prelude.{◌≡◌, ℕ, ◌+◌, Bool, true, not, ◌||◌, nat_le, if◌then◌else◌, List, [], ◌∷◌, length, take}
 use Rattle.std.specs.Cmp.Lexicographic.{pointwise}
 use Rattle.std.specs.List.{list_any}
