@@ -14,5 +14,5 @@ module _ {K V : Type 0} (same_key : K → K → Type 0) (same_value : V → V �
       pub pairs : AllZip IsPairClone old.pairs new.pairs
       pub limiter : same_limiter old.limiter new.limiter
       pub hasher : same_hasher old.hasher new.hasher
-      -- nothing else differs
+      -- the clone differs from the map in nothing else
       pub rest : new ≡ record old { pairs = new.pairs; limiter = new.limiter; hasher = new.hasher }

@@ -1,4 +1,5 @@
--- What all insertions into the table cost. A reservation is included if no growth was left before it.
+-- How many insertions into the table all calls together make. A reservation is included only if no growth was left
+-- before it.
 use Rattle.std.specs.Prelude.{◌≡◌, ℕ, ◌+◌, ◌-◌, ◌*◌, ◌^◌, ◌≤◌, ◌<◌, Bool, Result}
 use Rattle.lru_limits.specs.Rules.{Rules}
 use Rattle.lru_limits.specs.Admissions.{Terms, offers_of}
@@ -17,12 +18,12 @@ pub record PaysForInsertions {K V S H : Type 0} (old new : State K V S H) : Type
 
 module _ {K V S H : Type 0} (terms : Terms K V S) (rules : Rules K V S) (eq : K → K → Bool)
     (hash_of : H → K → ℕ) where
-  -- if the step is a reservation, no growth was left before it
+  -- if the step is a reservation, no growth was left before this step
   abbrev pub ReservesIfFull : (old new : State K V S H) → AnyStep rules (offers_of terms) eq hash_of old new → Type 0
   ReservesIfFull old new (calls (reserves n result h)) = growth_left old ≡ 0
   ReservesIfFull old new step = Unit {0}
 
-  -- a `try_insert`, or any other step; a reservation only if no growth was left before it
+  -- A `try_insert`, or any other step. A reservation is allowed only if no growth was left before it.
   pub data PaidStep (old new : State K V S H) : Type 0 where
     tries : (key : K) (value : V) (result : Result (Unit {0}) (K × V)) →
         TryInsert terms rules key value old eq hash_of result new → PaidStep old new
