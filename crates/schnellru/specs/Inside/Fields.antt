@@ -1,4 +1,4 @@
--- A map's fields except `entries` and `alloc`, plus `max`.
+-- The fields of an `LruMap` except `entries` and `alloc`, plus `max`.
 use Rattle.std.specs.Prelude.{ℕ}
 use Rattle.schnellru.specs.declared.map.LruMap.TheInside.{Inside}
 
