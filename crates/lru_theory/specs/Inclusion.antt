@@ -4,8 +4,8 @@ use Rattle.std.specs.Prelude.{◌≡◌, ℕ, ◌+◌, ◌-◌, ◌≤◌, Bool,
 use Rattle.std.specs.Set.{remove_key}
 use Rattle.lru_theory.specs.Traces.{is_in, refer}
 
--- What a call does to the keys of a cache: it references a key, makes a key the newest if the key is there, removes a
--- key, removes all keys, or changes nothing.
+-- What a call does to the keys of a cache: it references a key (`refers`), makes a stored key the newest (`promotes`),
+-- removes a key, removes all keys, or changes nothing (`looks`).
 pub data KeyCall (K : Type 0) : Type 0 where
   refers : K → KeyCall K
   promotes : K → KeyCall K
@@ -22,7 +22,7 @@ module _ {K : Type 0} (eq : K → K → Bool) (n : ℕ) where
   after_call clears keys = []
   after_call looks keys = keys
 
-  -- the keys after calls, one after another
+  -- the keys of an LRU cache of n places after these calls, one after another
   abbrev pub after_calls : List (KeyCall K) → List K → List K
   after_calls [] keys = keys
   after_calls (call ∷ calls) keys = after_calls calls (after_call call keys)
@@ -34,7 +34,7 @@ module _ {K : Type 0} (eq : K → K → Bool) where
     both : (x y : K) (xs ys : List K) → eq x y ≡ true → IsSubsequence xs ys → IsSubsequence (x ∷ xs) (y ∷ ys)
     skips : (y : K) (xs ys : List K) → IsSubsequence xs ys → IsSubsequence xs (y ∷ ys)
 
-  -- a cache of n places is included in a cache of m places
+  -- the cache `small` of n places is included in the cache `large` of m places
   pub record IsIncluded (n m : ℕ) (small large : List K) : Type 0 where
     pub keys : IsSubsequence small large
     pub more : length large ≤ length small + (m - n)
