@@ -56,7 +56,7 @@ Copies None answer = answer ≡ Ok None
 Copies (Some stored) answer =
     ((copy : Response) × IsCopy stored copy × (answer ≡ Ok (Some copy))) ⊎ (answer ≡ Err Memory)
 
--- The call counts a hit if the stored response is fresh. If not, it counts a miss.
+-- The call counts a hit if the stored response is fresh, and a miss if no fresh response is stored.
 abbrev pub GetsCopy : {K S : Type 0} → (K → Bool) → ℕ → Host K S
     → Result (Option Response) TenantError → Option (Host K S) → Type 0
 GetsCopy {K} {S} names now old answer new = (left : Host K S)

@@ -25,8 +25,8 @@ module _ {T : Type 0} where
   abbrev pub states_by : List ℕ → List (Option T) → List BucketState
   states_by bytes entries = bucket_states (slots_of bytes entries)
 
-  -- the control byte at a position: first the bytes of the buckets, then empty bytes before position 16, and then the
-  -- bytes of the first buckets again
+  -- The control byte at a position. The bytes of the buckets come first. Up to position 16, empty bytes follow. The
+  -- bytes of the first buckets come last, again.
   abbrev pub byte_at : List (Slot T) → ℕ → ℕ
   byte_at slots position =
       if nat_lt position (length slots) then byte_of (bucket_at slots position)

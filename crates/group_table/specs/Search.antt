@@ -38,8 +38,8 @@ module _ {T F : Type 0} (closure : Mut F (Bor T × Unit {0}) Bool) (slots : List
   abbrev pub RejectsEach : F → List ℕ → F → Type 0
   RejectsEach f asked g = FoldsTo (λ p b q. Answers p b false q) f asked g
 
-  -- A search for the hash called f with the entries in the buckets `asked`, and f rejected each. After these, the
-  -- search called f with the entry in b, and f accepted this entry.
+  -- A search for the hash called f with the entries in the buckets `asked`, and f rejected each. Last, the search
+  -- called f with the entry in bucket b, and f accepted this entry.
   pub record Finds (hash : ℕ) (f : F) (b : ℕ) : Type 0 where
     pub asked : List ℕ
     pub search : IsSearch slots hash (asked ++ b ∷ [])

@@ -56,7 +56,8 @@ put_code (Ok false) = 1
 put_code (Err error) = 2
 
 -- An insert, for which the caller passes an entry to write to. The entry is `place` before the insert, and `left` after
--- it. If pairs of other keys are evicted, `left` is the first of these pairs. If not, `left` is `place`.
+-- it. If pairs of other keys are evicted, `left` is the first of these pairs. If no such pair is evicted, `left` is
+-- `place`.
 pub record Inserts (key value : ℕ) (old : Map) (answer : Inserted) (place left : Entry) (new : Map) : Type 0 where
   pub result : Result Bool AllocError
   pub passed : List (ℕ × ℕ)
@@ -67,8 +68,8 @@ pub record Inserts (key value : ℕ) (old : Map) (answer : Inserted) (place left
   pub one_evicted : old.limiter ≤ most_exact_length → length (others (nat_eq key) passed) ≤ 1
   pub returned : answer ≡ inserted_of (put_code result) (lookup (nat_eq key) old.pairs) answer.evicted
 
--- If the key is there, its pair becomes the newest, and its value is returned as the old value. If not, the value is
--- inserted.
+-- If the key is there, its pair becomes the newest, and its value is returned as the old value. If the key is not
+-- there, the value is inserted.
 abbrev pub GetsOrInserts : ℕ → ℕ → Map → Inserted → Entry → Entry → Map → Type 0
 GetsOrInserts key value old answer place left new = MatchOption (lookup (nat_eq key) old.pairs)
     (Inserts key value old answer place left new)

@@ -112,8 +112,8 @@ pub record Copies (old copy : BytesMap) : Type 0 where
   pub entries : texts copy.pairs ≡ texts old.pairs
   pub rest : copy ≡ record old { pairs = copy.pairs }
 
--- If the oldest entry fits into the two buffers, the entry is copied into them and removed. If not, only the lengths of
--- its key and value are returned.
+-- If the oldest entry fits into the two buffers, the entry is copied into them and removed. If the oldest entry does
+-- not fit, only the lengths of its key and value are returned.
 pub data Pops (old : BytesMap) (answer : Popped) (key key_left value value_left : List ℕ)
     (new : BytesMap) : Type 0 where
   none : last old.pairs ≡ None → answer ≡ no_entry → key_left ≡ key → value_left ≡ value → new ≡ old →
@@ -138,8 +138,8 @@ pub data PopsFor (own : List ℕ) (n : ℕ) (old : BytesMap) (answer : Popped) (
     (new : BytesMap) : Type 0 where
   has_room : must_evict own n old ≡ false → answer ≡ no_entry → key_left ≡ key → value_left ≡ value → new ≡ old →
       PopsFor own n old answer key key_left value value_left new
-  -- The entry of the key `own` becomes the newest. So the oldest entry of another key is now the oldest of all. This
-  -- entry is popped if it fits into the buffers.
+  -- The entry of the key `own` becomes the newest, so that the oldest entry has another key. The oldest entry is popped
+  -- if it fits into the buffers.
   pops : must_evict own n old ≡ true → (pair : Bytes × Bytes) →
       last (without (names_bytes own) old.pairs) ≡ Some pair → last (front (names_bytes own) old.pairs) ≡ Some pair →
       Pops (promoted (names_bytes own) old) answer key key_left value value_left new →

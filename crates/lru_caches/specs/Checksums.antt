@@ -11,7 +11,7 @@ hash_of bytes = closed (written (seeded (1 ∷ 2 ∷ 3 ∷ 4 ∷ [])) bytes)
 abbrev pub with_tail : List ℕ → ℕ → List ℕ
 with_tail block number = take (length block - 8) block ++ to_le_bytes w64 number
 
--- block n with its checksum in its last 8 bytes; the checksum is the hash of the other bytes and of n
+-- block n with its checksum in its last 8 bytes. The checksum is the hash of the block's other bytes and of n.
 abbrev pub with_checksum : ℕ → List ℕ → List ℕ
 with_checksum n block = with_tail block (hash_of (with_tail block n))
 

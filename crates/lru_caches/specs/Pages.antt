@@ -95,7 +95,7 @@ module _ {B D : Type 0} where
   abbrev pub pinned : Cached B D → ℕ → Bool
   pinned cache n = is_pinned (lookup (nat_eq n) cache.pages)
 
-  -- The pages after a use of page n: this page first, and after it the other pages.
+  -- The pages after a use of page n, which comes first, in front of the other pages.
   abbrev pub pages_after : ℕ → Page B → Cached B D → List (ℕ × Page B)
   pages_after n page cache =
       (n, page) ∷ with_room cache.capacity cache.keeps_dirty (without (nat_eq n) cache.pages)
@@ -205,8 +205,8 @@ module _ {B D E S : Type 0} (d : device.Ghosts D B E S) where
   abbrev pub IsFlushCause : D → D → PageError E → Type 0
   IsFlushCause old new e = IsFault old new e ⊎ ((e ≡ Broken) × (d.is_usable old ≡ false))
 
-  -- After a failed call, the pages and the counts are as before. Or memory ran out after an eviction, and the eviction
-  -- is counted.
+  -- Either a failed call does not change the pages and the counts, or memory ran out after an eviction, and the
+  -- eviction is counted.
   abbrev pub Leaves : Cached B D → Cached B D → PageError E → Type 0
   Leaves old new e = ((new.pages ≡ old.pages) × (new.counts ≡ old.counts))
       ⊎ ((e ≡ Memory) × (new.pages ≡ with_room old.capacity old.keeps_dirty old.pages)

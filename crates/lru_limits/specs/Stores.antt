@@ -71,8 +71,8 @@ pub refused-keeps : {K V S : Type 0} (account : S → ℕ) (accepts : Bool) (s s
 refused-keeps account true s s' i v t h = let e = h.pair in cc
 refused-keeps account false s s' i v t h = ap account h.limiter
 
--- If the total of s' is the total of s, minus the old cost, plus the new cost, then an offer of a new value takes off
--- the old cost and adds the cost of the value that stays.
+-- Suppose that the total of s' is the total of s, minus the old cost, plus the new cost. If a new value is offered, the
+-- running total loses the old cost, and gains the cost of the value that stays.
 pub replaced-exchanges : {K V S : Type 0} (cost : K → V → ℕ) (account : S → ℕ) (accepts : Bool) (s s' : S) (k : K)
     (v w : V) → account s' ≡ account s - cost k v + cost k w
     → cost k v ≤ account s → account (if accepts then s' else s) ≡ account s - cost k v

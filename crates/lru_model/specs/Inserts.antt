@@ -82,8 +82,8 @@ module _ {K V S I : Type 0} (rules : Rules K V S) (offers : Offers K V S I) (nam
   module _ {H : Type 0} (hash_of : H → K → ℕ) where
     pub data Insert (i : I) (v : V) (old : State K V S H) (result : Result Bool AllocError)
         (new : State K V S H) : Type 0 where
-      -- The key is there, and the limiter accepts the new value. The pair becomes the newest, with the new value. After
-      -- this, the oldest pairs are evicted while the limiter is over its limit.
+      -- The key is there, and the limiter accepts the new value. The pair becomes the newest, with the new value. The
+      -- insert ends with a trim: the oldest pairs are evicted while the limiter is over its limit.
       replaced : (pair : K × V) → lookup_entry (names i) old.pairs ≡ Some pair →
           (replacement pair i v (contents old)).taken ≡ true →
           result ≡ Ok (not (is_empty new.pairs)) → Leaves old (trim rules (with_replaced pair i v (contents old))) new →

@@ -8,7 +8,7 @@ use Rattle.lru_model.specs.TryInserts.{TryInsert}
 use Rattle.lru_model.specs.Runs.{AnyStep, calls, reserves}
 
 -- The number of insertions into the table, plus the potential, rises by at most 3 for each stored entry, plus 2 for
--- each entry that a shrink rehashed. This holds until the count `placed` or `shrunk` stops at its maximum.
+-- each entry that a shrink rehashed. This bound holds until the count `placed` or `shrunk` stops at its maximum.
 pub record PaysForInsertions {K V S H : Type 0} (old new : State K V S H) : Type 0 where
   pub placed : old.counts.placed ≤ new.counts.placed
   pub shrunk : old.counts.shrunk ≤ new.counts.shrunk

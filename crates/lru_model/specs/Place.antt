@@ -142,20 +142,20 @@ module _ {K V S H : Type 0} (rules : Rules K V S) (hash_of : H → K → ℕ) wh
         FillsBucket (hash_of old.hasher pair.0) old.table new.table →
         outcome ≡ placed → IsPlacedInTable pair old new →
         Place pair old outcome new
-    -- No bucket takes the pair, and the table would be at most half full with the pair. So the table is rehashed, or
-    -- the map runs out of memory. If the map has no pairs, the rehash needs no memory.
+    -- No bucket takes the pair, and the table would be at most half full with the pair. The table is rehashed, or the
+    -- map runs out of memory. If the map has no pairs, the rehash needs no memory.
     rehashed : HasNoBucket (hash_of old.hasher pair.0) old → length old.pairs + 1 ≤ full_capacity (buckets old) / 2 →
         (outcome ≡ no_memory → 0 < length old.pairs) →
         IsPlacedByMove rules pair (buckets old) old outcome new →
         Place pair old outcome new
-    -- The table is too small, there is a larger table, and the limiter permits the larger table. So the table grows, or
+    -- The table is too small, there is a larger table, and the limiter permits the larger table. The table grows, or
     -- the map runs out of memory.
     grown : IsOutgrown (hash_of old.hasher pair.0) old →
         (count bytes : ℕ) → table_for 1 old ≡ new_table count bytes → Grants rules bytes old →
         IsPlacedByMove rules pair count (asked rules bytes old) outcome new →
         Place pair old outcome new
-    -- The table is too small and cannot grow. So one or more of the oldest pairs are evicted. If the map has no pairs,
-    -- the new pair is not stored.
+    -- The table is too small and cannot grow. One or more of the oldest pairs are evicted. If the map has no pairs, the
+    -- new pair is not stored.
     not_grown : IsOutgrown (hash_of old.hasher pair.0) old →
         (mid : State K V S H) → CannotGrow rules old mid →
         Evicts rules (hash_of old.hasher pair.0) pair old mid outcome new →

@@ -70,8 +70,8 @@ pub record IsPaid (potential : ℕ) (counts : Counts) : Type 0 where
   pub moved : counts.moved ≤ 2 * counts.placed + counts.shrunk
   pub ahead : IsAhead potential counts
 
--- How the bucket states change when a map of `was` pairs keeps n pairs. The growth left never falls. It rises by at
--- most one for each removed pair, and by exactly one for each in a table of up to 16 buckets.
+-- How the bucket states change when a map of `was` pairs keeps n pairs. The growth left never falls. For each removed
+-- pair, the growth left rises by at most one, and by exactly one in a table of up to 16 buckets.
 pub record GivesBack (was n : ℕ) (old new : List BucketState) : Type 0 where
   pub table : length new ≡ length old
   pub keeps : growth_left_of old ≤ growth_left_of new

@@ -19,7 +19,7 @@ CountsInsertions old new = new.insertions < 2 ^ 64 - 1 → new.moved < 2 ^ 64 - 
     new.insertions + old.moved + old.placed ≡ old.insertions + new.moved + new.placed
 
 module _ {K V S H : Type 0} where
-  -- The count `moved`, plus the potential, rises by at most 2 for each stored entry. This holds until the count
+  -- The count `moved`, plus the potential, rises by at most 2 for each stored entry. This bound holds until the count
   -- `placed` stops at its maximum. No entry is counted as rehashed by a shrink.
   pub record PaysByStoring (old new : State K V S H) : Type 0 where
     pub placed : old.counts.placed ≤ new.counts.placed
@@ -29,7 +29,7 @@ module _ {K V S H : Type 0} where
         ≤ old.counts.moved + potential old + 2 * new.counts.placed
 
   -- The count `moved`, plus the potential, rises by at most 2 for each stored entry, plus 1 for each entry that a
-  -- shrink rehashed. This holds until the count `placed` or `shrunk` stops at its maximum.
+  -- shrink rehashed. This bound holds until the count `placed` or `shrunk` stops at its maximum.
   pub record PaysForMoves (old new : State K V S H) : Type 0 where
     pub placed : old.counts.placed ≤ new.counts.placed
     pub shrunk : old.counts.shrunk ≤ new.counts.shrunk

@@ -47,7 +47,7 @@ module _ {K V S : Type 0} (terms : Terms K V S) (rules : Rules K V S) where
         unready : lookup_entry (eq key) old.pairs ≡ None → can_store key value (contents old) ≡ true →
             IsUnready new → result ≡ Err (key, value) →
             TryInsert result new
-        -- In all other cases the pair is inserted.
+        -- The pair is inserted: the key is new, growth is left or was reserved, and `can_store` is true.
         inserted : lookup_entry (eq key) old.pairs ≡ None → can_store key value (contents old) ≡ true →
             (ready : State K V S H) → IsReady rules old ready → can_store key value (contents ready) ≡ true →
             result ≡ Ok tt → Insert rules (offers_of terms) eq hash_of key value ready (Ok true) new →

@@ -109,7 +109,7 @@ module _ {N K V L S : Type 0} (rules : Rules K V L) (offers : Offers K V L K) (c
     (account budget_of : L → ℕ) (eq : K → K → Bool) (hash_of : S → K → ℕ) (fresh : ℕ → State K V L S)
     (total_limit : Option ℕ) where
   -- The call may return `answer`, and leave the tenant that it names as `new`. `sum` is the sum of all budgets, the new
-  -- budget included. This sum depends on the other tenants, so the step only says that the sum is at least the new
+  -- budget included. The sum depends on the other tenants, so the step only says that the sum is at least the new
   -- budget.
   abbrev pub TenantStep : TenantCall N K V → Option (State K V L S) → TenantAnswer V → Option (State K V L S) → Type 0
   TenantStep (calls.Open name budget) old answer new = (result : Result (Unit {0}) TenantError) × (sum : ℕ)

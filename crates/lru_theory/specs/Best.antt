@@ -10,7 +10,7 @@ module _ {K : Type 0} (eq : K → K → Bool) where
   until key [] = 0
   until key (other ∷ trace) = if eq key other then 0 else suc (until key trace)
 
-  -- the other keys and this key, in the order of their next references in the trace
+  -- the list of keys with this key added; the keys are in the order of their next references in the trace
   abbrev pub put : List K → K → List K → List K
   put trace key [] = key ∷ []
   put trace key (other ∷ keys) = if nat_le (until key trace) (until other trace) then key ∷ (other ∷ keys)

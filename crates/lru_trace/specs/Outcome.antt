@@ -16,8 +16,8 @@ use Rattle.lru_trace.specs.declared.lines.Others.{Others}
 use Rattle.lru_trace.specs.Report.{output}
 use Rattle.lru_trace.specs.Sizes.{sizes_from}
 
--- The reader had the bytes `from` left before, and has the bytes `to` left now, if these are known. It was read to its
--- end, and `curve` counts the references that its lines make.
+-- The reader had the bytes `from` left before, and has the bytes `to` left now, if these are known. The reader was read
+-- to its end, and `curve` counts the references that the lines make.
 pub record KeysRead (from to : Option (List ℕ)) (options : Options) (curve : AnyCurve) (others : Others) : Type 0 where
   pub input : List ℕ
   pub reads : Consumes from to input
