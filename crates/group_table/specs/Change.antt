@@ -39,8 +39,8 @@ module _ {T : Type 0} where
     pub insertions : new.insertions ≡ one_placed old.insertions
 
 module _ {A : Type 0} where
-  -- Bucket b becomes empty if each run of 16 neighbouring buckets with b contains an empty bucket. If one of these runs
-  -- contains no empty bucket, b becomes deleted.
+  -- A removal makes bucket b empty if each run of 16 neighbouring buckets with b contains an empty bucket. If some run
+  -- of 16 neighbouring buckets with b contains no empty bucket, the removal makes b deleted.
   abbrev pub Removes : List (Bucket A) → List (Bucket A) → ℕ → Type 0
   Removes old new b =
       (HasEmptyNeighbours (IsEmpty (bucket_states old)) (length (bucket_states old)) b × (new ≡ slice_set old b empty))

@@ -14,7 +14,7 @@ pub record IsCircle (control : List ℕ) : Type 0 where
   pub fits : length control < 2 ^ 63
   pub repeated : IsRepeated control (buckets_of control)
 
--- The control bytes of any table. The number of the table's last bucket is `last`, or 0 if the table has no buckets.
+-- The control bytes of any table. `last` is the number of the table's last bucket, or 0 if the table has no buckets.
 abbrev pub IsControl : List ℕ → ℕ → Type 0
 IsControl control last = ((control ≡ []) × (last ≡ 0)) ⊎ (IsCircle control × (last + 1 ≡ buckets_of control))
 

@@ -6,7 +6,7 @@ use Rattle.group_table.specs.Bucket.{Slot, entry_at, entry_count, IsFull}
 use Rattle.group_table.specs.Fits.{Fits}
 
 module _ {N : Type 0} (number : N → ℕ) (none : N) where
-  -- the number of the new bucket of the entry that was in the old bucket b, as these links say
+  -- the number of the new bucket to which the entry of the old bucket b moved
   abbrev pub moved_to : List N → ℕ → ℕ
   moved_to links b = number (slice_index_or links b none)
 

@@ -56,8 +56,8 @@ put_code (Ok false) = 1
 put_code (Err error) = 2
 
 -- An insert, for which the caller passes an entry to write to. The entry is `place` before the insert, and `left` after
--- it. If pairs of other keys are evicted, `left` is the first of these pairs. If no such pair is evicted, `left` is
--- `place`.
+-- it. If pairs of other keys are evicted, `left` is the first of these pairs. If no pair of another key is evicted,
+-- `left` is `place`.
 pub record Inserts (key value : ℕ) (old : Map) (answer : Inserted) (place left : Entry) (new : Map) : Type 0 where
   pub result : Result Bool AllocError
   pub passed : List (ℕ × ℕ)

@@ -61,8 +61,8 @@ abbrev pub left : List Event → ℕ → Option (List ℕ)
 left [] n = None
 left (e ∷ earlier) n = left_after e.0 (nat_eq n e.1) (known earlier n) (left earlier n)
 
--- A crash may leave a block whose bytes contracts see as `block`. For a block's bytes, `seen` gives what contracts see
--- of them.
+-- A crash may leave a block whose bytes contracts see as `block`. `seen` gives what contracts see of the bytes of a
+-- block.
 abbrev pub IsLeft : (List ℕ → List ℕ) → Option (List ℕ) → List ℕ → Type 0
 IsLeft seen None block = Unit {0}
 IsLeft seen (Some only) block = block ≡ seen only

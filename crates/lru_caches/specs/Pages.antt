@@ -50,7 +50,7 @@ module _ {B : Type 0} where
   abbrev pub unpinned_at : ℕ → List (ℕ × Page B) → List (ℕ × Page B)
   unpinned_at n pages = with_no_pin n (lookup (nat_eq n) pages) pages
 
-  -- A page may be evicted if it is not pinned. If the cache keeps dirty pages, the page must also be clean.
+  -- A page may be evicted unless it is pinned, or dirty in a cache that keeps dirty pages.
   abbrev pub may_go : Bool → Page B → Bool
   may_go keeps_dirty page = not (page.is_pinned || keeps_dirty && page.is_dirty)
 
@@ -95,7 +95,7 @@ module _ {B D : Type 0} where
   abbrev pub pinned : Cached B D → ℕ → Bool
   pinned cache n = is_pinned (lookup (nat_eq n) cache.pages)
 
-  -- The pages after a use of page n, which comes first, in front of the other pages.
+  -- The pages after a use of page n: page n comes first, and the other pages follow.
   abbrev pub pages_after : ℕ → Page B → Cached B D → List (ℕ × Page B)
   pages_after n page cache =
       (n, page) ∷ with_room cache.capacity cache.keeps_dirty (without (nat_eq n) cache.pages)
@@ -140,11 +140,11 @@ module _ {B D E S : Type 0} (d : device.Ghosts D B E S) where
   abbrev pub IsGood : D → Type 0
   IsGood device = IsTrue (d.is_usable device) × d.IsHonest device
 
-  -- If the device is good, the cache still shows each block that it showed before.
+  -- If the device is good (`IsGood`), the cache still shows each block that it showed before.
   abbrev pub ShowsTheSame : Cached B D → Cached B D → Type 0
   ShowsTheSame old new = IsGood new.device → (n : ℕ) (block : S) → shown old n ≡ Some block → shown new n ≡ Some block
 
-  -- the page was there and dirty, and `block` is its block or a torn block
+  -- the page was cached and dirty, and `block` is its block or a torn block
   abbrev pub IsWritten : Option (Page B) → S → Type 0
   IsWritten None block = ⊥
   IsWritten (Some page) block = IsTrue page.is_dirty × ((block ≡ d.seen page.block) ⊎ d.IsTorn block)
@@ -157,7 +157,7 @@ module _ {B D E S : Type 0} (d : device.Ghosts D B E S) where
   abbrev pub CrashKeeps : D → D → Type 0
   CrashKeeps old new = (n : ℕ) (block : S) → d.may_leave new n block → d.may_leave old n block
 
-  -- If the device is good, each clean page contains the block that the device has at its number.
+  -- If the device is good (`IsGood`), each clean page contains the block that the device has at its number.
   abbrev pub AreClean : List (ℕ × Page B) → D → Type 0
   AreClean pages device = IsGood device → (n : ℕ) (page : Page B) → lookup (nat_eq n) pages ≡ Some page
       → page.is_dirty ≡ false → d.blocks device n ≡ Some (d.seen page.block)

@@ -1,10 +1,10 @@
 -- Definitions for limiters that accept an entry unchanged.
 --     `plain over grants`: the rules of a limiter that never changes.
---     `rules_at of to rules`: the rules of a limiter that wraps another: `of` unwraps the inner limiter, `to` wraps it.
+--     `rules_at of to rules`: the rules of a wrapper, whose inner limiter `of` unwraps and `to` wraps.
 --     `ReturnsPairIf accepts s k v t given`: t is s, and `given` is the entry, or `None` if the entry is rejected.
---     `unmoved s k v`: `on_removed` leaves the limiter s, and does not change the entry.
---     `answers s b`: `on_grow` returns b, and leaves the limiter s.
---     `replaces s k v w`: `on_replace` accepts the new value w, and leaves the limiter s.
+--     `unmoved s k v`: the limiter s, and the unchanged entry, after `on_removed`.
+--     `answers s b`: the limiter s after `on_grow` returned b.
+--     `replaces s k v w`: the limiter s after `on_replace` accepted the new value w.
 --     `given-is`, `given-names`: the returned entry is the offered one.
 --     `given-adds`, `refused-keeps`, `replaced-exchanges`: lemmas for your own `Summing`, on the total after an offer.
 use Rattle.std.specs.Prelude.{◌≡◌, ◌≤◌, ◌+◌, ◌-◌, ℕ, Bool, true, false, Option, Some, None, IsTrue, if◌then◌else◌}

@@ -47,9 +47,9 @@ table_with entry_bytes None = no_table
 table_with entry_bytes (Some buckets) = table_of buckets (usage entry_bytes buckets)
 
 -- A table of `buckets` buckets grows for `pairs` pairs, which need `need` buckets. If the table has fewer buckets, it
--- grows to `need` buckets. If it has enough buckets, and `pairs` is at most half of its capacity, it keeps its size. If
--- `pairs` is more than half of its capacity, it grows to twice its buckets. If the new table would be too large, the
--- table does not grow (`no_table`).
+-- grows to `need` buckets. If the table has enough buckets, and `pairs` is at most half of its capacity, the table
+-- keeps its size. If `pairs` is more than half of its capacity, the table grows to twice its buckets. If the new table
+-- would be too large, the table does not grow (`no_table`).
 abbrev pub target_from : ℕ → ℕ → ℕ → ℕ → Option ℕ → Target
 target_from max entry_bytes buckets pairs None = no_table
 target_from max entry_bytes buckets pairs (Some need) =

@@ -29,8 +29,8 @@ pub record CostsAlike {K V : Type 0} (eq : K → K → Bool) (weight : K → V �
   pub keys : (key other : K) → eq key other ≡ true → cost key ≡ cost other
   pub pairs : (key other : K) (value : V) → eq key other ≡ true → weight key value ≡ weight other value
 
--- Each pair costs what its key costs (`each`). Keys that together cost at most the limit are at most `most` keys, even
--- if some of them are equal. The map can have a table for 8 * (most + 1) pairs (`tables`).
+-- Each pair costs what its key costs (`each`). A list of keys that together cost at most the limit has at most `most`
+-- keys, some of which may be equal (`few`). The map can have a table for 8 * (most + 1) pairs (`tables`).
 pub record KeepsToCost {K V H : Type 0} (weight : K → V → ℕ) (cost : K → ℕ) (st : State K V Budget H) : Type 0 where
   pub each : AllByRecursion (λ pair. weight pair.0 pair.1 ≡ cost pair.0) st.pairs
   pub summed : IsSummed weight (λ budget. budget.cost) st

@@ -34,7 +34,7 @@ module _ {N K V L S : Type 0} where
   abbrev pub tenant : (N → Bool) → Cache N K V L S → Option (State K V L S)
   tenant named cache = lookup named cache.tenants
 
-  -- the empty map of a new tenant: `made` makes its limiter, an entry takes `entry_bytes` bytes, and `max` is the
+  -- the empty map of a new tenant, whose limiter `made` makes; an entry takes `entry_bytes` bytes, and `max` is the
   -- number of the link `MAX`
   abbrev pub fresh : (ℕ → L) → ℕ → ℕ → Cache N K V L S → ℕ → State K V L S
   fresh made entry_bytes max cache budget = empty_map (made budget) cache.hasher entry_bytes max

@@ -5,12 +5,13 @@ use Rattle.std.specs.Set.{remove_key}
 use Rattle.lru_theory.specs.Traces.{fault}
 
 module _ {K : Type 0} (eq : K → K → Bool) where
-  -- how many references come before the next reference to the key, or all references if none is to the key
+  -- how many references come before the next reference to the key, or the length of the trace if no reference is to the
+  -- key
   abbrev pub until : K → List K → ℕ
   until key [] = 0
   until key (other ∷ trace) = if eq key other then 0 else suc (until key trace)
 
-  -- the list of keys with this key added; the keys are in the order of their next references in the trace
+  -- the list of keys after this key was inserted; the list is in the order of the keys' next references in the trace
   abbrev pub put : List K → K → List K → List K
   put trace key [] = key ∷ []
   put trace key (other ∷ keys) = if nat_le (until key trace) (until other trace) then key ∷ (other ∷ keys)

@@ -28,7 +28,7 @@ module _ {K : Type 0} (eq : K → K → Bool) (n : ℕ) where
   after_calls (call ∷ calls) keys = after_calls calls (after_call call keys)
 
 module _ {K : Type 0} (eq : K → K → Bool) where
-  -- ys contains, in the same order, a key equal to each key of xs
+  -- for each key of xs, the list ys contains an equal key, in the same order
   pub data IsSubsequence : List K → List K → Type 0 where
     none : (ys : List K) → IsSubsequence [] ys
     both : (x y : K) (xs ys : List K) → eq x y ≡ true → IsSubsequence xs ys → IsSubsequence (x ∷ xs) (y ∷ ys)

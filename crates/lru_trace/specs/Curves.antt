@@ -51,7 +51,7 @@ pub record AreAlike (old new : AnyCurve) : Type 0 where
   pub keeps : keeps new ≡ keeps old
   pub limits : limits_of new ≡ limits_of old
 
--- The curve counts what the report needs that `options` ask for, if the first line names `sizes`.
+-- The curve has every count that a report with these `options` needs, if the first line names `sizes`.
 pub record Fits (options : Options) (sizes : List ℕ) (curve : AnyCurve) : Type 0 where
   pub measure : measure_in curve ≡ measure_of options.policies
   pub keeps : keeps curve ≡ wants_best options.policies

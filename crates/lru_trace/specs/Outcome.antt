@@ -39,7 +39,7 @@ pub record TraceRead (from to : Option (List ℕ)) (options : Options) (sizes : 
   pub fits : Fits options sizes curve
   pub left_out : others ≡ others_in options rest
 
--- At most one line was read, and no line that names sizes.
+-- The input has at most one line, and no line that names sizes.
 pub record NoSizesRead (from to : Option (List ℕ)) : Type 0 where
   pub input : List ℕ
   pub reads : Consumes from to input

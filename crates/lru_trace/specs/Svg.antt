@@ -15,8 +15,8 @@ use Rattle.lru_trace.specs.declared.svg.Policy.TheVariants as policies
 abbrev pub part : ℕ → ℕ → ℕ → ℕ
 part missed references scale = if references == 0 then 0 else missed * scale / references
 
--- The share of the expected references that miss, times `scale` and rounded down. If more references miss than are
--- expected, this is `scale`.
+-- The share of the expected references that miss, times `scale` and rounded down. The result is `scale` if more
+-- references miss than are expected.
 abbrev pub missed_part : ℕ → ℕ → ℕ → ℕ
 missed_part missed expected scale = part missed (max missed expected) scale
 

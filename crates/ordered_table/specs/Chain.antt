@@ -81,7 +81,7 @@ pub record SetsEnd {N : Type 0} (none old new at to : N) : Type 0 where
   pub stays : at ≢ none → new ≡ old
 
 module _ {K V N : Type 0} (number : N → ℕ) (link : ℕ → N) (none : N) where
-  -- The links keep some full buckets in this order: `newest` and `oldest` lead to the ends of the order, and each entry
+  -- The links keep some full buckets in this order. `newest` and `oldest` lead to the ends of the order, and each entry
   -- has links to its neighbours. Links can number every bucket.
   pub record IsChain (slots : List (Slot (Entry K V N))) (newest oldest : N) (order : List ℕ) : Type 0 where
     pub reached : length slots < number none
