@@ -1,6 +1,6 @@
 -- Definitions for limiters that accept an entry unchanged.
 --     `plain over grants`: the rules of a limiter that never changes.
---     `rules_at of to rules`: the rules of a wrapper, whose inner limiter `of` unwraps and `to` wraps.
+--     `rules_at of to rules`: the rules of a wrapper; the function `of` unwraps the inner limiter, `to` wraps it.
 --     `ReturnsPairIf accepts s k v t given`: t is s, and `given` is the entry, or `None` if the entry is rejected.
 --     `unmoved s k v`: the limiter s, and the unchanged entry, after `on_removed`.
 --     `answers s b`: the limiter s after `on_grow` returned b.
