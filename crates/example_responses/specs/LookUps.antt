@@ -29,7 +29,7 @@ module _ {K : Type 0} (names : K → Bool) (now : ℕ) where
   abbrev pub looked_up : List (K × Response) → List (K × Response)
   looked_up pairs = if is_some (fresh_at now (lookup names pairs)) then front names pairs else without names pairs
 
--- The map `old` with this list and these counts, and with the table and the total of `left`. A look-up changes nothing
+-- The map `old` with this list and these counts, and with the table and the total of `left`. The call changes nothing
 -- else.
 abbrev pub with_list : {K S : Type 0} → List (K × Response) → Counts → Host K S → Host K S → Host K S
 with_list list counts left old = record old {

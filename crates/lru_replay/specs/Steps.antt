@@ -55,7 +55,7 @@ module _ {K V S H : Type 0} where
   abbrev pub bare : H → Contents K V S → State K V S H
   bare h c = record (empty_map c.limiter h 0 0) { pairs = c.pairs }
 
-  -- The call's reply depends only on the contents of the map, and `after` is the map after the call.
+  -- The call's reply depends only on the contents of the map, and `after` gives the map after the call.
   abbrev pub turns : Named K → (Contents K V S → Reply K V) → (State K V S H → State K V S H) → Does K V S H
   turns names says after = record {
     names = names;
@@ -99,7 +99,7 @@ beside list c = record { pairs = c.pairs; limiter = (c.limiter, list) }
 
 module _ {K V S H : Type 0} (rules : Rules K V S) (offers : Offers K V S K) (eq : K → K → Bool)
     (hash_of : H → K → ℕ) where
-  -- The call searches by a hash. `after` is the map after the call, for each result of the search.
+  -- The call searches by a hash. For each result of the search, `after` gives the map after the call.
   abbrev pub finds : Named K → ℕ → K → (Option V → State K V S H → State K V S H) → Does K V S H
   finds names hash key after = gives names value
       (λ old result new. FindsByHash eq (hash_of old.hasher) hash key old.pairs result × (new ≡ after result old))
