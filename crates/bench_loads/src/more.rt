@@ -17,7 +17,7 @@ fn map_of_texts(alloc: Global, length: u32, texts: &str, width: usize) -> LruMap
     map
 }
 
-/// Inserts texts of `width` bytes. Then gets each text by a `&str`, `rounds` times. Returns a sum over the values.
+/// Inserts texts of `width` bytes, and gets each text by a `&str`, `rounds` times. Returns a sum over the values.
 #[unsafe(no_mangle)]
 pub extern "C" fn rattle_texts(
     alloc: Global,
@@ -74,7 +74,7 @@ pub extern "C" fn rattle_large_values(
     sum
 }
 
-/// Inserts a value of 1 to 64 under each key, with a limit of the sum of the values. Returns 31 times the number of
+/// Inserts a value of 1 to 64 under each key, with a limit on the sum of the values. Returns 31 times the number of
 /// entries that are left, plus their cost.
 #[unsafe(no_mangle)]
 pub extern "C" fn rattle_costs(alloc: Global, limit: u64, keys: &[u64]) -> u64 {

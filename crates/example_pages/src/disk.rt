@@ -51,7 +51,7 @@ impl<'a> CrashFile<'a> {
         })
     }
 
-    /// Leaves each sector as it was last made durable, or as it was last written.
+    /// Leaves in each sector what was last made durable, or what was last written.
     pub fn crash(&mut self, random: &mut Random) {
         let sectors = self
             .now

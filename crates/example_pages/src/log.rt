@@ -27,7 +27,7 @@ impl<'a> Log<'a> {
         self.next.saturating_add(pages as u64) <= self.device.len()
     }
 
-    /// Begins at the front again. Each old page stays until it is overwritten.
+    /// Goes back to the front of the log. Each old page stays until a new page overwrites it.
     pub fn restart(&mut self) {
         self.next = 0;
     }

@@ -19,7 +19,7 @@ pub enum StoreError {
     NoRecord,
     /// The transaction has more pages than the log.
     TooLarge,
-    /// A commit failed half way. Only a recovery shows whether it took place.
+    /// A commit failed half way. Only a recovery shows whether the commit took place.
     Interrupted,
     Memory,
 }
@@ -88,7 +88,7 @@ impl<'a> Store<'a> {
         self.checkpoint()
     }
 
-    /// Writes all changed pages to their file. Then the log begins at its front again.
+    /// Writes all changed pages to their file. After that, the log is written from its front again.
     pub fn checkpoint(&mut self) -> Result<(), StoreError> {
         self.admit()?;
         self.pages.flush()?;
@@ -192,8 +192,8 @@ impl<'a> Store<'a> {
         pages.push(page).map_err(|_| StoreError::Memory)
     }
 
-    /// Makes the store whole after a crash. Then the store has each transaction whose `commit` returned `Ok`, and may
-    /// have the interrupted transaction.
+    /// Makes the store whole after a crash: it has each transaction whose `commit` returned `Ok`, and may have the
+    /// interrupted transaction.
     pub fn recover(&mut self) -> Result<Recovered, StoreError> {
         let mut recovered = Recovered::default();
         let mut next = 0u64;
@@ -212,7 +212,8 @@ impl<'a> Store<'a> {
         Ok(recovered)
     }
 
-    /// Writes page n of the log to its place if the page there is torn or of an earlier transaction.
+    /// Copies page n of the log to its place in the file, if the page in this place is torn or of an earlier
+    /// transaction.
     fn redo(&mut self, n: u64, recovered: &mut Recovered) -> Result<(), StoreError> {
         let Some(page) = self.log.read(n)? else {
             return Ok(());
@@ -248,7 +249,7 @@ impl<'a> Store<'a> {
         &self.pages
     }
 
-    /// Returns the file of pages and the log. What was not written to them is lost.
+    /// Returns the file of pages and the log. Changes that were not written to these files are lost.
     pub fn into_files(self) -> (Disk<'a>, Disk<'a>) {
         let Store {
             pages,

@@ -1,6 +1,6 @@
 -- What a look-up of a response does to its host.
---     names path      whether this path is looked up
---     now             the time of the look-up
+--     `names path`: whether this path is looked up.
+--     `now`: the time of the look-up.
 use Rattle.std.specs.Prelude.{◌≡◌, ◌⊎◌, ℕ, nat_lt, Bool, if◌then◌else◌, List, vec_items, Option, Some, None, is_some}
 use Rattle.std.specs.Prelude.{Result, Ok, Err}
 use Rattle.lru_caches.specs.Counted.{looked_up as count_look_up}
@@ -29,7 +29,8 @@ module _ {K : Type 0} (names : K → Bool) (now : ℕ) where
   abbrev pub looked_up : List (K × Response) → List (K × Response)
   looked_up pairs = if is_some (fresh_at now (lookup names pairs)) then front names pairs else without names pairs
 
--- The call may change only the list, the counts, the table and the total of the limiter.
+-- The map `old` with this list and these counts, and with the table and the total of `left`. The call changes nothing
+-- else.
 abbrev pub with_list : {K S : Type 0} → List (K × Response) → Counts → Host K S → Host K S → Host K S
 with_list list counts left old = record old {
   pairs = list;
@@ -49,13 +50,13 @@ DropsStale {K} {S} names now old answer new = (left : Host K S) × (answer ≡ O
 abbrev pub IsCopy : Response → Response → Type 0
 IsCopy stored copy = (vec_items copy.body ≡ vec_items stored.body) × (copy.expires ≡ stored.expires)
 
--- The answer is a copy of the response, if there is one. Or memory ran out for the copy.
+-- The answer is a copy of the stored response, or `None` if there is none, or `Memory` if the copy runs out of memory.
 abbrev pub Copies : Option Response → Result (Option Response) TenantError → Type 0
 Copies None answer = answer ≡ Ok None
 Copies (Some stored) answer =
     ((copy : Response) × IsCopy stored copy × (answer ≡ Ok (Some copy))) ⊎ (answer ≡ Err Memory)
 
--- The call counts a hit if the response is fresh, and otherwise a miss.
+-- The call counts a hit if the stored response is fresh, and a miss if no fresh response is stored.
 abbrev pub GetsCopy : {K S : Type 0} → (K → Bool) → ℕ → Host K S
     → Result (Option Response) TenantError → Option (Host K S) → Type 0
 GetsCopy {K} {S} names now old answer new = (left : Host K S)

@@ -14,7 +14,8 @@ use Rattle.lru_tenants.specs.declared.error.TenantError.TheVariants.{Memory}
 use Rattle.example_responses.specs.LookUps.{Host}
 use Rattle.example_responses.specs.declared.cache.Response.{Response}
 
--- Either the response was put at a copy of the path, and counted, or memory ran out for the copy and nothing changed.
+-- Either the response was stored at a copy of the path, and was counted, or the copy of the path ran out of memory and
+-- nothing changed.
 abbrev pub PutsPath : {N S : Type 0} → Rules (String Global) Response (Counting Budget)
     → Offers (String Global) Response (Counting Budget) (String Global) → (Counting Budget → ℕ)
     → (S → String Global → ℕ) → (N → N → Bool) → (N → Bool) → List ℕ → Response
@@ -26,7 +27,7 @@ PutsPath rules offers budget_of hash_of eq host path response old answer new =
     old answer new)
     ⊎ ((answer ≡ Err Memory) × (new ≡ old))
 
--- how many responses the host has for other paths than the named path
+-- how many responses the host has for paths other than the named path
 abbrev pub others : {K S : Type 0} → (K → Bool) → Option (Host K S) → ℕ
 others names None = 0
 others names (Some map) = length (without names map.pairs)

@@ -19,7 +19,7 @@ use std::alloc::{AllocError, Global};
 /// What an entry costs in addition to the bytes of its path and of its response.
 const OVERHEAD: u64 = 64;
 
-/// A response. It is stale from the time `expires` on.
+/// A response, which is stale from the time `expires` on.
 #[derive(Drop)]
 pub struct Response {
     pub body: Vec<u8>,
@@ -167,7 +167,8 @@ impl ResponseCache {
         }
     }
 
-    /// Stores a response. Returns whether the host has it afterwards, and how many other responses were evicted.
+    /// Stores a response. Returns whether the host has the response afterwards, and how many other responses were
+    /// evicted.
     pub fn put(
         &mut self,
         host: &str,
@@ -188,8 +189,8 @@ impl ResponseCache {
         (stored, evicted)
     }
 
-    /// Returns a copy of the path's response if it is fresh, and counts a hit. Otherwise counts a miss, and removes a
-    /// stale response.
+    /// If the path's response is fresh, returns a copy, and counts a hit. If there is no fresh response, counts a miss,
+    /// and removes a stale response.
     pub fn get(&mut self, host: &str, path: &str, now: u64) -> Result<Option<Response>, TenantError>
         ensures fresh { IfOk result (λ found. IfSome found (λ response. now < response.expires)) }
         ensures gets { On string_eq (names_text host.now) (OfOpen (GetsCopy (names_text path.now) now))

@@ -1,5 +1,5 @@
-//! A cache of responses, a tenant for each host, driven by lines from standard input. It prints an answer to each line
-//! except `now`.
+//! A cache of responses with a tenant for each host. The program reads lines from standard input, and prints an answer
+//! to each line except `now`.
 #![tactic(auto)]
 
 mod cache;

@@ -3,7 +3,7 @@ use Rattle.std.specs.Prelude.{◌≡◌, ℕ, ◌-◌, if◌then◌else◌, Bool
 use Rattle.std.specs.Prelude.{slice_index_or, nat_eq, Option, Some, None, IsTrue}
 use Rattle.group_table.specs.Sizes.{full_capacity}
 
--- A deleted bucket once held an entry, and searches go on past it.
+-- A deleted bucket once held an entry. A search goes on past a deleted bucket.
 pub data Bucket (A : Type 0) : Type 0 where
   empty deleted : Bucket A
   full : A → Bucket A

@@ -7,7 +7,8 @@ use Rattle.std.specs.Fn.{Shared, FnReturnsAt}
 use Rattle.group_table.specs.Bucket.{Slot, empty, deleted, full}
 
 module _ {T F : Type 0} (closure : Shared F (Bor T × Unit {0}) (Result T AllocError)) (f : F) where
-  -- the bucket of the copy equals the old bucket, but a full bucket contains what f may return for the old entry
+  -- The copy of an empty or deleted bucket equals this bucket. The copy of a full bucket has the same tag, and an entry
+  -- that the closure f may return for the old entry.
   abbrev pub IsCopyOf : Slot T → Slot T → Type 0
   IsCopyOf empty copy = copy ≡ empty
   IsCopyOf deleted copy = copy ≡ deleted
@@ -17,8 +18,8 @@ module _ {T F : Type 0} (closure : Shared F (Bor T × Unit {0}) (Result T AllocE
   abbrev pub Copies : List (Slot T) → List (Slot T) → Type 0
   Copies old new = AllZip IsCopyOf old new
 
-  -- if the old place is bare, the place of the copy is bare; otherwise it holds an entry that f may return for the old
-  -- entry
+  -- The copy of a place without an entry has no entry. The copy of a place with an entry holds an entry that the
+  -- closure f may return for the old entry.
   abbrev pub IsPlaceCopy : Option T → Option T → Type 0
   IsPlaceCopy None copy = copy ≡ None
   IsPlaceCopy (Some entry) copy = (made : T) × FnReturnsAt closure f entry (Ok made) × (copy ≡ Some made)

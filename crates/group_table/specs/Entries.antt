@@ -8,7 +8,8 @@ module _ {T : Type 0} where
   places_of None = []
   places_of (Some row) = row.cells.places
 
-  -- the pointer, the places and the deed belong to one block of this allocator, with at least one place
+  -- The pointer, the places and the deed (the right to free the block) belong to one block of this allocator. The block
+  -- has at least one place.
   pub record IsOneBlock (row : Row T) (alloc : Global) : Type 0 where
     pub places_start : row.cells.start ≡ row.block.start
     pub deed_start : row.deed.start ≡ row.block.start
@@ -16,7 +17,7 @@ module _ {T : Type 0} where
     pub deed_alloc : row.deed.alloc ≡ alloc
     pub some : 0 < length row.cells.places
 
-  -- one block, or no block if there are no places
+  -- if there is a row of places, the row is one block
   abbrev pub IsRow : Option (Row T) → Global → Type 0
   IsRow None alloc = ⊤
   IsRow (Some row) alloc = IsOneBlock row alloc

@@ -1,4 +1,5 @@
--- Which hashes the entries of a table may have. A table stores no hash, and its contracts hold for all hashes that fit.
+-- Which hashes the entries of a table may have. A table stores no hashes, and its contracts hold for all hashes that
+-- fit the table (`Fits`).
 use Rattle.std.specs.Prelude.{◌≡◌, ℕ, List, nat_eq, if◌then◌else◌}
 use Rattle.group_table.specs.Bucket.{Slot, Tagged, full, bucket_at, IsFull, bucket_states}
 use Rattle.group_table.specs.Probe.{hash_tag, Reaches}

@@ -1,4 +1,5 @@
--- What the code reads in a group of buckets. No public clause cites this module.
+-- What a search reads in a group of 16 neighbouring buckets. A lane is a position in a group. No public clause cites
+-- this module.
 use Rattle.std.specs.Prelude.{◌≡◌, ◌≢◌, ℕ, ◌+◌, ◌-◌, ◌%◌, ◌<◌, ◌≤◌, min, Bool, true, List, [], ◌∷◌, ◌++◌, length}
 use Rattle.std.specs.Prelude.{nat_lt, slice_index}
 use Rattle.std.specs.Borrow.{Bor}
@@ -41,7 +42,8 @@ module _ {T : Type 0} (slots : List (Slot T)) where
       → bucket_at (bucket_states slots) ((start + lane) % length slots) ≢ empty
 
 module _ {T F : Type 0} (closure : Mut F (Bor T × Unit {0}) Bool) (slots : List (Slot T)) (tag start : ℕ) (f : F) where
-  -- f was called for the buckets with the tag, in the order of the lanes; it rejected each before b, and accepted b
+  -- The closure f was called with the entries that have the tag, in the order of the lanes. The closure accepted the
+  -- entry in bucket b, and rejected each entry before bucket b.
   pub record AcceptsIn (b : ℕ) (g : F) : Type 0 where
     pub lanes : ℕ
     pub in_group : lanes ≤ width slots
@@ -54,7 +56,7 @@ module _ {T F : Type 0} (closure : Mut F (Bor T × Unit {0}) Bool) (slots : List
   abbrev pub RejectsGroup : F → Type 0
   RejectsGroup g = RejectsEach closure slots f (tagged_lanes slots tag start (width slots)) g
 
-  -- the result of a group: an accepted bucket, the end of the search at an empty bucket, or neither
+  -- how the search of one group ends: f accepted a bucket, the search ended at an empty bucket, or the search goes on
   abbrev pub SearchesGroup : Searched → F → Type 0
   SearchesGroup (Accepted b) g = AcceptsIn b g
   SearchesGroup Ended g = RejectsGroup g × HasEmptyLane slots start (width slots)

@@ -25,20 +25,20 @@ module _ {T : Type 0} where
   abbrev pub states_by : List ℕ → List (Option T) → List BucketState
   states_by bytes entries = bucket_states (slots_of bytes entries)
 
-  -- the control byte at a position: first the bytes of the buckets, then empty bytes before position 16, and then the
-  -- bytes of the first buckets again
+  -- The control byte at a position. The bytes of all buckets come first, then empty bytes up to position 16, and last a
+  -- repetition of the bytes of the first buckets.
   abbrev pub byte_at : List (Slot T) → ℕ → ℕ
   byte_at slots position =
       if nat_lt position (length slots) then byte_of (bucket_at slots position)
       else if nat_lt position 16 then empty_byte
       else byte_of (bucket_at slots (position - max 16 (length slots)))
 
-  -- the byte is a tag if there is an entry, and otherwise the byte of an empty or a deleted bucket
+  -- The byte of a place with an entry is a tag. The byte of a place without an entry is `empty_byte` or `deleted_byte`.
   abbrev pub Agrees : ℕ → Option T → Type 0
   Agrees byte (Some entry) = IsTag byte
   Agrees byte None = (byte ≡ deleted_byte) ⊎ (byte ≡ empty_byte)
 
-  -- the control bytes after the byte of bucket b and its repetition were written
+  -- the control bytes after `byte` was written for bucket b, and at the repetition of this bucket's byte
   abbrev pub written : List ℕ → List (Option T) → ℕ → ℕ → List ℕ
   written control entries b byte = slice_set (slice_set control b byte) (b + max 16 (length entries)) byte
 

@@ -1,8 +1,8 @@
 -- The laws of a link type.
---     IsLinkType number link most         the laws of `LinkType`, if `MAX` is most
---     link_below laws n below             the link of a number below the number of `MAX` is not `MAX`
---     narrowest_most                      the number of `MAX` in the narrowest width
---     numbers_are_links                   each number up to `most` is its own link
+--     `IsLinkType number link most`: the laws of `LinkType`, with `most` as its `MAX`.
+--     `link_below laws n below`: the link of a number below the number of `MAX` is not `MAX`.
+--     `narrowest_most`: the number of `MAX` for the narrowest links.
+--     `numbers_are_links`: each number up to `most` is its own link.
 use Rattle.std.specs.Prelude.{◌≡◌, ◌≢◌, ◌≤◌, ◌<◌, ℕ, refl}
 use Rattle.std.proofs.Common.{ap, arith}
 

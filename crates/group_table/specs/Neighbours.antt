@@ -1,4 +1,5 @@
--- Runs of 16 neighbouring buckets on the circle of all buckets. A search reads such a run as one group.
+-- Runs of 16 neighbouring buckets on the circle of all buckets. A search reads a run of 16 neighbouring buckets as one
+-- group.
 use Rattle.std.specs.Prelude.{◌≡◌, ℕ, ◌+◌, ◌%◌, ◌<◌}
 
 module _ (Empty : ℕ → Type 0) (buckets b : ℕ) where

@@ -15,7 +15,7 @@ filled hash entry = full (record { tag = hash_tag hash; entry = entry })
 abbrev pub probed : ℕ → ℕ → ℕ → ℕ
 probed buckets hash step = (hash + 8 * (step / 16) * (step / 16 + 1) + step % 16) % buckets
 
--- in an order of buckets, b is the first that is not full
+-- b is the first bucket that is not full, among the buckets in this order
 pub record IsFirst (full_at : ℕ → Bool) (order : ℕ → ℕ) (b : ℕ) : Type 0 where
   pub step : ℕ
   pub there : order step ≡ b
@@ -27,12 +27,13 @@ module _ (states : List BucketState) (hash : ℕ) where
   abbrev pub state_probed : ℕ → BucketState
   state_probed step = bucket_at states (probed (length states) hash step)
 
-  -- a search reaches bucket b: no group before the group of b has an empty bucket, which would end the search
+  -- A search for the hash reaches bucket b. No group that the search visits before the group of b has an empty bucket,
+  -- which would end the search.
   pub record Reaches (b : ℕ) : Type 0 where
     pub step : ℕ
     pub there : probed (length states) hash step ≡ b
     pub goes_on : (before : ℕ) → before / 16 < step / 16 → state_probed before ≢ empty
 
-  -- in the order of a search, a bucket is the first that is not full
+  -- the first bucket that is not full, among the buckets in the order of a search for the hash
   abbrev pub IsFirstFree : ℕ → Type 0
   IsFirstFree = IsFirst (λ b. is_full (bucket_at states b)) (probed (length states) hash)

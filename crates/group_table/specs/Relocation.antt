@@ -6,13 +6,13 @@ use Rattle.group_table.specs.Bucket.{Slot, entry_at, entry_count, IsFull}
 use Rattle.group_table.specs.Fits.{Fits}
 
 module _ {N : Type 0} (number : N → ℕ) (none : N) where
-  -- the number of the bucket to which these links moved the entry of old bucket b
+  -- the number of the new bucket to which the entry of the old bucket b moved
   abbrev pub moved_to : List N → ℕ → ℕ
   moved_to links b = number (slice_index_or links b none)
 
 -- Below, `old b` is the entry that was in the old bucket b, if there was one.
 module _ {T N : Type 0} (number : N → ℕ) (none : N) (old : ℕ → Option T) (new : List (Slot T)) (links : List N) where
-  -- each entry is in the bucket that its link names, and no other bucket is full
+  -- each entry is in the new bucket that its link names, and no other new bucket is full
   pub record Moves : Type 0 where
     pub moved : (b : ℕ) (entry : T) → old b ≡ Some entry → entry_at new (moved_to number none links b) ≡ Some entry
     pub others : (b : ℕ) → old b ≡ None → slice_index_or links b none ≡ none
@@ -21,24 +21,24 @@ module _ {T N : Type 0} (number : N → ℕ) (none : N) (old : ℕ → Option T)
     pub onto : (c : ℕ) → IsFull new c
         → (b : ℕ) × (entry : T) × (old b ≡ Some entry) × (moved_to number none links b ≡ c)
 
-  -- if each entry keeps its hash, the hashes fit the new table
+  -- if each entry keeps its hash, the hashes fit the new table (`Fits`)
   abbrev pub KeepsHashes : (ℕ → ℕ) → Type 0
   KeepsHashes hash_of = (moved_hash_of : ℕ → ℕ)
       → ((b : ℕ) (entry : T) → old b ≡ Some entry → moved_hash_of (moved_to number none links b) ≡ hash_of b)
       → Fits new moved_hash_of
 
 module _ {T N : Type 0} (number : N → ℕ) (none : N) where
-  -- there is one link for each old bucket, and `links` describes the moves
+  -- `links` contains one link for each old bucket, which says where the entry of this bucket moved
   pub record IsRenumbering (old new : List (Slot T)) (links : List N) : Type 0 where
     pub one_each : length links ≡ length old
     pub moves : Moves number none (entry_at old) new links
 
-  -- a renumbering; or no links, if there are no entries
+  -- `links` is a renumbering of the old buckets, or empty if the table has no entries
   abbrev pub Renumbers : List (Slot T) → List (Slot T) → List N → Type 0
   Renumbers old new links = ((entry_count old ≡ 0) × (links ≡ [])) ⊎ IsRenumbering old new links
 
 module _ {T H : Type 0} (closure : Shared H (Bor T × Unit {0}) ℕ) (f : H) where
-  -- if the closure returns a hash for the entry of old bucket b, this is `hash_of b`
+  -- if the closure f returns a hash for the entry of the old bucket b, this hash is `hash_of b`
   abbrev pub GivesHashes : (ℕ → Option T) → (ℕ → ℕ) → Type 0
   GivesHashes old hash_of = (b hash : ℕ) (entry : T)
       → old b ≡ Some entry → FnReturnsAt closure f entry hash → hash ≡ hash_of b

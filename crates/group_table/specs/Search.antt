@@ -17,7 +17,8 @@ module _ {T : Type 0} (slots : List (Slot T)) (hash : ℕ) where
   abbrev pub candidates : ℕ → List ℕ
   candidates steps = tagged slots (hash_tag hash) (probed (length slots) hash) steps
 
-  -- `asked` lists the candidates of the first `steps` steps, each bucket once; a search reaches each of these steps
+  -- `asked` lists the candidates of the first `steps` steps of a search, each bucket once. No empty bucket ends the
+  -- search before these steps.
   pub record IsSearch (asked : List ℕ) : Type 0 where
     pub steps : ℕ
     pub within : steps ≤ length slots
@@ -33,12 +34,12 @@ module _ {T F : Type 0} (closure : Mut F (Bor T × Unit {0}) Bool) (slots : List
     pub there : entry_at slots b ≡ Some entry
     pub called : CalledAt closure f entry answer g
 
-  -- f was called with the entries in the buckets `asked`, in this order, rejected each, and became g
+  -- f was called with the entries in the buckets `asked`, in this order, and rejected each; after these calls, f is g
   abbrev pub RejectsEach : F → List ℕ → F → Type 0
   RejectsEach f asked g = FoldsTo (λ p b q. Answers p b false q) f asked g
 
-  -- A search for the hash called f with the entries in the buckets `asked`, and f rejected each. Then it called f with
-  -- the entry in b, and f accepted.
+  -- A search for the hash called f with the entries in the buckets `asked`, and f rejected each. Last, the search
+  -- called f with the entry in bucket b, and f accepted this entry.
   pub record Finds (hash : ℕ) (f : F) (b : ℕ) : Type 0 where
     pub asked : List ℕ
     pub search : IsSearch slots hash (asked ++ b ∷ [])
@@ -49,7 +50,7 @@ module _ {T F : Type 0} (closure : Mut F (Bor T × Unit {0}) Bool) (slots : List
 
   -- A search for the hash called f with the entries in the buckets `asked`, and f rejected each. `asked` contains each
   -- bucket with the tag that a search reaches. For any hashes that fit the table, `asked` contains the bucket of each
-  -- entry with this hash.
+  -- entry with the searched hash.
   pub record FindsNone (hash : ℕ) (f : F) : Type 0 where
     pub asked : List ℕ
     pub search : IsSearch slots hash asked

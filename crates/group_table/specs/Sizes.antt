@@ -13,7 +13,7 @@ IsBucketCount buckets = (buckets ≡ 0) ⊎ IsPowerFromFour buckets
 unfoldable pub full_capacity : ℕ → ℕ
 full_capacity buckets = if nat_le buckets 8 then buckets - 1 else buckets / 8 * 7
 
--- `power`, doubled until it is at least n, but at most `tries` times
+-- the number `power`, doubled until it is at least n, but doubled at most `tries` times
 abbrev pub first_power_from : ℕ → ℕ → ℕ → ℕ
 first_power_from zero n power = power
 first_power_from (suc tries) n power = if nat_le n power then power else first_power_from tries n (2 * power)
@@ -26,8 +26,8 @@ abbrev pub below : ℕ → ℕ → Option ℕ
 below limit n = if nat_lt n limit then Some n else None
 
 -- How many buckets n entries need, or `None` if this number is not below `max`. 0 entries need 0 buckets, up to 3 need
--- 4, and up to 7 need 8. More entries need the least power of two that is at least 8 * n / 7, and 8 * n must fit 64
--- bits.
+-- 4, and up to 7 need 8. From 8 entries on, n entries need the least power of two that is at least 8 * n / 7, and 8 * n
+-- must fit 64 bits.
 unfoldable pub buckets_for : ℕ → ℕ → Option ℕ
 buckets_for max entries =
     if entries == 0 then Some 0

@@ -8,7 +8,7 @@ pub record Insertions : Type 0 where
   pub placed : ℕ
   pub moved : ℕ
 
--- what is in each bucket, and how many insertions the table has made
+-- a table: what is in each of its buckets, and how many insertions it has made
 pub record Table (T : Type 0) : Type 0 where
   pub slots : List (Slot T)
   pub insertions : Insertions

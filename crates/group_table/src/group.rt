@@ -1,4 +1,4 @@
-//! Groups of sixteen control bytes, and masks of their lanes. Bit i of a mask is lane i.
+//! Groups of sixteen control bytes. Each byte is a lane, and a mask has a bit for each lane.
 ghost use Rattle.std.specs.Prelude.{◌≡◌, ◌≢◌, ◌≤◌, ◌<◌, ◌+◌, ◌-◌, ◌^◌, ◌↔◌, ℕ, length, slice_index};
 ghost use Rattle.std.specs.Int.Count.{count_trailing_zeros};
 ghost use Rattle.group_table.specs.Bytes.{empty_byte, IsTag, IsFreeByte};
@@ -23,7 +23,7 @@ pub fn match_tag(bytes: &[u8; 16], tag: u8) -> u16
         .to_bitmask() as u16
 }
 
-/// Returns the lanes of empty buckets, whose byte is 255.
+/// Returns which of the bytes are 255, the byte of an empty bucket.
 ///
 /// ```
 /// let bytes: [u8; 16] = [0, 255, 128, 5, 255, 255, 255, 255, 255, 255, 255, 255, 255, 255, 255, 255];
@@ -36,7 +36,7 @@ pub fn match_empty(bytes: &[u8; 16]) -> u16
     match_tag(bytes, EMPTY)
 }
 
-/// Returns the lanes of free buckets, whose byte has the top bit set: 255 if empty, 128 if deleted.
+/// Returns which of the bytes have the top bit set: 255 for an empty bucket, and 128 for a deleted bucket.
 ///
 /// ```
 /// let bytes: [u8; 16] = [0, 255, 128, 5, 255, 255, 255, 255, 255, 255, 255, 255, 255, 255, 255, 255];

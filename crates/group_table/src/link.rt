@@ -1,4 +1,4 @@
-//! `LinkType`: the widths of links, which are numbers of buckets.
+//! `LinkType`: the integer types of links.
 ghost use Rattle.std.specs.Prelude.{◌≡◌, ◌<◌, ℕ};
 ghost use Rattle.group_table.specs.Link.{IsLinkType};
 
@@ -7,7 +7,7 @@ ghost use Rattle.group_table.specs.Link.{IsLinkType};
 /// A table with links of type `N` has fewer than `N::MAX` buckets, so the width of the links limits the size of the
 /// table. The trait is implemented for `u8`, `u16`, `u32` and `usize`.
 pub trait LinkType: Copy {
-    /// The link that means no bucket. Its number is greater than the number of every bucket.
+    /// The link that means no bucket: its number is greater than the number of every bucket.
     const MAX: Self;
 
     /// `MAX`, as contracts see it.
@@ -16,7 +16,7 @@ pub trait LinkType: Copy {
     /// The number of a link.
     ghost number: { Self → ℕ };
 
-    /// The link with this number, which is below the number of `MAX`.
+    /// The link with this number, if the number is below the number of `MAX`.
     ghost link: { ℕ → Self };
 
     /// Returns the link with this number. No bits are lost.

@@ -1,7 +1,7 @@
 -- The map from byte strings to byte strings, and what its calls do.
---     names_bytes bytes k        the key k has these bytes
---     weight key value           the weight of an entry with a key and a value of these lengths
---     poured bytes buffer        if the bytes fit, the buffer with a copy of them at its front
+--     `names_bytes bytes k`: the key k has these bytes.
+--     `weight key value`: the weight of an entry with a key and a value of these lengths.
+--     `poured bytes buffer`: the buffer, with a copy of the bytes at its front if they fit.
 use Rattle.std.specs.Prelude.{◌≡◌, ◌++◌, ◌<◌, ◌≤◌, ◌+◌, ◌&&◌, ℕ, Bool, true, false, List, length, drop, Option, Some}
 use Rattle.std.specs.Prelude.{None, nat_le, nat_lt, option_map, vec_items, vec_len, is_some, if◌then◌else◌, map}
 use Rattle.std.specs.Prelude.{sum_by, Ok}
@@ -29,7 +29,7 @@ use Rattle.lru_c.specs.declared.bytes.answers.Value.{Value}
 abbrev pub Bytes : Type 0
 Bytes = Vec ℕ Global
 
--- a map of byte strings under a budget, as contracts see it
+-- what contracts say of a map of byte strings with a budget
 abbrev pub BytesMap : Type 0
 BytesMap = State Bytes Bytes Budget Mixer
 
@@ -81,7 +81,8 @@ abbrev pub answer_of : Option Bytes → Value
 answer_of None = record { len = 0; found = false }
 answer_of (Some value) = record { len = length value.items; found = true }
 
--- If a look-up finds a value, its length is returned. If the value fits into the buffer, it is copied.
+-- If a look-up finds a value, it returns the length of the value. If the value fits into the buffer, it is copied
+-- there.
 abbrev pub Reads : Option Bytes → Value → List ℕ → List ℕ → Type 0
 Reads value answer buffer left = (answer ≡ answer_of value) × (left ≡ poured_from value buffer)
 
@@ -95,8 +96,8 @@ lengths_of pair removed =
 abbrev pub fits : Bytes × Bytes → List ℕ → List ℕ → Bool
 fits pair key value = nat_le (length pair.0.items) (length key) && nat_le (length pair.1.items) (length value)
 
--- If a look-up finds an entry, the lengths of its key and its value are returned. If both fit into their buffers, both
--- are copied.
+-- If a look-up finds an entry, it returns the lengths of the entry's key and value. If both fit into their buffers,
+-- both are copied there.
 abbrev pub Shows : Option (Bytes × Bytes) → Popped → List ℕ → List ℕ → List ℕ → List ℕ → Type 0
 Shows None answer key key_left value value_left = (answer ≡ no_entry) × (key_left ≡ key) × (value_left ≡ value)
 Shows (Some pair) answer key key_left value value_left = (answer ≡ lengths_of pair false)
@@ -106,13 +107,13 @@ Shows (Some pair) answer key key_left value value_left = (answer ≡ lengths_of 
 abbrev pub texts : List (Bytes × Bytes) → List (List ℕ × List ℕ)
 texts pairs = map (λ pair. (pair.0.items, pair.1.items)) pairs
 
--- The keys and values of a copy have the same bytes in the same order, and everything else is equal.
+-- The entries of a copy have keys and values with the same bytes, in the same order, and everything else is equal.
 pub record Copies (old copy : BytesMap) : Type 0 where
   pub entries : texts copy.pairs ≡ texts old.pairs
   pub rest : copy ≡ record old { pairs = copy.pairs }
 
--- If the oldest entry fits into two buffers, it is removed and copied into them. Otherwise only its lengths are
--- returned.
+-- If the oldest entry fits into the two buffers, the entry is copied into them and removed. If the oldest entry does
+-- not fit, only the lengths of its key and value are returned.
 pub data Pops (old : BytesMap) (answer : Popped) (key key_left value value_left : List ℕ)
     (new : BytesMap) : Type 0 where
   none : last old.pairs ≡ None → answer ≡ no_entry → key_left ≡ key → value_left ≡ value → new ≡ old →
@@ -127,18 +128,18 @@ pub data Pops (old : BytesMap) (answer : Popped) (key key_left value value_left 
 abbrev pub others_weight : List ℕ → BytesMap → ℕ
 others_weight key map = total_weight (without (names_bytes key) map.pairs)
 
--- The new entry alone is within the budget, but not together with the entries of other keys.
+-- Whether a put must evict: the new entry alone is within the budget, but not together with the entries of other keys.
 abbrev pub must_evict : List ℕ → ℕ → BytesMap → Bool
 must_evict key value_len map = let added = weight (length key) value_len in
     nat_le added map.limiter.limit && nat_lt map.limiter.limit (others_weight key map + added)
 
--- A pop for a put of the key `own`, with a value of `n` bytes.
+-- A pop that makes room for a put of the key `own` with a value of n bytes.
 pub data PopsFor (own : List ℕ) (n : ℕ) (old : BytesMap) (answer : Popped) (key key_left value value_left : List ℕ)
     (new : BytesMap) : Type 0 where
   has_room : must_evict own n old ≡ false → answer ≡ no_entry → key_left ≡ key → value_left ≡ value → new ≡ old →
       PopsFor own n old answer key key_left value value_left new
-  -- The entry of the key becomes the newest. So the oldest entry of another key is now the oldest of all. It is popped
-  -- if it fits.
+  -- The entry of the key `own` becomes the newest, so that the oldest entry has another key. The oldest entry is popped
+  -- if it fits into the buffers.
   pops : must_evict own n old ≡ true → (pair : Bytes × Bytes) →
       last (without (names_bytes own) old.pairs) ≡ Some pair → last (front (names_bytes own) old.pairs) ≡ Some pair →
       Pops (promoted (names_bytes own) old) answer key key_left value value_left new →
@@ -156,9 +157,9 @@ abbrev pub FindsMemory : List ℕ → BytesMap → Type 0
 FindsMemory key ready = has_bytes key ready ≡ false → 1 ≤ growth_left ready
 
 pub data Puts (key value : List ℕ) (old : BytesMap) (code : ℕ) (new : BytesMap) : Type 0 where
-  -- The key alone is over the budget.
+  -- The key alone has more bytes than the budget.
   too_long : old.limiter.limit < length key → code ≡ 1 → new ≡ old → Puts key value old code new
-  -- The entry alone is over the budget. The old entry of the key is removed.
+  -- The new entry alone is over the budget. The old entry of the key is removed.
   too_heavy : old.limiter.limit < weight (length key) (length value) → code ≡ 1 →
       (value_gone : Option Bytes) → Remove bytes_rules (names_bytes key) old value_gone new →
       Puts key value old code new

@@ -1,4 +1,4 @@
--- What a handle owns.
+-- What a handle of the C library owns.
 use Rattle.std.specs.Prelude.{◌≡◌, ◌≤◌, ℕ, length, Option, None, Some}
 use Rattle.std.specs.Borrow.{Fml, RattleType, u32, u64}
 use Rattle.std.specs.Box.Ownership.{box_owns}
@@ -22,7 +22,7 @@ use Rattle.lru_model.specs.Sizes.{max_of_32_bits}
 use Rattle.lru_model.specs.State.{State}
 use Rattle.schnellru.specs.contracts.map.LruMap as lru_map
 
--- a map of numbers under a maximum length, as contracts see it
+-- what contracts say of a map of numbers with a maximum length
 abbrev pub Map : Type 0
 Map = State ℕ ℕ ℕ Mixer
 
@@ -47,7 +47,7 @@ maybe_row = option.the_row map_row
 abbrev pub c_heap : Global
 c_heap = record { memory = record { seal = tt } }
 
--- `start` is null, or owns the boxed value
+-- `start` is null if there is no value, or else owns the boxed value
 abbrev pub owns_boxed : (row : RattleType) → Ptr → Option row.Denot → Fml
 owns_boxed row start None = feq Ptr start null_ptr
 owns_boxed row start (Some value) = box_owns (heap.ghosts.dealloc_token c_heap) row start value

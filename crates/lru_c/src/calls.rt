@@ -21,7 +21,8 @@ use crate::handle::Map;
 use schnellru::{ByLength, RandomState, laws};
 use std::alloc::{AllocError, Global};
 
-/// Inserts a value. If this evicts an entry of another key, writes the entry to `place`. Returns the replaced value.
+/// Inserts a value. If the insert evicts an entry of another key, writes this entry to `place`. Returns the replaced
+/// value.
 #[inline]
 pub fn insert(map: &mut Map, key: u64, value: u64, place: &mut Entry) -> Inserted
     requires fits { FitsHandle map.old }

@@ -1,7 +1,7 @@
-//! The functions that C calls. `bindings/c/lru.h` documents each. C does not pass the parameter `alloc`.
+//! The functions that C calls. `bindings/c/lru.h` documents each function. C does not pass the parameter `alloc`.
 //!
-//! If a handle has no map, every call except `lru_new` and `lru_clone` changes nothing and finds nothing. A call that
-//! inserts returns `NO_MAP`.
+//! If a handle has no map, every call except `lru_new` and `lru_clone` changes nothing and finds nothing. Without a
+//! map, a call that inserts returns `NO_MAP`.
 ghost use Rattle.std.specs.Prelude.{◌≡◌, ◌≤◌, ◌+◌, ℕ, nat_eq, length, is_some, is_ok, Option, Some, None};
 ghost use Rattle.std.specs.Prelude.{Result, Bool, true, false, ⊤};
 ghost use Rattle.std.specs.declared.alloc.AllocError.{AllocError};

@@ -1,6 +1,6 @@
 -- What a memo or a loader may return, and what a memo remembers.
---     eq            the keys' `==`
---     post k v      the function may return v at k
+--     `eq`: the `==` of the keys.
+--     `post k v`: the function may return v at k.
 use Rattle.std.specs.Prelude.{◌≡◌, ℕ, Bool, true, List, Result, Ok, Err}
 use Rattle.std.specs.List.{All}
 use Rattle.std.specs.declared.alloc.AllocError.{AllocError}
@@ -8,13 +8,13 @@ use Rattle.lru_limits.specs.Rules.{Rules, Offers}
 use Rattle.lru_model.specs.GetOrInserts.{MakesNewest}
 use Rattle.lru_model.specs.State.{State}
 
--- what a contract sees of a memo or a loader
+-- what a contract says of a memo or a loader
 pub record Memoized (K V S H F : Type 0) : Type 0 where
   pub map : State K V S H
   pub function : F
 
--- The call returned `value`. If `value` was stored at the key, its entry becomes the newest. If no value was stored,
--- the call inserts `value`.
+-- The call returned `value`. If `value` was stored at the key, the entry of the key becomes the newest. If no value was
+-- stored at the key, the call inserts `value`.
 abbrev pub Remembers : {K V S H : Type 0} → Rules K V S → Offers K V S K → (K → K → Bool) → (H → K → ℕ) → K → V
     → State K V S H → State K V S H → Type 0
 Remembers rules offers eq hash_of key value old new = (kept : Result Bool AllocError)
@@ -31,8 +31,8 @@ module _ {K V : Type 0} (eq : K → K → Bool) (post : K → V → Type 0) wher
 abbrev pub loads : {K V E : Type 0} → (K → Result V E → Type 0) → K → V → Type 0
 loads post key value = post key (Ok value)
 
--- If the function returned a value, `reads` relates the value to the result. If the function failed, the result is its
--- error.
+-- If the function returned a value, `reads` relates this value to the result. If the function failed, the result is the
+-- error of the function.
 pub data ReadsLoaded {V E R : Type 0} (gives : Result V E → Type 0) (reads : V → R → Type 0) (result : Result R E)
     : Type 0 where
   loaded : (value : V) (given : R) → gives (Ok value) → reads value given → result ≡ Ok given →

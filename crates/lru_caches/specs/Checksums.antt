@@ -1,21 +1,21 @@
--- The checksum of a block: 8 bytes at its end.
+-- The checksum of a block: the last 8 bytes of the block.
 use Rattle.std.specs.Prelude.{ℕ, zero, suc, ◌-◌, List, [], ◌∷◌, ◌++◌, length, take, map}
 use Rattle.std.specs.Int.{w64, to_le_bytes}
 use Rattle.lru_limits.specs.Mixing.{seeded, written, closed}
 use Rattle.lru_caches.specs.Files.{Event}
 
--- the hash of bytes, by the hasher with the default seeds
+-- the hash of these bytes, by the hasher with the default seeds
 unfoldable pub hash_of : List ℕ → ℕ
 hash_of bytes = closed (written (seeded (1 ∷ 2 ∷ 3 ∷ 4 ∷ [])) bytes)
 
 abbrev pub with_tail : List ℕ → ℕ → List ℕ
 with_tail block number = take (length block - 8) block ++ to_le_bytes w64 number
 
--- block n with its checksum in its last 8 bytes: the hash of the other bytes and of n
+-- block n with its checksum in its last 8 bytes. The checksum is the hash of the block's other bytes and of n.
 abbrev pub with_checksum : ℕ → List ℕ → List ℕ
 with_checksum n block = with_tail block (hash_of (with_tail block n))
 
--- the bytes of an event; a block gets its checksum
+-- the bytes of an event, in which a block that is read or written has its checksum
 abbrev pub event_bytes : ℕ → ℕ → List ℕ → List ℕ
 event_bytes zero n bytes = bytes
 event_bytes (suc zero) n bytes = with_checksum n bytes

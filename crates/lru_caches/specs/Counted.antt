@@ -4,7 +4,7 @@ use Rattle.lru_caches.specs.declared.counted.Counts.{Counts}
 use Rattle.lru_model.specs.Lists.{without}
 use Rattle.lru_model.specs.State.{State}
 
--- what a contract sees of a counted map
+-- what a contract says of a counted map
 pub record Counted (K V S H : Type 0) : Type 0 where
   pub map : State K V S H
   pub counts : Counts
@@ -29,7 +29,7 @@ inserted (Ok false) n counts = record counts {
 }
 inserted (Err error) n counts = record counts { evictions = count_up counts.evictions n }
 
--- how many pairs of other keys were evicted
+-- how many pairs of keys other than the named key were evicted
 abbrev pub evicted : {K V : Type 0} → (K → Bool) → List (K × V) → List (K × V) → ℕ
 evicted names old new = length (without names old) - length (without names new)
 

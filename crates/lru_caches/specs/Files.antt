@@ -2,11 +2,11 @@
 -- bytes.
 use Rattle.std.specs.Prelude.{◌≡◌, ℕ, zero, suc, nat_eq, Bool, if◌then◌else◌, List, [], ◌∷◌, Option, Some, None, slice_index}
 
--- A call: its kind, the number of the block, and the bytes that were read or written.
+-- One call on a file: its kind, the number of the block, and the bytes that were read or written.
 abbrev pub Event : Type 0
 Event = ℕ × ℕ × List ℕ
 
--- A read, a write or a sync, which failed or succeeded.
+-- The events of a read, a write and a sync, each failed or successful.
 abbrev pub unread : ℕ → Event
 unread n = (0, n, [])
 
@@ -32,8 +32,8 @@ abbrev pub or_else : Option (List ℕ) → List ℕ → Option (List ℕ)
 or_else None bytes = Some bytes
 or_else (Some known) bytes = Some known
 
--- What is known of a block after an event; `old` was known before. `same` says whether the event is of this block. A
--- failed write may leave anything.
+-- What is known of a block after an event, if `old` was known before it. `same` says whether the event is of this
+-- block. A failed write may leave any bytes.
 abbrev pub known_after : ℕ → Bool → List ℕ → Option (List ℕ) → Option (List ℕ)
 known_after zero same bytes old = old
 known_after (suc zero) same bytes old = if same then or_else old bytes else old
@@ -41,12 +41,13 @@ known_after (suc (suc zero)) same bytes old = if same then None else old
 known_after (suc (suc (suc zero))) same bytes old = if same then Some bytes else old
 known_after (suc (suc (suc (suc more)))) same bytes old = old
 
--- the block of each number after these events, newest first, if the block is known
+-- the known bytes of block n after these events (newest first), or `None` if the block is not known
 abbrev pub known : List Event → ℕ → Option (List ℕ)
 known [] n = None
 known (e ∷ earlier) n = known_after e.0 (nat_eq n e.1) e.2 (known earlier n)
 
--- What a crash after an event leaves of a block, if the events determine it. `block` is what is known of the block.
+-- What a crash after an event leaves of a block, or `None` if the events do not determine this. `block` is what is
+-- known of the block, and `old` what a crash before the event leaves.
 abbrev pub left_after : ℕ → Bool → Option (List ℕ) → Option (List ℕ) → Option (List ℕ)
 left_after zero same block old = old
 left_after (suc zero) same block old = old
@@ -55,12 +56,13 @@ left_after (suc (suc (suc zero))) same block old = if same then None else old
 left_after (suc (suc (suc (suc zero)))) same block old = old
 left_after (suc (suc (suc (suc (suc more))))) same block old = block
 
--- what a crash leaves as block n, if the events determine it
+-- what a crash leaves of block n, or `None` if the events do not determine this
 abbrev pub left : List Event → ℕ → Option (List ℕ)
 left [] n = None
 left (e ∷ earlier) n = left_after e.0 (nat_eq n e.1) (known earlier n) (left earlier n)
 
--- A crash may leave a block that contracts see as `block`. `seen` gives what contracts see of a block's bytes.
+-- A crash may leave a block whose bytes contracts see as `block`. `seen` gives what contracts see of the bytes of a
+-- block.
 abbrev pub IsLeft : (List ℕ → List ℕ) → Option (List ℕ) → List ℕ → Type 0
 IsLeft seen None block = Unit {0}
 IsLeft seen (Some only) block = block ≡ seen only
@@ -77,7 +79,7 @@ abbrev pub failures : List Event → ℕ
 failures [] = 0
 failures (e ∷ earlier) = failures_after e.0 (failures earlier)
 
--- A read of a known block returned this block.
+-- If the event is a read of a known block, the read returned this block.
 abbrev pub Agrees : ℕ → List ℕ → Option (List ℕ) → Type 0
 Agrees (suc zero) bytes (Some block) = bytes ≡ block
 Agrees kind bytes block = Unit {0}

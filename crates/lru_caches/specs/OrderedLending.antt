@@ -14,6 +14,7 @@ module _ (K V S H : RattleType) (key : HashMembers K.Denot)
   map_row = the_row K V S H (record { eq = key.eq }) (record { hash_input = key.hash_input })
       (record { hash_of = hashed.hash_of }) (record { build_hasher = hashed.build_hasher }) hash
 
-  -- The named key has the value that was last written through r. If nothing was lent, the map does not change.
+  -- After the loan, the named key has the value that was written last through r. If no value was lent, the map does not
+  -- change.
   abbrev pub lends_value : MutBor (List (K.Denot × V.Denot)) → (K.Denot → Bool) → Option (MutBor V.Denot) → Fml
   lends_value m names r = LendsIf map_row V m r (λ last. set_value names m.now last) m.now

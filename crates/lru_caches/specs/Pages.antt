@@ -1,5 +1,5 @@
 -- A page cache: which blocks it shows, which of its pages are dirty, and what a crash may leave.
---     d    the ghost members of the device: what contracts see of a block, the blocks, what a crash may leave of them
+--     `d`: the ghost members of the device, such as what its blocks are and what a crash may leave of them.
 use Rattle.std.specs.Prelude.{◌≡◌, ◌≢◌, ◌⊎◌, ◌+◌, ◌-◌, ◌^◌, ◌<◌, ℕ, zero, suc, min, Bool, true, false, not, ◌&&◌, ◌||◌}
 use Rattle.std.specs.Prelude.{if◌then◌else◌, List, [], ◌∷◌, ◌++◌, map, length, reverse, filter, nat_eq, nat_lt, Option}
 use Rattle.std.specs.Prelude.{Some, None, option_map, is_some, IsTrue, IsPermutation, Result, Ok, Err, IfErr, OnOk, OnErr}
@@ -13,14 +13,14 @@ use Rattle.lru_caches.specs.declared.page_cache.pages.Page.{Page}
 use Rattle.lru_caches.specs.declared.page_cache.PageError.{PageError}
 use Rattle.lru_caches.specs.declared.page_cache.PageError.TheVariants.{Device, Memory, NoBlock, Broken, Full}
 
--- what a contract sees of a cache
+-- what a contract says of a page cache
 pub record Cached (B D : Type 0) : Type 0 where
   -- the cached pages by their numbers, newest first
   pub pages : List (ℕ × Page B)
   pub capacity : ℕ
   pub keeps_dirty : Bool
-  -- how many successful reads, writes and pins found their page cached, how many did not, and how many pages were
-  -- evicted
+  -- how many successful reads, writes and pins found their page cached (hits), how many did not (misses), and how many
+  -- pages were evicted
   pub counts : Counts
   pub device : D
 
@@ -50,7 +50,7 @@ module _ {B : Type 0} where
   abbrev pub unpinned_at : ℕ → List (ℕ × Page B) → List (ℕ × Page B)
   unpinned_at n pages = with_no_pin n (lookup (nat_eq n) pages) pages
 
-  -- A page may be evicted if it is not pinned. If the cache keeps dirty pages, the page must also be clean.
+  -- A page may be evicted unless it is pinned, or dirty in a cache that keeps dirty pages.
   abbrev pub may_go : Bool → Page B → Bool
   may_go keeps_dirty page = not (page.is_pinned || keeps_dirty && page.is_dirty)
 
@@ -66,7 +66,7 @@ module _ {B : Type 0} where
   goes_dirty None pages = false
   goes_dirty (Some n) pages = is_dirty (lookup (nat_eq n) pages)
 
-  -- the pages before a new page is cached: a full cache evicts the oldest page that it may evict
+  -- the pages that are left just before a new page is cached; a full cache evicts the oldest page that it may evict
   abbrev pub with_room : ℕ → Bool → List (ℕ × Page B) → List (ℕ × Page B)
   with_room capacity keeps_dirty pages =
       if nat_lt (length pages) capacity then pages else evicted (victim keeps_dirty pages) pages
@@ -81,7 +81,7 @@ hit counts = record counts { hits = min (counts.hits + 1) (2 ^ 64 - 1) }
 abbrev pub evicts : ℕ → Counts → Counts
 evicts n counts = record counts { evictions = min (counts.evictions + n) (2 ^ 64 - 1) }
 
--- the counts after a page was brought, and n pages were evicted for it
+-- the counts after a miss, for which n pages were evicted
 abbrev pub missed : ℕ → Counts → Counts
 missed n counts = record (evicts n counts) { misses = min (counts.misses + 1) (2 ^ 64 - 1) }
 
@@ -95,7 +95,7 @@ module _ {B D : Type 0} where
   abbrev pub pinned : Cached B D → ℕ → Bool
   pinned cache n = is_pinned (lookup (nat_eq n) cache.pages)
 
-  -- The pages after a use of page n: this page, and then the others.
+  -- The pages after a use of page n: page n comes first, and the other pages follow.
   abbrev pub pages_after : ℕ → Page B → Cached B D → List (ℕ × Page B)
   pages_after n page cache =
       (n, page) ∷ with_room cache.capacity cache.keeps_dirty (without (nat_eq n) cache.pages)
@@ -133,23 +133,23 @@ module _ {B D E S : Type 0} (d : device.Ghosts D B E S) where
   abbrev pub block_at : List (ℕ × Page B) → D → ℕ → Option S
   block_at pages device n = block_or (lookup (nat_eq n) pages) (d.blocks device n)
 
-  -- the block that a cache shows at each number
+  -- the block that a reader of the cache sees at number n
   abbrev pub shown : Cached B D → ℕ → Option S
   shown cache n = block_at cache.pages cache.device n
 
   abbrev pub IsGood : D → Type 0
   IsGood device = IsTrue (d.is_usable device) × d.IsHonest device
 
-  -- If the device is good, each block that was shown is still shown.
+  -- If the device is good (`IsGood`), the cache still shows each block that it showed before.
   abbrev pub ShowsTheSame : Cached B D → Cached B D → Type 0
   ShowsTheSame old new = IsGood new.device → (n : ℕ) (block : S) → shown old n ≡ Some block → shown new n ≡ Some block
 
-  -- there was a dirty page, and `block` is its block or a torn block
+  -- the page was cached and dirty, and `block` is its block or a torn block
   abbrev pub IsWritten : Option (Page B) → S → Type 0
   IsWritten None block = ⊥
   IsWritten (Some page) block = IsTrue page.is_dirty × ((block ≡ d.seen page.block) ⊎ d.IsTorn block)
 
-  -- a crash may leave only what it might leave before, and the blocks of pages that were dirty, perhaps torn
+  -- A crash may leave only what a crash might leave before the call, and the blocks of dirty pages, whole or torn.
   abbrev pub CrashAdds : List (ℕ × Page B) → D → D → Type 0
   CrashAdds pages old new = (n : ℕ) (block : S) → d.may_leave new n block
       → d.may_leave old n block ⊎ IsWritten (lookup (nat_eq n) pages) block
@@ -157,7 +157,7 @@ module _ {B D E S : Type 0} (d : device.Ghosts D B E S) where
   abbrev pub CrashKeeps : D → D → Type 0
   CrashKeeps old new = (n : ℕ) (block : S) → d.may_leave new n block → d.may_leave old n block
 
-  -- If the device is good, each clean page has the device's block.
+  -- If the device is good (`IsGood`), each clean page contains the block that the device has at its number.
   abbrev pub AreClean : List (ℕ × Page B) → D → Type 0
   AreClean pages device = IsGood device → (n : ℕ) (page : Page B) → lookup (nat_eq n) pages ≡ Some page
       → page.is_dirty ≡ false → d.blocks device n ≡ Some (d.seen page.block)
@@ -170,13 +170,13 @@ module _ {B D E S : Type 0} (d : device.Ghosts D B E S) where
     pub usable : d.is_usable new ≡ d.is_usable old
     pub honest : d.IsHonest new → d.IsHonest old
 
-  -- The pages of these numbers were written, one after another, and the device got no other call.
+  -- The pages with these numbers were written to the device, one after another, and the device got no other call.
   abbrev pub AreWritten : List ℕ → List (ℕ × Page B) → D → D → Type 0
   AreWritten [] pages old new = new ≡ old
   AreWritten (n ∷ numbers) pages old new = (page : Page B) × (between : D) × (lookup (nat_eq n) pages ≡ Some page)
       × d.write_gives old n (d.seen page.block) between × AreWritten numbers pages between new
 
-  -- The dirty pages were written, each once, in the order of their numbers, and then the device was synced.
+  -- A flush wrote the dirty pages, each once, in the order of their numbers, and after this synced the device.
   pub record IsFlush (pages : List (ℕ × Page B)) (old new : D) : Type 0 where
     pub numbers : List ℕ
     pub all_dirty : IsPermutation (dirty_numbers pages) numbers
@@ -185,7 +185,7 @@ module _ {B D E S : Type 0} (d : device.Ghosts D B E S) where
     pub writes : AreWritten numbers pages old written
     pub synced : d.sync_gives written new
 
-  -- a flush that stopped after some of its writes, or in the `sync` after all of them
+  -- a flush that stopped after some of its writes, or in the `sync` after all its writes
   pub record IsCutOff (pages : List (ℕ × Page B)) (old new : D) : Type 0 where
     pub numbers : List ℕ
     pub rest : List ℕ
@@ -205,7 +205,8 @@ module _ {B D E S : Type 0} (d : device.Ghosts D B E S) where
   abbrev pub IsFlushCause : D → D → PageError E → Type 0
   IsFlushCause old new e = IsFault old new e ⊎ ((e ≡ Broken) × (d.is_usable old ≡ false))
 
-  -- After a failed call, the pages and the counts are the same, or memory ran out after an eviction, which is counted.
+  -- Either a failed call does not change the pages and the counts, or memory ran out after an eviction, and the
+  -- eviction is counted.
   abbrev pub Leaves : Cached B D → Cached B D → PageError E → Type 0
   Leaves old new e = ((new.pages ≡ old.pages) × (new.counts ≡ old.counts))
       ⊎ ((e ≡ Memory) × (new.pages ≡ with_room old.capacity old.keeps_dirty old.pages)
@@ -216,7 +217,7 @@ module _ {B D E S : Type 0} (d : device.Ghosts D B E S) where
   IsCause n old new e = IsFault old.device new e ⊎ ((e ≡ Broken) × (d.is_usable old.device ≡ false))
       ⊎ ((e ≡ NoBlock) × (d.has old.device n ≡ false)) ⊎ (e ≡ Memory) ⊎ ((e ≡ Full) × IsFull n old)
 
-  -- what each call that reads, writes or pins page n does
+  -- what every call does that reads, writes or pins page n
   pub record UsesPage {A : Type 0} (n : ℕ) (old : Cached B D) (result : Result A (PageError E)) (new : Cached B D)
       : Type 0 where
     pub crash : CrashAdds old.pages old.device new.device
@@ -244,13 +245,13 @@ module _ {B D E S : Type 0} (d : device.Ghosts D B E S) where
     pub broken : d.is_usable old.device ≡ false → e ≡ Broken
     pub uses : UsesPage {A = Unit {0}} n old (Err e) new
 
-  -- from page `start` on, `count` pages were read, one after another
+  -- `count` pages were read, one after another, beginning with page `start`
   abbrev pub ReadsPages : ℕ → ℕ → Cached B D → Cached B D → Type 0
   ReadsPages start zero old new = new ≡ old
   ReadsPages start (suc count) old new =
       (between : Cached B D) × ReadsPages start count old between × ReadsPage (start + count) between new
 
-  -- the pages from `start` on were read, and then a read of a page below `end` failed
+  -- the pages from `start` on were read one after another, until the read of a page below `end` failed
   abbrev pub ReadsUntil : ℕ → ℕ → Cached B D → Cached B D → PageError E → Type 0
   ReadsUntil start end old new e = (count : ℕ) × (start + count < end) × (between : Cached B D)
       × ReadsPages start count old between × ReadFails (start + count) between e new

@@ -2,9 +2,9 @@ ghost use Rattle.std.specs.Prelude.{◌≡◌, ◌≢◌, ◌⊎◌, ℕ, Bool, 
 
 /// A device of numbered blocks, such as a disk or a file. Any call may fail.
 ///
-/// A crash may leave each block as it was at the last `sync`, as it was written later, or torn. A write changes only
-/// its own block, even if it fails or the machine stops in the middle. After a failed `sync`, no clause says what the
-/// blocks are, and no `read`, `write` or `sync` may be called.
+/// After a crash, each block may be as it was at the last `sync`, as it was written later, or torn. A write changes
+/// only its own block, even if the write fails or the machine stops in the middle. After a failed `sync`, no clause
+/// says what the blocks are, and no `read`, `write` or `sync` may be called.
 ///
 /// For most devices a contract sees the block itself: `ghost seen = { λ block. block };`.
 ///
@@ -20,10 +20,10 @@ pub trait BlockDevice<B> {
     /// Why a call fails.
     type Error;
 
-    /// The type of what contracts see of a block.
+    /// The type of a block, as contracts see it.
     type Seen;
 
-    /// What contracts see of a block.
+    /// A block, as contracts see it.
     ghost seen: { B → Self.Seen };
 
     /// Whether the device has a block of this number. No call changes this.
@@ -35,31 +35,31 @@ pub trait BlockDevice<B> {
     /// What a crash at this moment may leave as the block of this number.
     ghost may_leave: { Self → ℕ → Self.Seen → Type 0 };
 
-    /// Whether no `sync` has failed.
+    /// True unless a `sync` has failed.
     ghost is_usable: { Self → Bool };
 
     /// A number that changes exactly when a call fails, such as the number of failed calls.
     ghost faults: { Self → ℕ };
 
-    /// What a crash during a write may leave, other than the old and the new block. By default this is any block. A
-    /// device that writes blocks whole defines `λ _. ⊥` (none).
+    /// What a crash during a write may leave, other than the old and the new block. By default, a crash may leave any
+    /// block. A device that never tears a block defines `λ _. ⊥` (none).
     ghost IsTorn: { Self.Seen → Type 0 } = { λ _. Unit {0} };
 
-    /// Each read of a known block has returned this block. For a file this is a premise.
+    /// Says that each read of a known block has returned this block. For a file, `IsHonest` is a premise.
     ghost IsHonest: { Self → Type 0 } = { λ _. Unit {0} };
 
-    /// A `write` of a block to this number may lead from the first state to the second. By default this holds for any
-    /// two states.
+    /// Says that a `write` of a block to this number may lead from the first state to the second. By default,
+    /// `write_gives` holds for any two states.
     ghost write_gives: { Self → ℕ → Self.Seen → Self → Type 0 } = { λ _ _ _ _. Unit {0} };
 
-    /// As `write_gives`, for a `sync`.
+    /// Says that a `sync` may lead from the first state to the second.
     ghost sync_gives: { Self → Self → Type 0 } = { λ _ _. Unit {0} };
 
     /// Returns whether the device has a block of this number.
     fn has(&self, n: u64) -> bool
         ensures { result ≡ has self.now n };
 
-    /// Returns whether no `sync` has failed.
+    /// Returns true unless a `sync` has failed.
     fn is_usable(&self) -> bool
         ensures { result ≡ is_usable self.now };
 
@@ -83,7 +83,7 @@ pub trait BlockDevice<B> {
     ///
     /// # Errors
     ///
-    /// The device failed. This block may be anything now, and no other block has changed.
+    /// The device failed. The block of this number may be anything now, and no other block has changed.
     fn write(&mut self, n: u64, block: &B) -> Result<(), Self::Error>
         requires there { IsTrue (has self.old n) }
         requires usable { IsTrue (is_usable self.old) }
@@ -114,6 +114,6 @@ pub trait BlockDevice<B> {
         ensures usable { is_usable self.new ≡ is_ok result }
         ensures numbers { (m : ℕ) → has self.new m ≡ has self.old m };
 
-    /// A crash may leave each known block as it is. So no impl can claim that a crash is impossible.
+    /// A crash may leave each known block as it is, so no impl can claim that a crash is impossible.
     ghost stays: { (device : Self) (n : ℕ) (b : Self.Seen) → blocks device n ≡ Some b → may_leave device n b };
 }

@@ -125,13 +125,13 @@ impl<
     /// Returns a result of the function at a key or at an equal key. If no result is stored, calls the function and
     /// stores the result.
     ///
-    /// If memory runs out, or a limit prevents storing the result, returns it anyway.
+    /// Returns the result even if memory runs out, or if a limit prevents storing it.
     ///
     /// ```
     /// assert_eq!(rt; (squares.answer(3), squares.len()), (9, 1));
     /// ```
     ///
-    /// Cost: a get. If no result is stored, also a call of the function and an insert.
+    /// Cost: a get, and if no result is stored, a call of the function and an insert.
     pub fn answer(&mut self, key: K) -> V
         requires callable { F.IsAlwaysCallable self.old.function }
         requires known { AreAnswers K.eq (FnReturnsAt F.Fn self.old.function) self.old.map.pairs }
@@ -214,8 +214,8 @@ impl<K: Eq + Hash + Drop, V: Drop, F: Fn(&K) -> V, L: Insertion<K, V, K>, S: Key
         result
     }
 
-    /// Returns the stored result of a key, and makes it the newest. Does not call the function. So a caller who has a
-    /// `&str` copies it into a `String` only if nothing is stored.
+    /// Returns the stored result of a key, and makes it the newest. Does not call the function. A caller with a `&str`
+    /// can try `get`, and make a `String` for `answer` only if nothing is stored.
     ///
     /// ```
     /// let mut lengths = Memo::new(alloc, ByLength::new(9), |text: &String| text.as_bytes().len());

@@ -187,7 +187,7 @@ impl<K: Eq + Hash, V, S: KeyHasher<K>> OrderedMap<K, V, S> {
     ///
     /// Cost: `O(1)`.
     ///
-    /// After std's `BTreeMap::pop_first`.
+    /// Follows std's `BTreeMap::pop_first`.
     pub fn pop_first(&mut self) -> Option<(K, V)>
         ensures first { result ≡ first self.old }
         ensures rest { self.new ≡ without_first self.old }
@@ -203,7 +203,7 @@ impl<K: Eq + Hash, V, S: KeyHasher<K>> OrderedMap<K, V, S> {
     ///
     /// Cost: `O(1)`.
     ///
-    /// After std's `BTreeMap::pop_last`.
+    /// Follows std's `BTreeMap::pop_last`.
     pub fn pop_last(&mut self) -> Option<(K, V)>
         ensures last { result ≡ last self.old }
         ensures rest { self.new ≡ without_last self.old }
@@ -219,7 +219,7 @@ impl<K: Eq + Hash, V, S: KeyHasher<K>> OrderedMap<K, V, S> {
     ///
     /// Cost: `O(1)` expected.
     ///
-    /// After std's `HashMap::remove_entry`.
+    /// Follows std's `HashMap::remove_entry`.
     pub fn remove_entry<Q: LookupKey<K>>(&mut self, key: &Q) -> Option<(K, V)>
         ensures entry { result ≡ lookup_entry (Q.names key.now) self.old }
         ensures entries { self.new ≡ without (Q.names key.now) self.old }
@@ -234,7 +234,7 @@ impl<K: Eq + Hash, V, S: KeyHasher<K>> OrderedMap<K, V, S> {
     /// assert!(rt; map.keys().next() == Some(&1) && map.values().next_back() == Some(&20));
     /// ```
     ///
-    /// Cost: `O(1)`, and so is each step from either end.
+    /// Cost: `O(1)`, and `O(1)` for each step from either end.
     pub fn keys(&self) -> Keys<'_, K, V>
         ensures rest { result ≡ keys_of self.now }
         ensures distinct { IsDistinct K.eq (keys_of self.now) }
@@ -249,7 +249,7 @@ impl<K: Eq + Hash, V, S: KeyHasher<K>> OrderedMap<K, V, S> {
     /// assert!(rt; map.keys().next() == Some(&1) && map.values().next_back() == Some(&20));
     /// ```
     ///
-    /// Cost: `O(1)`, and so is each step from either end.
+    /// Cost: `O(1)`, and `O(1)` for each step from either end.
     pub fn values(&self) -> Values<'_, K, V>
         ensures rest { result ≡ values_of self.now }
         ensures runs { ShowsInOrder (deref {X = V}) }
@@ -267,7 +267,7 @@ impl<K: Eq + Hash, V, S: KeyHasher<K>> OrderedMap<K, V, S> {
     /// assert_eq!(rt; total, 51);
     /// ```
     ///
-    /// Cost: `O(1)`, and so is each step from either end.
+    /// Cost: `O(1)`, and `O(1)` for each step from either end.
     pub fn iter(&self) -> Entries<'_, K, V>
         ensures rest { result ≡ self.now }
         ensures runs { ShowsInOrder (deref_pair {K = K} {X = V}) }
@@ -288,7 +288,7 @@ impl<K: Eq + Hash + Drop, V, S: KeyHasher<K>> OrderedMap<K, V, S> {
     ///
     /// Cost: `O(1)` expected.
     ///
-    /// After indexmap's `IndexMap::shift_remove`, which takes `O(len)`.
+    /// Follows indexmap's `IndexMap::shift_remove`, which takes `O(len)`.
     pub fn remove<Q: LookupKey<K>>(&mut self, key: &Q) -> Option<V>
         ensures value { result ≡ lookup (Q.names key.now) self.old }
         ensures entries { self.new ≡ without (Q.names key.now) self.old }
@@ -299,8 +299,8 @@ impl<K: Eq + Hash + Drop, V, S: KeyHasher<K>> OrderedMap<K, V, S> {
 }
 
 impl<K: Eq + Hash + Drop, V: Drop, S: KeyHasher<K>> OrderedMap<K, V, S> {
-    /// Inserts a key with a value as the newest entry. If the key is in the map, replaces and returns the old value.
-    /// The entry then keeps its key and its place.
+    /// Inserts a key with a value as the newest entry. If the key is in the map, replaces and returns the old value,
+    /// and the entry keeps its key and its place.
     ///
     /// ```
     /// let mut map: OrderedMap<u64, u64> = OrderedMap::new(alloc);
@@ -340,7 +340,7 @@ impl<K: Eq + Hash + Drop, V: Drop, S: KeyHasher<K>> OrderedMap<K, V, S> {
     ///
     /// Cost: `O(len)`.
     ///
-    /// After std's `HashMap::retain`, whose closure may write the value.
+    /// Follows std's `HashMap::retain`, whose closure may write the value.
     pub fn retain<F: FnMut(&K, &V) -> bool>(&mut self, keep: F)
         requires callable { F.IsAlwaysCallable keep }
         ensures kept { IsFiltered (Asks F.FnMut) keep self.old self.new }

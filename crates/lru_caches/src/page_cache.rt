@@ -45,8 +45,8 @@ pub enum PageError<E> {
 
 /// A write-back cache of the blocks of a device.
 ///
-/// The cache contains at most `capacity` pages. If it is full, it evicts the oldest page that may be evicted. A write
-/// makes the cached page dirty. The cache writes a dirty page to the device when it evicts or flushes the page.
+/// The cache contains at most `capacity` pages. A full cache evicts the oldest page that may be evicted. A write makes
+/// the cached page dirty. The cache writes a dirty page to the device when it evicts or flushes the page.
 ///
 /// After a `flush` that returned `Ok`, a crash leaves each block as the cache showed it at the flush, unless a later
 /// call wrote the block. `docs/CACHES.md` names the premises.
@@ -225,7 +225,7 @@ impl<B: Copy, D: BlockDevice<B>, S: KeyHasher<u64>> PageCache<B, D, S> {
         self.counts.evictions
     }
 
-    /// Lends the device. Dirty pages are not written to it yet.
+    /// Lends the device, which does not contain the dirty pages yet.
     ///
     /// Cost: `O(1)`.
     ///

@@ -36,7 +36,7 @@ pub fn write_durably<D: BlockDevice<u64>>(
     cache.flush()
 }
 
-/// Returns whether the key is in the map. If it is, writes the value under it.
+/// Returns whether the key is in the map. If the key is there, writes the value under it.
 pub fn overwrite(map: &mut OrderedMap<u64, u64>, key: u64, value: u64) -> bool
     ensures there { result ≡ is_some (lookup (nat_eq key) map.old) }
     ensures written { result ≡ true → map.new ≡ set_value (nat_eq key) map.old value }
@@ -50,7 +50,7 @@ pub fn overwrite(map: &mut OrderedMap<u64, u64>, key: u64, value: u64) -> bool
     }
 }
 
-/// Looks a path up, or else stores how many bytes its page has. Returns whether the path was there.
+/// Looks a path up. If the path is not there, stores how many bytes its page has. Returns whether the path was there.
 pub fn visit(
     pages: &mut CountedMap<String, u64, ByLength>,
     path: String,

@@ -1,4 +1,4 @@
-//! What no contract says: how often functions and devices are called, and that inserts find memory.
+//! Tests what no contract says: how often functions and devices are called, and that inserts find memory.
 mod memos;
 mod pages;
 mod recursion;
@@ -20,7 +20,8 @@ fn an_ordered_map_of_many_keys(rt: HostRuntime) {
     }
 }
 
-/// A disk that fails at each of its calls in turn. It then fails again after the same number of calls, or stays broken.
+/// A disk that fails at each of its calls in turn, and then fails again after the same number of calls, or stays
+/// broken.
 #[test]
 fn a_disk_that_fails(rt: HostRuntime) {
     for stays_broken in [false, true] {

@@ -1,15 +1,16 @@
--- What a limiter accepts, if it changes no accepted entry.
---     Terms K V S                  which entries the limiter accepts, and the limiter after an offer
---     offers_of terms              the offers: an entry is stored unchanged if the terms accept it
---     never_changes admits         the terms of a limiter that never changes, and accepts each new value
---     offers_of-lawful             the laws of `Insertion`
+-- What a limiter accepts if it stores each accepted entry unchanged.
+--     `Terms K V S`: which entries the limiter accepts, and the limiter after an offer.
+--     `offers_of terms`: the offers of a limiter that stores an entry unchanged if the terms accept the entry.
+--     `never_changes admits`: the terms of a limiter that never changes, and accepts each new value of a stored key.
+--     `offers_of-lawful`: the laws of `Insertion`.
 use Rattle.std.specs.Prelude.{ℕ, Bool, true}
 use Rattle.std.specs.Cmp.{IsEquivalence}
 use Rattle.lru_limits.specs.Rules.{Offers}
 use Rattle.lru_limits.specs.Laws.{IsInsertion}
 use Rattle.lru_limits.specs.Stores.{ReturnsPairIf, given-names}
 
--- Each function is named after a callback. Its argument of type ℕ is the number of entries of the map.
+-- Each function of `Terms` is named after a callback of `Admission`. The argument of type ℕ is the number of entries of
+-- the map.
 pub record Terms (K V S : Type 0) : Type 0 where
   -- whether an entry with a new key is accepted
   pub accepts : S → ℕ → K → V → Bool

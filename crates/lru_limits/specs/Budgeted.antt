@@ -1,7 +1,7 @@
 -- The laws of a limiter with a running total and a budget.
---     made budget        the limiter that is made with this budget
---     rebudgeted b s     the limiter s with the budget b
---     weighs-budgeted    the laws of `ByWeight` and of `ByCost`
+--     `made budget`: a new limiter with this budget.
+--     `rebudgeted b s`: the limiter s with the budget b.
+--     `weighs-budgeted`: `ByWeight` and `ByCost` satisfy these laws.
 use Rattle.std.specs.Prelude.{◌≡◌, ◌+◌, ◌-◌, ℕ, Bool, true, false, Option, Some, None, if◌then◌else◌, nat_lt, refl}
 use Rattle.std.proofs.Common.{ap, ◌∙◌}
 use Rattle.std.proofs.lemmas.Bool.{true≢false}
@@ -27,7 +27,7 @@ pub record IsBudgeted {K V S : Type 0} (rules : Rules K V S) (offers : Offers K 
   pub refuses : (s : S) (n : ℕ) (k : K) (v : V) → accepts s k v ≡ false → offers.on_insert s n k v s None
   -- an offer never runs out of memory
   pub finds : (s : S) (n : ℕ) (k : K) (v : V) → offers.may_run_out s n k v → ⊥
-  -- a removal and a replacement change neither a key nor a value
+  -- the callbacks for a removal and a replacement change neither a key nor a value
   pub leaves : (s : S) (k : K) (v : V)
       → ((rules.on_removed s k v).key ≡ k) × ((rules.on_removed s k v).value ≡ v)
   pub replaces : (s : S) (n : ℕ) (k i : K) (v w : V) → let r = offers.on_replace s n k i v w in

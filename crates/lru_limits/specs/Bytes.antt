@@ -1,11 +1,11 @@
 -- The limiter by bytes.
---     in_word n              n, but at most `u64::MAX`
---     block_bytes n          what a block of n bytes takes from the allocator
---     both_own of_k of_v     what an entry owns: what its key and its value own
---     Bytes                  the three numbers of the limiter
---     left_for_entries b     the limit minus the bytes of the table, but at least 0
---     by_bytes, bytes_offers, bytes_terms      the rules, the offers and their terms, for given bytes of an entry
---     bytes-sums             the laws of `Summing`
+--     `in_word n`: n, but at most `u64::MAX`.
+--     `block_bytes n`: what a block of n bytes takes from the allocator.
+--     `both_own of_k of_v`: what an entry owns: the bytes that its key owns, plus the bytes that its value owns.
+--     `Bytes`: the limit, and the two sums that the limiter keeps.
+--     `left_for_entries b`: the limit minus the bytes of the table, but at least 0.
+--     `by_bytes`, `bytes_offers`, `bytes_terms`: the rules, the offers and the terms, for given bytes of an entry.
+--     `bytes-sums`: the limiter satisfies the laws of `Summing`.
 use Rattle.std.specs.Prelude.{◌≡◌, ◌+◌, ◌-◌, ◌*◌, ◌/◌, ◌^◌, ◌==◌, ℕ, min, Bool, true, false, nat_lt, nat_le, if◌then◌else◌, refl}
 use Rattle.lru_limits.specs.Rules.{Rules, Offers}
 use Rattle.lru_limits.specs.Laws.{IsAccount}
@@ -16,8 +16,8 @@ use Rattle.lru_limits.specs.Stores.{answers, given-adds, refused-keeps, replaced
 abbrev pub in_word : ℕ → ℕ
 in_word n = min n (2 ^ 64 - 1)
 
--- 0 if n is 0, because then no block is allocated. Otherwise n, rounded up to a multiple of 16, plus 16, but at most 2
--- ^ 64 - 16.
+-- A block of n bytes takes n bytes, rounded up to a multiple of 16, plus 16, but at most 2 ^ 64 - 16. If n is 0, no
+-- block is allocated, and the result is 0.
 abbrev pub block_bytes : ℕ → ℕ
 block_bytes n = if n == 0 then 0 else in_word (n + 31) / 16 * 16
 

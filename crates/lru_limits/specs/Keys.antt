@@ -1,7 +1,7 @@
--- Look-up keys that are made of other look-up keys.
---     number-lawful          a number names the equal number
---     field-lawful of_q of_k      a look-up key names a key if its field names the key's field
---     both-lawful            a look-up key of two parts names a key if each part does
+-- Look-up keys that are numbers, fields or pairs.
+--     `number-lawful`: a look-up key that is a number names the equal number.
+--     `field-lawful of_q of_k`: a look-up key names a key if its field names the key's field.
+--     `both-lawful`: a look-up key of two parts names a key if both parts name it.
 use Rattle.std.specs.Prelude.{◌≡◌, ◌&&◌, ◌++◌, ℕ, Bool, true, false, List, IsTrue, nat_eq}
 use Rattle.std.proofs.Common.{refl, ap, arith}
 use Rattle.std.proofs.lemmas.Bool.Decides.{nat_tests}

@@ -1,8 +1,8 @@
 -- What the limiters of this crate decide. `Budget` contains the limiters by cost, and `Bytes` the limiter by bytes.
---     length_rules, length_terms, length_offers      the limit by length; the state is the limit
---     memory_rules                     the rules of the limit by memory usage; the state is the limit
---     no_rules                         the rules of a limiter that limits nothing
---     all_terms, all_offers            the terms and offers of a limiter that accepts each entry
+--     `length_rules`, `length_terms`, `length_offers`: the limiter by length, whose state is the limit.
+--     `memory_rules`: the rules of the limiter by memory usage, whose state is the limit.
+--     `no_rules`: the rules of a limiter that limits nothing.
+--     `all_terms`, `all_offers`: the terms and offers of a limiter that accepts each entry.
 use Rattle.std.specs.Prelude.{ℕ, true, false, nat_lt, nat_le}
 use Rattle.lru_limits.specs.Rules.{Rules, Offers}
 use Rattle.lru_limits.specs.Admissions.{Terms, offers_of, never_changes}

@@ -1,11 +1,11 @@
--- The hasher as functions.
---     Mixer                   the state, a key for words, and a key for a rest of fewer than eight bytes
---     folded a b              the xor of the two halves of the 128 bits of a * b
---     joined key state word   the state after a word
---     rest_word bytes         fewer than eight bytes as a word, whose top byte is their count
---     written h bytes         the hasher after a write: a word for each eight bytes, and one for a rest
---     closed h                the hash
---     seeded words            the hasher with these four seeds, before the first write
+-- What the hasher computes, as functions.
+--     `Mixer`: the hasher's state, its key for words of eight bytes, and its key for a rest of fewer than eight bytes.
+--     `folded a b`: the xor of the two halves of the 128 bits of a * b.
+--     `joined key state word`: the hasher's state after it got this word.
+--     `rest_word bytes`: a rest of fewer than eight bytes as a word, whose top byte is the number of bytes.
+--     `written h bytes`: the hasher after a write, which passes it a word for each eight bytes and a word for the rest.
+--     `closed h`: the hash that the hasher h returns.
+--     `seeded words`: the hasher with these four seeds, before the first write.
 use Rattle.std.specs.Prelude.{ℕ, ◌+◌, ◌*◌, ◌/◌, ◌%◌, ◌^◌, ◌==◌, List, length, drop, fold, bit_xor, slice_index}
 use Rattle.std.specs.Prelude.{if◌then◌else◌}
 use Rattle.std.specs.Int.{w64, from_le_bytes}
@@ -22,7 +22,7 @@ folded a b = bit_xor (a * b % 2 ^ 64) (a * b / 2 ^ 64)
 abbrev pub joined : ℕ → ℕ → ℕ → ℕ
 joined key state word = folded (bit_xor state word) key
 
--- bytes past the end count as 0
+-- bytes after the end of the rest count as 0
 abbrev pub rest_word : List ℕ → ℕ
 rest_word bytes = from_le_bytes w64 bytes + length bytes * 2 ^ 56
 

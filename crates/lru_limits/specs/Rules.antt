@@ -1,9 +1,9 @@
--- What a limiter with states S does, as functions and relations that are named after the callbacks.
---     Rules K V S         what a limiter does with lengths, removed entries, clears and growth
---     Offers K V S I      what a limiter does with entries whose key is offered as an I
---     Notified K V S      the limiter, key and value after `on_removed`
---     Allowed S           the limiter after `on_grow`, and the result of `on_grow`
---     Replaced K V S      the limiter, key and values after `on_replace`
+-- What a limiter with states S does. The functions and relations are named after the callbacks.
+--     `Rules K V S`: what a limiter does with lengths, removed entries, clears and growth.
+--     `Offers K V S I`: what a limiter does with entries that are offered with a key of type I.
+--     `Notified K V S`: the limiter, the key and the value after `on_removed`.
+--     `Allowed S`: the limiter after `on_grow`, and the result of `on_grow`.
+--     `Replaced K V S`: the limiter, the key and both values after `on_replace`.
 use Rattle.std.specs.Prelude.{ℕ, Bool, Option}
 
 pub record Notified (K V S : Type 0) : Type 0 where
@@ -19,7 +19,7 @@ pub record Replaced (K V S : Type 0) : Type 0 where
   pub limiter : S
   -- whether the new value replaces the old one
   pub taken : Bool
-  -- the stored key and the two values afterwards
+  -- the stored key and both values after `on_replace`
   pub key : K
   pub old_value : V
   pub new_value : V
@@ -33,9 +33,9 @@ pub record Rules (K V S : Type 0) : Type 0 where
   pub on_grow : S → ℕ → Allowed S
 
 pub record Offers (K V S I : Type 0) : Type 1 where
-  -- The limiter and the entry to store that may result if an entry is offered to a map of n entries. This is a
-  -- relation, because the stored key may be in newly allocated memory, whose address is not determined.
+  -- Which limiter and which entry to store may result if an entry is offered to a map of n entries. `on_insert` is a
+  -- relation, not a function, because the stored key may be in newly allocated memory, whose address is not determined.
   pub on_insert : S → ℕ → I → V → S → Option (K × V) → Type 0
   pub may_run_out : S → ℕ → I → V → Type 0
-  -- the result for the stored key, the offered key, the old value and the new value
+  -- what `on_replace` does with the stored key, the offered key, the old value and the new value
   pub on_replace : S → ℕ → K → I → V → V → Replaced K V S

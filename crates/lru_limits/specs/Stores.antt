@@ -1,12 +1,12 @@
 -- Definitions for limiters that accept an entry unchanged.
---     plain over grants                    the rules of a limiter that never changes
---     rules_at of to rules                 the rules of a wrapper: `of` unwraps the inner limiter, `to` wraps it
---     ReturnsPairIf accepts s k v t given  t is s, and given is the entry, or `None` if it is rejected
---     unmoved s k v                        after a removal, the limiter is s, and the entry is unchanged
---     answers s b                          the result b of `on_grow`, and the limiter s
---     replaces s k v w                     the new value w is accepted, and the limiter is s
---     given-is, given-names                the returned entry is the offered one
---     given-adds, refused-keeps, replaced-exchanges      the running total after an offer, for a `Summing` of your own
+--     `plain over grants`: the rules of a limiter that never changes.
+--     `rules_at of to rules`: the rules of a wrapper; the function `of` unwraps the inner limiter, `to` wraps it.
+--     `ReturnsPairIf accepts s k v t given`: t is s, and `given` is the entry, or `None` if the entry is rejected.
+--     `unmoved s k v`: the limiter s, and the unchanged entry, after `on_removed`.
+--     `answers s b`: the limiter s after `on_grow` returned b.
+--     `replaces s k v w`: the limiter s after `on_replace` accepted the new value w.
+--     `given-is`, `given-names`: the returned entry is the offered one.
+--     `given-adds`, `refused-keeps`, `replaced-exchanges`: lemmas for your own `Summing`, on the total after an offer.
 use Rattle.std.specs.Prelude.{◌≡◌, ◌≤◌, ◌+◌, ◌-◌, ℕ, Bool, true, false, Option, Some, None, IsTrue, if◌then◌else◌}
 use Rattle.std.specs.Prelude.{unwrap_or}
 use Rattle.std.proofs.Common.{ap, sym, ◌∙◌, subst, arith}
@@ -48,15 +48,16 @@ pub given-is : {S K V : Type 0} (accepts : Bool) (s : S) (k : K) (v : V) (t : S)
 given-is true s k v t p h = ap (λ o. unwrap_or o (k, v)) h.pair
 given-is false s k v t p h = let e = h.pair in cc
 
--- if the test E is reflexive, it holds of the offered key and the returned key
+-- if the test E is reflexive, E is true of the offered key and the returned key
 pub given-names : {S K V : Type 0} {accepts : Bool} {s t : S} {i k : K} {v w : V} (E : K → K → Bool)
     → ((x : K) → IsTrue (E x x)) → ReturnsPairIf accepts s i v t (Some (k, w)) → IsTrue (E i k)
 given-names {accepts} {s} {t} {i} {k} {v} {w} E reflexive h =
     subst (λ x. IsTrue (E i x)) (sym (ap (λ p. p.0) (given-is accepts s i v t (k, w) h))) (reflexive i)
 
--- Below, the limiter becomes s' if it accepts, and stays s if it rejects.
+-- In the lemmas below, the limiter s becomes s' if it accepts an entry, and stays s if it rejects the entry.
 
--- If the total of s' is higher by the cost of the entry, then an accepted entry adds its cost to the running total.
+-- If the total of s' is the total of s plus the cost of the entry, an accepted entry adds its cost to the running
+-- total.
 pub given-adds : {K V S : Type 0} (cost : K → V → ℕ) (account : S → ℕ) (accepts : Bool) (s s' : S) (i : K) (v : V)
     (t : S) (k : K) (w : V) → account s' ≡ account s + cost i v
     → ReturnsPairIf accepts (if accepts then s' else s) i v t (Some (k, w)) → account t ≡ account s + cost k w
@@ -70,8 +71,8 @@ pub refused-keeps : {K V S : Type 0} (account : S → ℕ) (accepts : Bool) (s s
 refused-keeps account true s s' i v t h = let e = h.pair in cc
 refused-keeps account false s s' i v t h = ap account h.limiter
 
--- If the total of s' contains the new cost instead of the old one, then a replacement exchanges these costs in the
--- total.
+-- Suppose that the total of s' is the total of s, minus the old cost, plus the new cost. If a new value is offered, the
+-- running total loses the old cost, and gains the cost of the value that stays.
 pub replaced-exchanges : {K V S : Type 0} (cost : K → V → ℕ) (account : S → ℕ) (accepts : Bool) (s s' : S) (k : K)
     (v w : V) → account s' ≡ account s - cost k v + cost k w
     → cost k v ≤ account s → account (if accepts then s' else s) ≡ account s - cost k v

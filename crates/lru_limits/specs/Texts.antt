@@ -1,9 +1,9 @@
 -- Texts that name keys of the type `String`.
---     names_text bytes k          whether the key k has these bytes
---     names_text-lawful text      the laws of a look-up key q that names the `String` with the bytes `text q`
---     GivesText bytes v given     there is an entry to store, with the value v and a key with these bytes
---     given-names_text            the bytes of `GivesText` name the key to store
---     same_text k                 the bytes of a key name it
+--     `names_text bytes k`: whether the key k has these bytes.
+--     `names_text-lawful text`: the laws of a look-up key q that names the `String` with the bytes `text q`.
+--     `GivesText bytes v given`: `given` is an entry to store, with the value v and a key with these bytes.
+--     `given-names_text`: the bytes of `GivesText` name the key of the entry to store.
+--     `same_text k`: the bytes of a key name this key.
 use Rattle.std.specs.Prelude.{◌≡◌, ℕ, Bool, List, Option, Some, IsTrue, IsSomeAnd, string_bytes}
 use Rattle.std.specs.declared.string.String.{String}
 use Rattle.std.specs.declared.alloc.Global.{Global}

@@ -9,8 +9,8 @@ use std::hash::Hash;
 
 /// Accepts or rejects entries, and changes no accepted entry.
 ///
-/// Every `Admission` is an [`Insertion`], and can be in [`crate::Both`]. If it is `Copy`, it permits `try_insert`.
-/// `never_changes` of `specs/Admissions.antt` makes the terms of a limiter that never changes.
+/// Every `Admission` is an [`Insertion`], and can be in [`crate::Both`]. If an `Admission` is `Copy`, a map with it has
+/// `try_insert`. `never_changes` of `specs/Admissions.antt` defines the terms of a limiter that never changes.
 ///
 /// ```
 /// let mut limiter = ByLength::new(0);
@@ -18,16 +18,16 @@ use std::hash::Hash;
 /// assert!(rt; limiter.accepts_in_place(1, &1u64, &2u64, &3u64));
 /// ```
 pub trait Admission<K, V>: Limiter<K, V> {
-    /// Defines which entries are accepted, and the limiter after an offer.
+    /// Defines which entries the limiter accepts, and how an offer changes the limiter.
     ghost terms: { Terms K V Self };
 
     /// Returns whether `admit` would accept this entry.
     fn accepts(&self, length: usize, key: &K, value: &V) -> bool
         ensures { result ≡ terms.accepts self.now length key.now value.now };
 
-    /// Called by an insert with a new key and its value, before the insert evicts anything. `try_insert` also calls it
-    /// on copies of the limiter. The map has `length` entries. Returns whether the entry is accepted. If not, the map's
-    /// entries do not change.
+    /// Called by an insert with a new key and its value, before the insert evicts anything. `try_insert` also calls
+    /// `admit` on copies of the limiter. The map has `length` entries. Returns whether the entry is accepted. If the
+    /// entry is rejected, the map's entries do not change.
     fn admit(&mut self, length: usize, key: &K, value: &V) -> bool
         ensures answer { result ≡ terms.accepts self.old length key.now value.now }
         ensures limiter { self.new ≡ terms.admit self.old length key.now value.now };
@@ -37,7 +37,7 @@ pub trait Admission<K, V>: Limiter<K, V> {
         ensures { result ≡ terms.accepts_in_place self.now length key.now old_value.now new_value.now };
 
     /// Called by an insert or an update before `new_value` replaces `old_value` of a stored key. The map has `length`
-    /// entries. Returns whether the new value is accepted. If not, the map removes the entry.
+    /// entries. Returns whether the new value is accepted. If it is rejected, the map removes the entry.
     fn admit_in_place(&mut self, length: usize, key: &K, old_value: &V, new_value: &V) -> bool
         ensures answer { result ≡ terms.accepts_in_place self.old length key.now old_value.now new_value.now }
         ensures limiter { self.new ≡ terms.admit_in_place self.old length key.now old_value.now new_value.now };

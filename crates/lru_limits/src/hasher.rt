@@ -1,4 +1,4 @@
-//! A fast seeded hasher: each eight bytes of a write cost one multiplication. Its hashes may change in later versions.
+//! A fast seeded hasher: each eight bytes of a write cost one multiplication. The hashes may change in later versions.
 ghost use Rattle.std.specs.Prelude.{◌≡◌, ◌+◌, ◌*◌, ◌^◌, ◌<◌, length, fold};
 ghost use Rattle.std.specs.Int.{w64, from_le_bytes};
 ghost use Rattle.lru_limits.specs.Mixing.{folded, joined, written, closed, seeded};
@@ -18,8 +18,8 @@ const REST_FACTOR: u64 = 0xa54f_f53a_5f1d_36f1;
 
 /// Builds hashers with four seeds. A contract sees a `RandomState` as the hasher before the first write.
 ///
-/// `state.hash_one(&key)` is the hash of the key in a map with an equal `RandomState`. Every value that names the key
-/// has the same hash. The default seeds are 1, 2, 3, 4, so strangers can choose keys that collide.
+/// `state.hash_one(&key)` is the hash of the key in a map with an equal `RandomState`. Every value that names a key has
+/// the hash of this key. The default seeds are 1, 2, 3, 4, so an attacker can choose keys that collide.
 ///
 /// ```
 /// let state = RandomState::with_seeds([5, 6, 7, 8]);

@@ -6,7 +6,7 @@ ghost use Rattle.lru_limits.specs.Texts.{names_text, names_text-lawful};
 
 use std::hash::{BuildHasher, Hash};
 
-/// A value that looks up a key. It names at most one key, up to equality, and has the hash of this key.
+/// A value that looks up a key: the value names at most one key, up to equality, and has the hash of this key.
 ///
 /// Every key type implements `LookupKey` for its own keys, and `&str` implements it for `String` keys. In your own
 /// impl, define in `names` which key a value names, compute `names` in `is_key`, and prove two laws. If a struct has

@@ -6,7 +6,7 @@ ghost use Rattle.lru_limits.specs.Stores.{answers, given-adds, refused-keeps, re
 
 use lru_limits::{Admission, Limiter, Summing};
 
-/// Limits the bytes of all texts together. It rejects a text that is longer than the limit.
+/// Limits the bytes of all texts together. Rejects a text that is longer than the limit.
 #[derive(Clone, Copy, Debug)]
 pub struct ByTextLength {
     pub limit: u64,

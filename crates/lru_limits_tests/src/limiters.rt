@@ -1,4 +1,4 @@
-//! The texts of the limiters.
+//! The debug texts of limiters.
 use lru_limits::{ByCost, ByLength, ByMemoryUsage, RandomState, Storing, Unlimited};
 use std::test::Fail;
 use test_helpers::check;

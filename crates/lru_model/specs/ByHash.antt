@@ -1,6 +1,6 @@
 -- How a search by a hash calls its closure with one pair after another, and what the search returns.
---     closure    how the closure may be called
---     f, g       the closure before and after
+--     `closure`: how the closure may be called.
+--     `f`, `g`: the closure before and after the calls.
 use Rattle.std.specs.Prelude.{◌≡◌, ℕ, Bool, true, false, List, [], ◌∷◌, ◌++◌, Contains}
 use Rattle.std.specs.List.{FoldsTo, IsDistinct}
 use Rattle.std.specs.Borrow.{Bor}
@@ -9,26 +9,28 @@ use Rattle.group_table.specs.Probe.{hash_tag}
 use Rattle.lru_model.specs.Lists.{keys_of}
 
 module _ {K V F : Type 0} (closure : Mut F (Bor K × (Bor V × Unit {0})) Bool) where
-  -- a call of f with references to the pair may return `answer`, and leave f as g
+  -- a call of the closure f with references to the pair may return `answer`, and change f into g
   pub record Asks (f : F) (pair : K × V) (answer : Bool) (g : F) : Type 0 where
     pub key : Bor K
     pub value : Bor V
     pub shows : (key.now ≡ pair.0) × (value.now ≡ pair.1)
     pub called : Called closure f (key, (value, tt)) answer g
 
-  -- f was called with these pairs, one after another, returned false for each, and is then g
+  -- f was called with these pairs, one after another, and returned false for each; after these calls, f is g
   abbrev pub Refuses : F → List (K × V) → F → Type 0
   Refuses f pairs g = FoldsTo (λ p pair q. Asks p pair false q) f pairs g
 
 module _ {K V : Type 0} (eq : K → K → Bool) (hash_of : K → ℕ) (all : List (K × V)) (hash : ℕ) where
-  -- These pairs are in the map, and their keys are distinct. Each key's hash has the tag (the top 7 bits) of `hash`.
+  -- The candidates are pairs of the map, and their keys are distinct. The hash of each key has the tag (the top 7 bits)
+  -- of `hash`.
   pub record AreCandidates (pairs : List (K × V)) : Type 0 where
     pub distinct : IsDistinct eq (keys_of pairs)
     pub there : (pair : K × V) → Contains pairs pair → Contains all pair
     pub tags : (pair : K × V) → Contains pairs pair → hash_tag (hash_of pair.0) ≡ hash_tag hash
 
   module _ {F : Type 0} (closure : Mut F (Bor K × (Bor V × Unit {0})) Bool) where
-    -- f was called with candidates, each once; it returned false for each one in `before`, and then true for `pair`
+    -- f was called with candidates, each once. The closure f returned false for each candidate in `before`, and true
+    -- for the last candidate, `pair`.
     pub record GivesByHash (f : F) (pair : K × V) : Type 0 where
       pub before : List (K × V)
       pub candidates : AreCandidates (before ++ pair ∷ [])
@@ -37,8 +39,8 @@ module _ {K V : Type 0} (eq : K → K → Bool) (hash_of : K → ℕ) (all : Lis
       pub last : F
       pub accepted : Asks closure between pair true last
 
-    -- f was called with candidates, each once, and returned false for all. Each pair whose key has this hash is a
-    -- candidate.
+    -- f was called with candidates, each once, and returned false for all. Each pair whose key has the searched hash is
+    -- one of these candidates.
     pub record GivesNoneByHash (f : F) : Type 0 where
       pub asked : List (K × V)
       pub candidates : AreCandidates asked

@@ -1,5 +1,5 @@
--- A map under a limit of the bytes of its table plus the bytes that its pairs own.
---     bytes_of k v      how many bytes the pair of k and v owns
+-- A map with one limit for the bytes of its table plus the bytes that its pairs own.
+--     `bytes_of k v`: how many bytes the pair of k and v owns.
 use Rattle.std.specs.Prelude.{◌≡◌, ℕ, ◌+◌, ◌≤◌, Some, sum_by}
 use Rattle.lru_limits.specs.Bytes.{Bytes}
 use Rattle.lru_model.specs.Sizes.{usage}
@@ -18,7 +18,7 @@ module _ {K V H : Type 0} (bytes_of : K → V → ℕ) where
     pub table : UsesAtMost st.limiter.table st
     pub owned : IsSummed bytes_of (λ b. b.owned) st
 
-  -- the limiter counts the bytes of the map (`CountsBytes`), and the counted bytes are within its limit
+  -- the limiter counts the bytes of the map (`CountsBytes`), and its two counts together are at most its limit
   pub record KeepsBytes (st : State K V Bytes H) : Type 0 where
     pub counts : CountsBytes st
     pub within : st.limiter.owned + st.limiter.table ≤ st.limiter.limit

@@ -1,10 +1,10 @@
 -- Which pairs a call passes to its callback: each evicted or removed pair, and each pair that the limiter returned but
 -- the map could not store. The callback gets each pair as `on_removed` of the limiter leaves it, in the order of the
 -- calls of `on_removed`.
---     rules, offers       the limiter's `Rules` and `Offers` (`lru_limits`)
---     names i k           the inserted key i names k
---     closure             how the callback may be called
---     f, g                the callback before and after
+--     `rules`, `offers`: the limiter's `Rules` and `Offers` (`lru_limits`).
+--     `names i k`: the inserted key i names k.
+--     `closure`: how the callback may be called.
+--     `f`, `g`: the callback before and after the call.
 use Rattle.std.specs.Prelude.{◌≡◌, ℕ, Bool, List, [], ◌∷◌, ◌++◌, Result}
 use Rattle.std.specs.List.{FoldsTo}
 use Rattle.std.specs.Fn.{Mut, Called}
@@ -14,8 +14,8 @@ use Rattle.lru_model.specs.State.{State, Trims}
 use Rattle.lru_model.specs.Inserts.{Insert}
 
 module _ {K V S : Type 0} where
-  -- The limiter with a list as part of its state. `on_removed` appends the removed pair, as the limiter leaves it, to
-  -- the list. The list affects nothing else.
+  -- The rules of a limiter that also has a list in its state. `on_removed` appends each removed pair to this list, as
+  -- the limiter leaves the pair. The list affects nothing else.
   abbrev pub noting : Rules K V S → Rules K V (S × List (K × V))
   noting rules = record {
     is_over_the_limit = λ s n. rules.is_over_the_limit s.0 n;
@@ -31,7 +31,7 @@ module _ {K V S : Type 0} where
     };
   }
 
-  -- the offers of the limiter with a list; the list stays as it is
+  -- the offers of a limiter that also has a list in its state; an offer does not change the list
   abbrev pub noting_offers : {I : Type 0} → Offers K V S I → Offers K V (S × List (K × V)) I
   noting_offers offers = record {
     on_insert = λ s n i v t given. offers.on_insert s.0 n i v t.0 given × (t.1 ≡ s.1);
@@ -57,14 +57,14 @@ module _ {K V S : Type 0} where
     max = st.max;
   }
 
--- f was called with these pairs, one after another, and is then g
+-- f was called with these pairs, one after another; after these calls, f is g
 abbrev pub CalledWith : {K V F : Type 0} → Mut F (K × (V × Unit {0})) (Unit {0}) → F → List (K × V) → F → Type 0
 CalledWith closure f pairs g = FoldsTo (λ p pair q. Called closure p (pair.0, (pair.1, tt)) tt q) f pairs g
 
 module _ {K V S H I : Type 0} (rules : Rules K V S) (offers : Offers K V S I) (names : I → K → Bool)
     (hash_of : H → K → ℕ) where
-  -- An insert that passes the pairs `passed` to its callback. It is an insert under the limiter with a list (`noting`),
-  -- which is empty before, and `passed` after it.
+  -- An insert that passes the pairs `passed` to its callback. In this definition, the limiter has a list (`noting`),
+  -- which is empty before the insert, and `passed` after it.
   abbrev pub InsertPasses : I → V → State K V S H → Result Bool AllocError → List (K × V) → State K V S H → Type 0
   InsertPasses i v old result passed new = Insert (noting rules) (noting_offers offers) names hash_of i v (noted [] old)
       result (noted passed new)

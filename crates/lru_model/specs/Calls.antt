@@ -1,5 +1,5 @@
--- How gets, writes, removals, pops and a clear change a map. Each other kind of call has a file of its own.
---     names      whether a key is the looked-up key
+-- How gets, writes, removals, pops and a clear change a map. Every other kind of call has a file of its own.
+--     `names`: whether a key is the looked-up key.
 use Rattle.std.specs.Prelude.{◌≡◌, Bool, List, [], Option, Some, None, option_map, replicate}
 use Rattle.std.specs.Map.{set_value}
 use Rattle.group_table.specs.Bucket.{empty}
@@ -27,8 +27,8 @@ module _ {K V S H : Type 0} where
   abbrev pub written : (K → Bool) → V → State K V S H → State K V S H
   written names value st = record st { pairs = set_value names st.pairs value }
 
-  -- A get lends the value of the named key, and the pair becomes the newest. The caller may write through the loan:
-  -- `left` is the value afterwards. If the key is not there, nothing changes.
+  -- A get lends the value of the named key, and makes its pair the newest. The caller may write through the loan, and
+  -- `left` is the value after the loan. If the key is not there, nothing changes.
   pub data Get (names : K → Bool) (old : State K V S H) (result : Option V) (new : State K V S H) : Type 0 where
     found : (value left : V) → lookup names old.pairs ≡ Some value →
         result ≡ Some value → new ≡ written names left (promoted names old) →
@@ -38,7 +38,7 @@ module _ {K V S H : Type 0} where
         Get names old result new
 
 module _ {K V S : Type 0} (rules : Rules K V S) where
-  -- the removed pair, if there is one, as `on_removed` of the limiter leaves it
+  -- the removed pair as `on_removed` of the limiter leaves it, or `None` if no pair is removed
   abbrev pub left_of : S → Option (K × V) → Option (K × V)
   left_of s pair = option_map (λ p. ((rules.on_removed s p.0 p.1).key, (rules.on_removed s p.0 p.1).value)) pair
 
@@ -51,7 +51,7 @@ module _ {K V S : Type 0} (rules : Rules K V S) where
   pop_first c = after_removal rules (first c.pairs) (without_first c.pairs) c.limiter
 
 module _ {K V S H : Type 0} (rules : Rules K V S) where
-  -- The pair `gone` is removed, if there is one, and the pairs `left` stay. The result is the removed pair, as the
+  -- The pair `gone` is removed, if it is not `None`, and the pairs `left` stay. The result is the removed pair, as the
   -- limiter leaves it.
   pub record TakesOut (gone : Option (K × V)) (left : List (K × V)) (old : State K V S H) (result : Option (K × V))
       (new : State K V S H) : Type 0 where
@@ -68,13 +68,13 @@ module _ {K V S H : Type 0} (rules : Rules K V S) where
   abbrev pub PopNewest : State K V S H → Option (K × V) → State K V S H → Type 0
   PopNewest old = TakesOut (first old.pairs) (without_first old.pairs) old
 
-  -- the pair of the named key is removed, and its value is returned, as the limiter leaves it
+  -- the pair of the named key is removed, and the call returns its value as the limiter leaves the value
   pub record Remove (names : K → Bool) (old : State K V S H) (result : Option V) (new : State K V S H) : Type 0 where
     pub value : result ≡ option_map (λ p. p.1) (left_of rules old.limiter (lookup_entry names old.pairs))
     pub state : Leaves old (removal rules names (contents old)) new
 
-  -- The map without pairs. The number of buckets stays, and all buckets are empty. The limiter is notified once, of the
-  -- clear, and not of each pair.
+  -- The map after a clear: it has no pairs, and as many buckets as before, all empty. The limiter is notified once of
+  -- the clear, and not of each pair.
   abbrev pub cleared : State K V S H → State K V S H
   cleared st = record st {
     pairs = [];

@@ -1,5 +1,5 @@
 -- A clone of a map is the same map with clones of its keys, values, limiter and hasher.
---     same_key, same_value, ..    whether the second argument is a clone of the first
+--     `same_key`, `same_value`, ..: whether the second argument is a clone of the first.
 use Rattle.std.specs.Prelude.{◌≡◌}
 use Rattle.std.specs.List.{AllZip}
 use Rattle.lru_model.specs.State.{State}
@@ -14,5 +14,5 @@ module _ {K V : Type 0} (same_key : K → K → Type 0) (same_value : V → V �
       pub pairs : AllZip IsPairClone old.pairs new.pairs
       pub limiter : same_limiter old.limiter new.limiter
       pub hasher : same_hasher old.hasher new.hasher
-      -- nothing else differs
+      -- the clone differs from the map in nothing else
       pub rest : new ≡ record old { pairs = new.pairs; limiter = new.limiter; hasher = new.hasher }

@@ -1,5 +1,5 @@
--- How an insert changes a list of pairs and a limiter. Unless memory runs out, its end is determined by the list, the
--- limiter, what `on_insert` returns, and the report of the table.
+-- How an insert changes a list of pairs and a limiter. If memory lasts, the list, the limiter, the result of
+-- `on_insert` and the report of the table determine how the insert ends.
 use Rattle.std.specs.Prelude.{◌≡◌, ◌≢◌, ℕ, ◌+◌, ◌-◌, ◌/◌, ◌<◌, ◌≤◌, nat_lt, nat_le, Bool, true, false, not}
 use Rattle.std.specs.Prelude.{if◌then◌else◌, ◌∷◌, length, Option, Some, None, MatchOption, Result, Ok, IsErr}
 use Rattle.std.specs.declared.alloc.AllocError.{AllocError}
@@ -20,17 +20,18 @@ pub record Report : Type 0 where
   -- whether there is a bucket for the pair
   pub has_bucket : Bool
 
--- there is a bucket for the pair, without a query or an eviction
+-- the report of a table that has a bucket for the pair, without a query of the limiter or an eviction
 abbrev pub at_once : Report
 at_once = record { asked = None; evicted = 0; has_bucket = true }
 
 module _ {K V S : Type 0} (rules : Rules K V S) where
-  -- Growth is refused, and the n oldest pairs of c are evicted. If c has no pairs, there is no bucket. `asked` has the
-  -- bytes of the query, if the limiter was queried.
+  -- The report of a table whose growth is refused: the n oldest pairs of c are evicted. If c has no pairs, there is no
+  -- bucket for the new pair. If the limiter was queried for a larger table, `asked` has the bytes of this table.
   abbrev pub refusal : Option ℕ → ℕ → Contents K V S → Report
   refusal asked n c = record { asked = asked; evicted = n; has_bucket = not (is_empty c.pairs) }
 
-  -- what a table with this next `Target` reports, if a refused growth evicts the n oldest pairs of c
+  -- What a table reports, by the `Target` into which it grows. If the growth is refused, the n oldest pairs of c are
+  -- evicted.
   abbrev pub report_of : Target → ℕ → Contents K V S → Report
   report_of no_table n c = refusal None n c
   report_of same_table n c = at_once
@@ -40,19 +41,19 @@ module _ {K V S : Type 0} (rules : Rules K V S) where
 
   -- what the table of a map may report for a pair of this hash
   pub data MayReport {H : Type 0} (hash : ℕ) (st : State K V S H) (report : Report) : Type 0 where
-    -- Growth is left, or a rehash is enough, or the table has more than 16 buckets and a deleted bucket may take the
-    -- pair.
+    -- A bucket takes the pair at once. Growth is left, or a rehash is enough, or the table has more than 16 buckets and
+    -- a deleted bucket may take the pair.
     fits : (growth_left st ≡ 0 → full_capacity (buckets st) / 2 < length st.pairs + 1 → 16 < buckets st) →
         report ≡ at_once →
         MayReport hash st report
-    -- Or the table is too small. If growth is refused, n pairs are evicted. In a table of up to 16 buckets, n is 1.
+    -- The table is too small. If its growth is refused, n pairs are evicted. In a table of up to 16 buckets, n is 1.
     too_small : IsOutgrown hash st → (n : ℕ) → 0 < n → (buckets st ≤ 16 → n ≡ 1) →
         full_capacity (buckets st) / 2 + n ≤ length st.pairs + 1 →
         report ≡ report_of (table_for 1 st) n (contents st) →
         MayReport hash st report
 
-  -- What a table of up to 16 buckets reports. c is the contents of `st` after some pairs were removed. The growth left
-  -- has risen by one for each of them.
+  -- What a table of up to 16 buckets reports. The contents c are the contents of the map `st` after some pairs were
+  -- removed. Each removed pair raised the growth left by one.
   abbrev pub small_report : {H : Type 0} → State K V S H → Contents K V S → Report
   small_report st c =
       if nat_lt 0 (growth_left st + length st.pairs - length c.pairs) then at_once
@@ -67,7 +68,8 @@ module _ {K V S : Type 0} (rules : Rules K V S) where
   abbrev pub met : Report → Contents K V S → Contents K V S
   met report c = pops rules report.evicted (record { pairs = c.pairs; limiter = queried report.asked c.limiter })
 
-  -- the oldest pairs are evicted while the limiter is over its limit; the result is whether a pair is left
+  -- The contents after the oldest pairs were evicted while the limiter was over its limit. The result is whether a pair
+  -- is left.
   abbrev pub trimmed : Contents K V S → Result Bool AllocError × Contents K V S
   trimmed c = (Ok (not (is_empty (trim rules c).pairs)), trim rules c)
 
@@ -75,31 +77,33 @@ module _ {K V S : Type 0} (rules : Rules K V S) where
   abbrev pub not_stored : Report → K × V → Contents K V S → Contents K V S
   not_stored report pair c = let d = met report c in after_removal rules (Some pair) d.pairs d.limiter
 
-  -- if there is a bucket for the pair, it is stored as the newest, and a trim follows; otherwise it is not stored
+  -- If there is a bucket for the pair, the pair is stored as the newest, and a trim follows. If there is no bucket, the
+  -- pair is not stored.
   abbrev pub stored : Report → K × V → Contents K V S → Result Bool AllocError × Contents K V S
   stored report pair c = let d = met report c in
       if report.has_bucket then trimmed (record { pairs = pair ∷ d.pairs; limiter = d.limiter })
       else (Ok false, not_stored report pair c)
 
--- if the limiter accepts the value, the pair gets it and becomes the newest, and a trim follows; otherwise the pair is
--- removed
+-- If the limiter accepts the new value, the pair gets this value and becomes the newest, and a trim follows. If the
+-- limiter rejects the new value, the pair is removed.
 abbrev pub exchanged : {K V S I : Type 0} (rules : Rules K V S) (offers : Offers K V S I) (names : I → K → Bool) (i : I)
     (v : V) → Contents K V S → K × V → Result Bool AllocError × Contents K V S
 exchanged rules offers names i v c pair =
     if (replacement rules offers names pair i v c).taken then trimmed rules (with_replaced rules offers names pair i v c)
     else (Ok false, with_removed rules offers names pair i v c)
 
--- What an insert into a list returns and leaves. `Tells s pair report` says that the table may report `report`, after
--- `on_insert` returned the pair and left the limiter as s.
+-- What an insert into a list of pairs returns and leaves. `Tells s pair report` means that the table may report
+-- `report`, after `on_insert` returned the pair and left the limiter as s.
 module _ {K V S I : Type 0} (rules : Rules K V S) (offers : Offers K V S I) (names : I → K → Bool)
     (Tells : S → K × V → Report → Type 0) (i : I) (v : V) (old : Contents K V S) (result : Result Bool AllocError)
     (new : Contents K V S) where
   pub data InsertsNew : Type 0 where
-    -- The limiter runs out of memory, or returns no pair to store.
+    -- The limiter runs out of memory when the key is offered, or returns no pair to store.
     not_offered : offers.may_run_out old.limiter (length old.pairs) i v → IsErr result → new ≡ old → InsertsNew
     not_admitted : (s : S) → MayGive rules offers names i v old s None →
         result ≡ Ok false → new ≡ record { pairs = old.pairs; limiter = s } → InsertsNew
-    -- Or the limiter returns a pair. The pair is stored as the table reports, or the map runs out of memory.
+    -- The limiter returns a pair to store. The pair is stored if the table reports a bucket for it, unless the map runs
+    -- out of memory.
     admitted : (s : S) (pair : K × V) → MayGive rules offers names i v old s (Some pair) →
         (report : Report) → Tells s pair report →
         stored rules report pair (make_room rules (record { pairs = old.pairs; limiter = s })) ≡ (result, new) →
@@ -114,17 +118,17 @@ module _ {K V S I : Type 0} (rules : Rules K V S) (offers : Offers K V S I) (nam
       (λ pair. exchanged rules offers names i v old pair ≡ (result, new))
 
 module _ {K V S I : Type 0} (rules : Rules K V S) (offers : Offers K V S I) (names : I → K → Bool) where
-  -- an insert into a list, with the report `reports s pair`
+  -- an insert into a list of pairs, if the table reports `reports s pair`
   abbrev pub InsertsGiven : (S → K × V → Report) → I → V → Contents K V S → Result Bool AllocError → Contents K V S →
       Type 0
   InsertsGiven reports = InsertsBy rules offers names (λ s pair report. report ≡ reports s pair)
 
-  -- an insert into a list without a table
+  -- an insert into a list of pairs without a table
   abbrev pub InsertsInList : I → V → Contents K V S → Result Bool AllocError → Contents K V S → Type 0
   InsertsInList = InsertsGiven (λ s pair. at_once)
 
   module _ {H : Type 0} (old : State K V S H) where
-    -- an insert into the map `old`
+    -- an insert into the map `old`, as its table reports
     abbrev pub InsertsAsReported : (H → K → ℕ) → I → V → Result Bool AllocError → Contents K V S → Type 0
     InsertsAsReported hash_of i v = InsertsBy rules offers names (λ s pair report. (ready : State K V S H)
         × Leaves (record old { limiter = s }) (make_room rules (record { pairs = old.pairs; limiter = s })) ready
@@ -135,17 +139,17 @@ module _ {K V S I : Type 0} (rules : Rules K V S) (offers : Offers K V S I) (nam
     InsertsInSmallTable i v = InsertsGiven (λ s pair. small_report rules old
         (make_room rules (record { pairs = old.pairs; limiter = s }))) i v (contents old)
 
--- the limiter and the arguments determine what `on_insert` returns and leaves
+-- the limiter and the arguments determine what `on_insert` returns, and how it leaves the limiter
 abbrev pub IsDetermined : {K V S I : Type 0} → Offers K V S I → Type 0
 IsDetermined {K} {V} {S} {I} offers = (s : S) (n : ℕ) (i : I) (v : V) (t u : S) (given other : Option (K × V)) →
     offers.on_insert s n i v t given → offers.on_insert s n i v u other → (t ≡ u) × (given ≡ other)
 
--- the limiter permits every growth, and stays as it is
+-- the limiter permits every growth of the table, and growth does not change the limiter
 abbrev pub AlwaysGrants : {K V S : Type 0} → Rules K V S → Type 0
 AlwaysGrants {K} {V} {S} rules = (s : S) (bytes : ℕ) →
     ((rules.on_grow s bytes).allowed ≡ true) × ((rules.on_grow s bytes).limiter ≡ s)
 
--- there is a table that holds n pairs: links can number its buckets, and it takes at most 2 ^ 63 - 16 bytes
+-- Some table can hold n pairs: its links can number its buckets, and it takes at most 2 ^ 63 - 16 bytes.
 pub record HasTableFor {K V S H : Type 0} (n : ℕ) (st : State K V S H) : Type 0 where
   pub count : ℕ
   pub bytes : ℕ

@@ -1,5 +1,5 @@
--- What `ensure_newest` and `get_or_insert` do: they look up a key, and insert it if it is not there.
---     makes v             the closure may return v
+-- What `ensure_newest` and `get_or_insert` do: they look up a key, and insert the key if it is not there.
+--     `makes v`: the closure may return v.
 use Rattle.std.specs.Prelude.{◌≡◌, ℕ, Bool, true, Some, None, Result, Ok, OnErr}
 use Rattle.std.specs.declared.alloc.AllocError.{AllocError}
 use Rattle.lru_limits.specs.Rules.{Rules, Offers}
@@ -11,8 +11,8 @@ use Rattle.lru_model.specs.Theorems.{IsNewest}
 
 module _ {K V S H I : Type 0} (rules : Rules K V S) (offers : Offers K V S I) (names : I → K → Bool)
     (hash_of : H → K → ℕ) where
-  -- If the key is there, its pair is promoted. Otherwise the key is inserted with a value that the closure returns. The
-  -- result says whether the key is there afterwards.
+  -- If the key is there, its pair becomes the newest. If the key is not there, it is inserted with a value that the
+  -- closure returns. The result says whether the key is there after the call.
   pub data MakesNewest (makes : V → Type 0) (i : I) (old : State K V S H) (result : Result Bool AllocError)
       (new : State K V S H) : Type 0 where
     got : (w : V) → lookup (names i) old.pairs ≡ Some w →
@@ -22,7 +22,7 @@ module _ {K V S H I : Type 0} (rules : Rules K V S) (offers : Offers K V S I) (n
         (v : V) → makes v → Insert rules offers names hash_of i v old result new →
         MakesNewest makes i old result new
 
-  -- why the call runs out of memory: the closure returned v, and the insert of v ran out of memory
+  -- why `get_or_insert` runs out of memory: the closure returned v, and the insert of v ran out of memory
   abbrev pub IsOutOfMemoryFor : (makes : V → Type 0) → I → State K V S H → State K V S H → Type 0
   IsOutOfMemoryFor makes i old new = (v : V) × makes v × IsOutOfMemory rules offers names hash_of i v old new
 

@@ -8,15 +8,15 @@ use Rattle.lru_model.specs.GetOrInserts.{MakesNewest, SaysNewest, IsOutOfMemoryF
 use Rattle.lru_model.specs.declared.results.GetOrInsertError.{GetOrInsertError}
 use Rattle.lru_model.specs.declared.results.GetOrInsertError.TheVariants.{Memory, Caller}
 
--- the result of an insert, with `Memory` as its error
+-- the result of an insert, with the error `Memory` in place of `AllocError`
 abbrev pub or_memory : {E : Type 0} → Result Bool AllocError → Result Bool (GetOrInsertError E)
 or_memory (Ok kept) = Ok kept
 or_memory (Err e) = Err Memory
 
 module _ {K V S H I E : Type 0} (rules : Rules K V S) (offers : Offers K V S I) (names : I → K → Bool)
     (hash_of : H → K → ℕ) where
-  -- If the closure fails, nothing changes, and the call returns the error of the closure. Otherwise the call does what
-  -- `MakesNewest` says. If memory runs out, it returns `Memory`.
+  -- If the closure fails, nothing changes, and the call returns the error of the closure. If the closure is not called,
+  -- or succeeds, the call does what `MakesNewest` says. If memory runs out, the call returns `Memory`.
   pub data MakesNewestIfMade (makes : Result V E → Type 0) (i : I) (old : State K V S H)
       (result : Result Bool (GetOrInsertError E)) (new : State K V S H) : Type 0 where
     failed : lookup (names i) old.pairs ≡ None →

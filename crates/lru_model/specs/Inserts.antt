@@ -1,7 +1,7 @@
 -- What an insert does.
---     rules, offers       the limiter's `Rules` and `Offers` (`lru_limits`)
---     names i k           the inserted key i names k
---     hash_of h k         the hash of k by the hasher h
+--     `rules`, `offers`: the limiter's `Rules` and `Offers` (`lru_limits`).
+--     `names i k`: the inserted key i names k.
+--     `hash_of h k`: the hash of k by the hasher h.
 use Rattle.std.specs.Prelude.{◌≡◌, ℕ, ◌+◌, ◌⊎◌, ◌<◌, Bool, true, false, not, if◌then◌else◌, ◌∷◌, length, Option, Some}
 use Rattle.std.specs.Prelude.{None, option_map, Result, Ok, Err, IsErr}
 use Rattle.std.specs.declared.alloc.AllocError.{AllocError}
@@ -11,12 +11,12 @@ use Rattle.lru_model.specs.declared.results.Inserted.{Inserted}
 use Rattle.lru_model.specs.State.{State, buckets, growth_left, Contents, contents, Leaves, pop, trim}
 use Rattle.lru_model.specs.Place.{Place, Outcome, placed, refused, no_memory}
 
--- The value that the map does not keep. If the limiter accepted the new value, this is the old value. Otherwise it is
--- the new value.
+-- The value that the map does not keep: the old value if the limiter accepted the new one, and the new value if the
+-- limiter rejected it.
 abbrev pub unkept_of : {K V S : Type 0} → Replaced K V S → V
 unkept_of r = if r.taken then r.old_value else r.new_value
 
--- the result of an insert, reduced to the flag `kept`
+-- the result of an insert, of which only the flag `kept` remains
 abbrev pub kept_of : {V E : Type 0} → Result (Inserted V) E → Result Bool E
 kept_of (Ok inserted) = Ok inserted.kept
 kept_of (Err e) = Err e
@@ -27,7 +27,7 @@ make_room rules c = if rules.is_over_the_limit c.limiter (length c.pairs + 1) th
 
 module _ {K V S H : Type 0} (rules : Rules K V S) where
   -- How an insert goes on after the insertion into the table. If the pair was stored, the oldest pairs are evicted
-  -- while the limiter is over its limit. The result is then whether a pair is left. If the pair was not stored, nothing
+  -- while the limiter is over its limit, and the result is whether a pair is left. If the pair was not stored, nothing
   -- more changes.
   abbrev pub Settles : Outcome → State K V S H → Result Bool AllocError → State K V S H → Type 0
   Settles placed landed result new =
@@ -74,7 +74,8 @@ module _ {K V S I : Type 0} (rules : Rules K V S) (offers : Offers K V S I) (nam
   abbrev pub unkept_value : I → V → Contents K V S → Option V
   unkept_value i v c = option_map (λ pair. unkept_of (replacement pair i v c)) (lookup_entry (names i) c.pairs)
 
-  -- if a new key is offered, `on_insert` of the limiter may return `given`, a pair or none, and leave the limiter as s
+  -- if a new key is offered, `on_insert` of the limiter may return `given` (a pair to store, or `None`), and leave the
+  -- limiter as s
   abbrev pub MayGive : I → V → Contents K V S → S → Option (K × V) → Type 0
   MayGive i v c s given = offers.on_insert c.limiter (length c.pairs) i v s given
 
@@ -82,7 +83,7 @@ module _ {K V S I : Type 0} (rules : Rules K V S) (offers : Offers K V S I) (nam
     pub data Insert (i : I) (v : V) (old : State K V S H) (result : Result Bool AllocError)
         (new : State K V S H) : Type 0 where
       -- The key is there, and the limiter accepts the new value. The pair becomes the newest, with the new value. The
-      -- oldest pairs are then evicted while the limiter is over its limit.
+      -- insert ends with a trim: the oldest pairs are evicted while the limiter is over its limit.
       replaced : (pair : K × V) → lookup_entry (names i) old.pairs ≡ Some pair →
           (replacement pair i v (contents old)).taken ≡ true →
           result ≡ Ok (not (is_empty new.pairs)) → Leaves old (trim rules (with_replaced pair i v (contents old))) new →
@@ -92,7 +93,7 @@ module _ {K V S I : Type 0} (rules : Rules K V S) (offers : Offers K V S I) (nam
           (replacement pair i v (contents old)).taken ≡ false →
           result ≡ Ok false → Leaves old (with_removed pair i v (contents old)) new →
           Insert i v old result new
-      -- The key is new, and the limiter runs out of memory, or returns no pair to store. All pairs stay.
+      -- The key is new, and the limiter runs out of memory, or returns no pair to store. All pairs of the map stay.
       no_memory_to_admit : lookup_entry (names i) old.pairs ≡ None →
           offers.may_run_out old.limiter (length old.pairs) i v →
           IsErr result → new ≡ old →
@@ -101,15 +102,15 @@ module _ {K V S I : Type 0} (rules : Rules K V S) (offers : Offers K V S I) (nam
           (s : S) → MayGive i v (contents old) s None →
           result ≡ Ok false → new ≡ record old { limiter = s } →
           Insert i v old result new
-      -- The key is new, and the limiter returns a pair. The pair is inserted into the table, unless this fails. The map
-      -- may evict pairs before and after.
+      -- The key is new, and the limiter returns a pair. The pair is inserted into the table, unless this insertion
+      -- fails. The map may evict pairs before and after the insertion.
       admitted : lookup_entry (names i) old.pairs ≡ None →
           (s : S) (pair : K × V) → MayGive i v (contents old) s (Some pair) →
           PlacesNew rules hash_of pair (record old { limiter = s }) result new →
           Insert i v old result new
 
-    -- Why the table may need memory for the pair that the limiter returned. No growth is left, and either there are no
-    -- buckets, or the map contains a pair after `make_room`. A rehash of a table without pairs needs no memory.
+    -- Why the table may need memory for the pair that the limiter returned. No growth is left, and either the table has
+    -- no buckets, or the map contains a pair after `make_room`. A rehash of a table without pairs needs no memory.
     pub record NeedsMemory (i : I) (v : V) (old : State K V S H) : Type 0 where
       pub no_growth_left : growth_left old ≡ 0
       pub s : S

@@ -27,7 +27,7 @@ module _ {X : Type 0} where
   without_last (x ∷ []) = []
   without_last (x ∷ y ∷ ys) = x ∷ without_last (y ∷ ys)
 
-  -- the n-th element, counted from 1, if the list has at least n elements
+  -- the n-th element of the list, counted from 1, or `None` if the list has fewer than n elements
   abbrev pub last_of : ℕ → List X → Option X
   last_of zero xs = None
   last_of (suc n) xs = slice_get xs n
@@ -36,36 +36,37 @@ module _ {X : Type 0} where
   after None xs = xs
   after (Some x) xs = x ∷ xs
 
-  -- ys begins with xs
+  -- the list ys begins with the list xs
   abbrev pub IsFront : List X → List X → Type 0
   IsFront xs ys = (rest : List X) × (ys ≡ xs ++ rest)
 
 module _ {K V : Type 0} where
-  -- the pair of the named key first, and then the other pairs in their order
+  -- the list with the pair of the named key moved to its front
   abbrev pub front : (K → Bool) → List (K × V) → List (K × V)
   front names pairs = after (lookup_entry names pairs) (without names pairs)
 
-  -- the other pairs in their order, and then the pair of the named key
+  -- the list with the pair of the named key moved to its end
   abbrev pub back : (K → Bool) → List (K × V) → List (K × V)
   back names pairs = without names pairs ++ option_to_list (lookup_entry names pairs)
 
-  -- the place of the named key's pair, which is a bucket number; `places` lists the place of each pair, in order
+  -- The place (the bucket number) of the named key's pair. `places` lists the place of each pair, in the order of the
+  -- pairs.
   abbrev pub place_of : (K → Bool) → List (K × V) → List ℕ → Option ℕ
   place_of names [] places = None
   place_of names (pair ∷ pairs) [] = None
   place_of names (pair ∷ pairs) (b ∷ places) = if names pair.0 then Some b else place_of names pairs places
 
-  -- the places of the other pairs
+  -- the places of all pairs except the named key's pair
   abbrev pub other_places : (K → Bool) → List (K × V) → List ℕ → List ℕ
   other_places names [] places = places
   other_places names (pair ∷ pairs) [] = []
   other_places names (pair ∷ pairs) (b ∷ places) = if names pair.0 then places else b ∷ other_places names pairs places
 
-  -- the place of the named key's pair first, and then the other places in their order
+  -- the list of places with the place of the named key's pair moved to its front
   abbrev pub front_places : (K → Bool) → List (K × V) → List ℕ → List ℕ
   front_places names pairs places = after (place_of names pairs places) (other_places names pairs places)
 
-  -- the other places in their order, and then the place of the named key's pair
+  -- the list of places with the place of the named key's pair moved to its end
   abbrev pub back_places : (K → Bool) → List (K × V) → List ℕ → List ℕ
   back_places names pairs places = other_places names pairs places ++ option_to_list (place_of names pairs places)
 
@@ -85,7 +86,7 @@ module _ {K V : Type 0} where
   abbrev pub newest_value : List (K × V) → Option V
   newest_value pairs = option_map (λ p. p.1) (first pairs)
 
-  -- the list after w became the value of the pair at position i, counted from 0
+  -- the list after the value of the pair at position i (counted from 0) became w
   abbrev pub set_value_at : List (K × V) → ℕ → V → List (K × V)
   set_value_at [] i w = []
   set_value_at (pair ∷ pairs) zero w = (pair.0, w) ∷ pairs

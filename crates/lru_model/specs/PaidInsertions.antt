@@ -1,4 +1,5 @@
--- What all insertions into the table cost. A reservation is included if no growth was left before it.
+-- How many insertions into the table all calls together make. A reservation is included only if no growth was left
+-- before it.
 use Rattle.std.specs.Prelude.{◌≡◌, ℕ, ◌+◌, ◌-◌, ◌*◌, ◌^◌, ◌≤◌, ◌<◌, Bool, Result}
 use Rattle.lru_limits.specs.Rules.{Rules}
 use Rattle.lru_limits.specs.Admissions.{Terms, offers_of}
@@ -7,7 +8,7 @@ use Rattle.lru_model.specs.TryInserts.{TryInsert}
 use Rattle.lru_model.specs.Runs.{AnyStep, calls, reserves}
 
 -- The number of insertions into the table, plus the potential, rises by at most 3 for each stored entry, plus 2 for
--- each entry that a shrink rehashed. This holds until the count `placed` or `shrunk` stops at its maximum.
+-- each entry that a shrink rehashed. This bound holds until the count `placed` or `shrunk` stops at its maximum.
 pub record PaysForInsertions {K V S H : Type 0} (old new : State K V S H) : Type 0 where
   pub placed : old.counts.placed ≤ new.counts.placed
   pub shrunk : old.counts.shrunk ≤ new.counts.shrunk
@@ -17,12 +18,12 @@ pub record PaysForInsertions {K V S H : Type 0} (old new : State K V S H) : Type
 
 module _ {K V S H : Type 0} (terms : Terms K V S) (rules : Rules K V S) (eq : K → K → Bool)
     (hash_of : H → K → ℕ) where
-  -- if the step is a reservation, no growth was left before it
+  -- if the step is a reservation, no growth was left before this step
   abbrev pub ReservesIfFull : (old new : State K V S H) → AnyStep rules (offers_of terms) eq hash_of old new → Type 0
   ReservesIfFull old new (calls (reserves n result h)) = growth_left old ≡ 0
   ReservesIfFull old new step = Unit {0}
 
-  -- a `try_insert`, or any other step; a reservation only if no growth was left before it
+  -- A `try_insert`, or any other step. A reservation is allowed only if no growth was left before it.
   pub data PaidStep (old new : State K V S H) : Type 0 where
     tries : (key : K) (value : V) (result : Result (Unit {0}) (K × V)) →
         TryInsert terms rules key value old eq hash_of result new → PaidStep old new

@@ -10,8 +10,8 @@ use Rattle.lru_limits.specs.Rules.{Rules}
 use Rattle.lru_model.specs.Sizes.{target, Target, no_table, new_table}
 use Rattle.lru_model.specs.State.{State, TableState, buckets, growth_left, FirstFreeIs, count_insert, contents, Leaves, pop}
 
--- How an insertion ends: the pair is stored (`placed`), or the table cannot grow and there is no pair to evict
--- (`refused`), or the map runs out of memory (`no_memory`).
+-- How an insertion into the table ends. The pair is stored (`placed`), or the table cannot grow and there is no pair to
+-- evict (`refused`), or the map runs out of memory (`no_memory`).
 pub data Outcome : Type 0 where
   placed refused no_memory : Outcome
 
@@ -20,9 +20,9 @@ outcome_of (Ok true) = placed
 outcome_of (Ok false) = refused
 outcome_of (Err e) = no_memory
 
--- The newest pair fills the first free bucket in a search for the hash. No other bucket changes. If the bucket was
--- empty, the growth left falls by one. If the bucket was deleted, the growth left stays, and the table has more than 16
--- buckets.
+-- The new pair, now the newest, fills the first free bucket in a search for its hash. No other bucket changes. If the
+-- bucket was empty, the growth left falls by one. If the bucket was deleted, the growth left stays, and the table has
+-- more than 16 buckets.
 pub record FillsBucket (hash : ℕ) (old new : TableState) : Type 0 where
   pub bucket : ℕ
   pub first : IsFirstFree old.states hash bucket
@@ -32,21 +32,22 @@ pub record FillsBucket (hash : ℕ) (old new : TableState) : Type 0 where
       ⊎ ((bucket_at old.states bucket ≡ deleted) × (16 < length old.states) × (growth_left_of new.states ≡ growth_left_of old.states))
 
 -- No bucket of a table of n pairs takes a pair of this hash. No growth is left, and the first free bucket in a search
--- for the hash is empty. A table without pairs is not searched: if it has no growth left, no bucket takes the pair.
+-- for the hash is empty (not deleted). A table without pairs is not searched, and takes no pair if it has no growth
+-- left.
 pub record NoBucketTakes (hash n : ℕ) (states : List BucketState) : Type 0 where
   pub no_growth_left : growth_left_of states ≡ 0
   pub first_empty : 0 < n → FirstFreeIs empty hash states
 
 -- No bucket takes a pair of this hash. A rehash is not enough: with one pair more, the table would be more than half
--- full. Either there are no buckets, or the table contains pairs.
+-- full. The table has no buckets, or it contains pairs.
 pub record IsTooSmallFor (hash n : ℕ) (states : List BucketState) : Type 0 where
   pub no_bucket : NoBucketTakes hash n states
   pub above_half : full_capacity (length states) / 2 < n + 1
   pub begun : (length states ≡ 0) ⊎ (0 < n)
 
 module _ {K V S H : Type 0} where
-  -- The pair is the newest now. The table has `count` buckets, and its growth left is `spare`. The insert moved `moves`
-  -- entries.
+  -- The new pair is stored as the newest. The table now has `count` buckets, and its growth left is `spare`. The insert
+  -- moved `moves` entries.
   pub record IsPlaced (pair : K × V) (count spare moves : ℕ) (old new : State K V S H) : Type 0 where
     pub table : buckets new ≡ count
     pub room_left : growth_left new ≡ spare
@@ -88,33 +89,35 @@ module _ {K V S H : Type 0} (rules : Rules K V S) where
   abbrev pub unstored : K × V → State K V S H → State K V S H
   unstored pair st = record st { limiter = (rules.on_removed st.limiter pair.0 pair.1).limiter }
 
-  -- The n oldest pairs were evicted, one after another. Before each eviction no bucket could take a pair of this hash.
+  -- The n oldest pairs were evicted, one after another. Before each eviction, no bucket could take a pair of this hash.
   abbrev pub OldestEvicted : ℕ → ℕ → State K V S H → State K V S H → Type 0
   OldestEvicted hash zero old new = new ≡ old
   OldestEvicted hash (suc n) old new = (before : State K V S H) × OldestEvicted hash n old before
       × HasNoBucket hash before × Leaves before (pop rules (contents before)) new
 
-  -- Either the pair is stored (`IsPlaced`), or the map ran out of memory and notified the limiter of the pair.
+  -- Either the pair is stored (`IsPlaced`), or the map ran out of memory, and its limiter was notified that the pair is
+  -- not stored.
   abbrev pub IsPlacedIfMemory : K × V → ℕ → ℕ → ℕ → State K V S H → Outcome → State K V S H → Type 0
   IsPlacedIfMemory pair count spare moves old placed new = IsPlaced pair count spare moves old new
   IsPlacedIfMemory pair count spare moves old no_memory new = new ≡ unstored pair old
   IsPlacedIfMemory pair count spare moves old refused new = ⊥
 
-  -- All entries moved into a table of `count` buckets, and the pair was stored there. Or the map ran out of memory.
+  -- Either all entries moved into a table of `count` buckets, which also stores the new pair, or the map ran out of
+  -- memory.
   abbrev pub IsPlacedByMove : K × V → ℕ → State K V S H → Outcome → State K V S H → Type 0
   IsPlacedByMove pair count old =
       IsPlacedIfMemory pair count (full_capacity count - length old.pairs - 1) (length old.pairs) old
 
-  -- The table cannot grow. Either there is no larger table (`table_for`), and `mid` is `old`. Or the limiter refuses
+  -- Why a table cannot grow. Either there is no larger table (`table_for`), and `mid` is `old`, or the limiter refuses
   -- the larger table, and `mid` is the map after the limiter was queried.
   pub data CannotGrow (old mid : State K V S H) : Type 0 where
     no_target : table_for 1 old ≡ no_table → mid ≡ old → CannotGrow old mid
     denied : (count bytes : ℕ) → table_for 1 old ≡ new_table count bytes → Denies bytes old →
         mid ≡ asked bytes old → CannotGrow old mid
 
-  -- The oldest pairs of `mid` are evicted until a bucket takes the new pair. Once the pairs fill less than half of the
-  -- capacity, no more pairs are evicted. Then the table is rehashed, or the map runs out of memory. If there is no pair
-  -- to evict, the new pair is not stored. `old` and `mid` are the maps of `CannotGrow`.
+  -- The oldest pairs of `mid` are evicted until a bucket takes the new pair. If the pairs fill less than half of the
+  -- capacity, no more pairs are evicted: the table is rehashed, or the map runs out of memory. If there is no pair to
+  -- evict, the new pair is not stored. `old` and `mid` are the maps of `CannotGrow`.
   pub data Evicts (hash : ℕ) (pair : K × V) (old mid : State K V S H) (outcome : Outcome)
       (new : State K V S H) : Type 0 where
     nothing_to_evict : old.pairs ≡ [] →
@@ -134,25 +137,25 @@ module _ {K V S H : Type 0} (rules : Rules K V S) where
 module _ {K V S H : Type 0} (rules : Rules K V S) (hash_of : H → K → ℕ) where
   -- how the insertion of the pair into the table may end
   pub data Place (pair : K × V) (old : State K V S H) (outcome : Outcome) (new : State K V S H) : Type 0 where
-    -- A free bucket takes the pair. The limiter is not queried, and no memory is needed.
+    -- A free bucket takes the pair. The limiter is not queried, and the map needs no memory.
     in_bucket : length old.pairs < full_capacity (buckets old) → (0 < growth_left old) ⊎ (0 < length old.pairs) →
         FillsBucket (hash_of old.hasher pair.0) old.table new.table →
         outcome ≡ placed → IsPlacedInTable pair old new →
         Place pair old outcome new
-    -- Or no bucket takes the pair, and the table would be at most half full with the pair. Then the table is rehashed,
-    -- or the map runs out of memory. If the map has no pairs, the rehash needs no memory.
+    -- No bucket takes the pair, and the table would be at most half full with the pair. The table is rehashed, or the
+    -- map runs out of memory. If the map has no pairs, the rehash needs no memory.
     rehashed : HasNoBucket (hash_of old.hasher pair.0) old → length old.pairs + 1 ≤ full_capacity (buckets old) / 2 →
         (outcome ≡ no_memory → 0 < length old.pairs) →
         IsPlacedByMove rules pair (buckets old) old outcome new →
         Place pair old outcome new
-    -- Or the table is too small, there is a larger table, and the limiter permits it. Then the table grows, or the map
-    -- runs out of memory.
+    -- The table is too small, there is a larger table, and the limiter permits the larger table. The table grows, or
+    -- the map runs out of memory.
     grown : IsOutgrown (hash_of old.hasher pair.0) old →
         (count bytes : ℕ) → table_for 1 old ≡ new_table count bytes → Grants rules bytes old →
         IsPlacedByMove rules pair count (asked rules bytes old) outcome new →
         Place pair old outcome new
-    -- Or the table is too small and cannot grow. Then one or more of the oldest pairs are evicted. If the map has no
-    -- pairs, the new pair is not stored.
+    -- The table is too small and cannot grow. One or more of the oldest pairs are evicted. If the map has no pairs, the
+    -- new pair is not stored.
     not_grown : IsOutgrown (hash_of old.hasher pair.0) old →
         (mid : State K V S H) → CannotGrow rules old mid →
         Evicts rules (hash_of old.hasher pair.0) pair old mid outcome new →

@@ -1,5 +1,5 @@
 -- What `pop_oldest_if` and `try_pop_oldest` do: a closure decides whether the oldest pair is popped.
---     says pair answer   the closure may return `answer` for the pair
+--     `says pair answer`: the closure may return `answer` for the pair.
 use Rattle.std.specs.Prelude.{◌≡◌, Bool, true, false, Option, Some, None, Result, Ok, Err}
 use Rattle.std.specs.Borrow.{Bor}
 use Rattle.lru_limits.specs.Rules.{Rules}
@@ -7,13 +7,13 @@ use Rattle.lru_model.specs.Lists.{last}
 use Rattle.lru_model.specs.State.{State}
 use Rattle.lru_model.specs.Calls.{PopOldest}
 
--- a closure may return `answer` for references to the key and the value of a pair
+-- the closure may return `answer` when it is called with references to the key and the value of the pair
 abbrev pub Says : {K V A : Type 0} → (Bor K → Bor V → A → Type 0) → K × V → A → Type 0
 Says {K} {V} returns pair answer = (key : Bor K) × (value : Bor V)
     × (key.now ≡ pair.0) × (value.now ≡ pair.1) × returns key value answer
 
 module _ {K V S H : Type 0} (rules : Rules K V S) where
-  -- the oldest pair is removed and returned if the closure accepts it
+  -- if the closure accepts the oldest pair, the call removes and returns this pair
   pub data PopOldestIf (says : K × V → Bool → Type 0) (old : State K V S H) (result : Option (K × V))
       (new : State K V S H) : Type 0 where
     empty : last old.pairs ≡ None → result ≡ None → new ≡ old →
@@ -25,7 +25,7 @@ module _ {K V S H : Type 0} (rules : Rules K V S) where
         PopOldest rules old result new →
         PopOldestIf says old result new
 
-  -- the oldest pair is removed and returned if the closure succeeds
+  -- if the closure succeeds for the oldest pair, the call removes and returns this pair
   pub data TryPopOldest {E : Type 0} (says : K × V → Result (Unit {0}) E → Type 0) (old : State K V S H)
       (result : Result (Option (K × V)) E) (new : State K V S H) : Type 0 where
     no_pair : last old.pairs ≡ None → result ≡ Ok None → new ≡ old →

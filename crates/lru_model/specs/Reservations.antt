@@ -8,18 +8,18 @@ use Rattle.lru_model.specs.declared.results.ReserveError.{ReserveError}
 use Rattle.lru_model.specs.declared.results.ReserveError.TheVariants.{TooLarge, Refused, Memory}
 
 module _ {K V S H : Type 0} (n : ℕ) (st : State K V S H) where
-  -- the growth left is less than n, and the number of pairs, plus n, is below 2 ^ 64
+  -- the growth left is less than n, and the number of pairs plus n is below 2 ^ 64
   abbrev pub NeedsGrowthFor : Type 0
   NeedsGrowthFor = (growth_left st < n) × (length st.pairs + n < 2 ^ 64)
 
   -- why a reservation changes nothing
   pub data ReservesNothing (result : Result (Unit {0}) ReserveError) : Type 0 where
-    -- Enough growth is left.
+    -- The growth left is enough for n pairs.
     enough_room : n ≤ growth_left st → length st.pairs + n < 2 ^ 64 → result ≡ Ok tt → ReservesNothing result
-    -- Or the number of pairs, plus n, does not fit 64 bits, or no table holds this number of pairs.
+    -- The number of pairs plus n does not fit 64 bits, or no table holds this number of pairs.
     too_many : 2 ^ 64 ≤ length st.pairs + n → result ≡ Err TooLarge → ReservesNothing result
     no_such_table : NeedsGrowthFor → table_for n st ≡ no_table → result ≡ Err TooLarge → ReservesNothing result
-    -- Or the allocation for a rehash fails. A rehash needs memory only if there are pairs.
+    -- The allocation for a rehash fails. A rehash needs memory only if the map has pairs.
     no_memory_to_rehash : NeedsGrowthFor → table_for n st ≡ same_table → 0 < length st.pairs → result ≡ Err Memory →
         ReservesNothing result
 
@@ -29,22 +29,22 @@ module _ {K V S H : Type 0} (rules : Rules K V S) where
   FailsToGrow bytes st result =
       (Grants rules bytes st × (result ≡ Err Memory)) ⊎ (Denies rules bytes st × (result ≡ Err Refused))
 
-  -- A reservation fails, or leaves growth for at least n pairs. The pairs stay.
+  -- A reservation of growth for n pairs fails, or leaves growth for at least n pairs. All pairs stay.
   pub data Reserve (n : ℕ) (old : State K V S H) (result : Result (Unit {0}) ReserveError)
       (new : State K V S H) : Type 0 where
-    -- Nothing changes.
+    -- The reservation changes nothing.
     unchanged : ReservesNothing n old result → new ≡ old →
         Reserve n old result new
-    -- Or the table is rehashed at its size. The limiter is not queried.
+    -- The table is rehashed, and keeps its number of buckets. The limiter is not queried.
     rehashed : NeedsGrowthFor n old → table_for n old ≡ same_table →
         result ≡ Ok tt → MovesTo (buckets old) old new →
         Reserve n old result new
-    -- Or the limiter permits a larger table, and the table grows.
+    -- The limiter permits a larger table, and the table grows.
     reserved : NeedsGrowthFor n old → (count bytes : ℕ) → table_for n old ≡ new_table count bytes
         → Grants rules bytes old →
         result ≡ Ok tt → MovesTo count (asked rules bytes old) new →
         Reserve n old result new
-    -- Or the limiter was queried, but the table does not grow.
+    -- The limiter was queried for a larger table, but the table does not grow.
     asked_only : NeedsGrowthFor n old → (count bytes : ℕ) → table_for n old ≡ new_table count bytes
         → FailsToGrow bytes old result → new ≡ asked rules bytes old →
         Reserve n old result new

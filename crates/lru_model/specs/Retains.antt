@@ -1,5 +1,5 @@
 -- What `retain` does: it removes the pairs that its closure rejects.
---     closure    how the closure may be called
+--     `closure`: how the closure may be called.
 use Rattle.std.specs.Prelude.{◌≡◌, Bool, true, false, List, [], ◌∷◌, Some, map}
 use Rattle.std.specs.Borrow.{Bor}
 use Rattle.std.specs.Fn.{Mut}
@@ -9,25 +9,26 @@ use Rattle.lru_model.specs.ByHash.{Asks}
 use Rattle.lru_model.specs.Callbacks.{noting, noted}
 
 module _ {K V S : Type 0} (rules : Rules K V S) where
-  -- If the closure returned true for the pair, the pair becomes the newest of the contents. Otherwise the pair is
-  -- removed, and the limiter is notified.
+  -- If the closure returned true for the pair, the pair becomes the newest of the contents. If the closure returned
+  -- false, the pair is removed, and the limiter is notified.
   abbrev pub answered : (K × V) × Bool → Contents K V S → Contents K V S
   answered (pair, true) c = record { pairs = pair ∷ c.pairs; limiter = c.limiter }
   answered (pair, false) c = record { pairs = c.pairs; limiter = notified_of rules (Some pair) c.limiter }
 
-  -- The contents that a retain leaves. Each pair is listed with the flag that the closure returned for it, newest pair
-  -- first. The closure was called with the oldest pair first.
+  -- The contents that a retain leaves. The list contains each pair, newest first, with the flag that the closure
+  -- returned for this pair. The closure was called with the oldest pair first.
   abbrev pub retained : List ((K × V) × Bool) → S → Contents K V S
   retained [] s = record { pairs = []; limiter = s }
   retained (newest ∷ older) s = answered newest (retained older s)
 
 module _ {K V F : Type 0} (closure : Mut F (Bor K × (Bor V × Unit {0})) Bool) where
-  -- f was called with these pairs, oldest first, returned the flag of each, and is then g
+  -- f was called with these pairs, oldest first, and returned the listed flag for each; after these calls, f is g
   abbrev pub Answers : F → List ((K × V) × Bool) → F → Type 0
   Answers f [] g = g ≡ f
   Answers f (newest ∷ older) g = (between : F) × Answers f older between × Asks closure between newest.0 newest.1 g
 
-  -- the closure is called with each pair once, oldest first; the pairs for which it returns true stay, in their order
+  -- The closure is called with each pair once, oldest first. The pairs for which the closure returns true stay, in
+  -- their order.
   pub record Retains {S H : Type 0} (rules : Rules K V S) (f : F) (old new : State K V S H) : Type 0 where
     pub asked : List ((K × V) × Bool)
     pub each : map (λ one. one.0) asked ≡ old.pairs
@@ -35,7 +36,7 @@ module _ {K V F : Type 0} (closure : Mut F (Bor K × (Bor V × Unit {0})) Bool) 
     pub answers : Answers f asked last
     pub state : Leaves old (retained rules asked old.limiter) new
 
--- a retain that passes the pairs `passed` to its callback, as the limiter leaves them
+-- a retain that passes the removed pairs to its callback, as the limiter leaves them (`passed`)
 abbrev pub RetainPasses : {K V S H F : Type 0} → Rules K V S → Mut F (Bor K × (Bor V × Unit {0})) Bool → F
     → State K V S H → List (K × V) → State K V S H → Type 0
 RetainPasses rules closure f old passed new = Retains closure (noting rules) f (noted [] old) (noted passed new)

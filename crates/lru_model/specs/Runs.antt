@@ -1,7 +1,7 @@
 -- How one call changes a map (`Step`), and how calls one after another change it (`Run`).
---     rules, offers       the limiter's `Rules` and `Offers` (`lru_limits`)
---     names i k           the key i of a call names k
---     hash_of h k         the hash of k by the hasher h
+--     `rules`, `offers`: the limiter's `Rules` and `Offers` (`lru_limits`).
+--     `names i k`: the key i of a call names k.
+--     `hash_of h k`: the hash of k by the hasher h.
 use Rattle.std.specs.Prelude.{◌≡◌, ◌⊎◌, ℕ, Bool, true, false, List, Option, IfSome, Result, Contains, map}
 use Rattle.std.specs.declared.alloc.AllocError.{AllocError}
 use Rattle.lru_limits.specs.Rules.{Rules, Offers}
@@ -18,15 +18,15 @@ use Rattle.lru_model.specs.Updates.{Update}
 use Rattle.lru_model.specs.declared.results.Updated.{Updated}
 use Rattle.lru_model.specs.declared.results.ReserveError.{ReserveError}
 
--- if a key is named, it passes the test
+-- each named key passes the test
 abbrev pub AreAmong : {K : Type 0} → (K → Bool) → (K → Bool) → Type 0
 AreAmong {K} named test = (key : K) → named key ≡ true → test key ≡ true
 
 module _ {K V S H I : Type 0} (rules : Rules K V S) (offers : Offers K V S I) (names : I → K → Bool)
     (hash_of : H → K → ℕ) where
   -- How one call changes a map. `AnyStep` adds changes of the limiter and writes through references. A call that only
-  -- reads is no step. `gets` is a look-up by any type of key, or by a hash, that promotes the pair it finds. All keys
-  -- that calls insert or update have one type, I.
+  -- reads is no step. `gets` is a look-up, by a key of any type or by a hash, which promotes the pair that it finds.
+  -- All keys that calls insert or update have one type, I.
   pub data Step (old new : State K V S H) : Type 0 where
     inserts : (key : I) (value : V) (result : Result Bool AllocError)
         → Insert rules offers names hash_of key value old result new → Step old new
@@ -63,8 +63,8 @@ module _ {K V S H I : Type 0} (rules : Rules K V S) (offers : Offers K V S I) (n
       × IfSome (lookup_entry test old.pairs) (λ there. cost there.0 value ≡ cost there.0 there.1)
       × (new ≡ written test value old))
 
-  -- The step is not `pop_newest`, and names only keys that pass the test. A retain names the keys that its closure
-  -- rejects.
+  -- The step is not `pop_newest`, and names only keys that pass the test. A retain names the keys of the pairs that its
+  -- closure rejects.
   abbrev pub NamesOnly : (test : K → Bool) → (old new : State K V S H) → AnyStep old new → Type 0
   NamesOnly test old new (calls (inserts key value result h)) = AreAmong (names key) test
   NamesOnly test old new (calls (makes_newest value key result h)) = AreAmong (names key) test
@@ -82,11 +82,11 @@ module _ {K V S H I : Type 0} (rules : Rules K V S) (offers : Offers K V S I) (n
   abbrev pub StepAmong : (K → Bool) → State K V S H → State K V S H → Type 0
   StepAmong test old new = (step : AnyStep old new) × NamesOnly test old new step
 
--- `names` for calls that insert and update nothing: there is no inserted key
+-- the `names` of calls that insert and update nothing, and so have no inserted key
 abbrev pub no_keys : {K : Type 0} → ⊥ → K → Bool
 no_keys key k = false
 
--- `offers` for calls that insert and update nothing: the limiter is offered nothing
+-- the `offers` of calls that insert and update nothing, and so offer the limiter nothing
 abbrev pub no_offers : {K V S : Type 0} → Offers K V S ⊥
 no_offers = record {
   on_insert = λ limiter n key value left pair. ⊥;
@@ -109,8 +109,8 @@ pub data Run {K V S H : Type 0} (IsStep : State K V S H → State K V S H → Ty
       → Run IsStep new old
 
 module _ {K V S H : Type 0} (rules : Rules K V S) (hash_of : H → K → ℕ) where
-  -- A call other than an insert, a get that inserts, or an update. It is also a `Step` with any type I of inserted keys
-  -- (`without_insert` in `proofs/EveryCall`).
+  -- A call other than an insert, a get that inserts, or an update. Such a call is also a `Step` for any type I of
+  -- inserted keys (`without_insert` in `proofs/EveryCall`).
   abbrev pub StepWithoutInsert : (old new : State K V S H) → Type 0
   StepWithoutInsert = Step rules no_offers no_keys hash_of
 

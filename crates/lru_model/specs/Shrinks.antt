@@ -10,25 +10,25 @@ module _ {K V S H : Type 0} where
   abbrev pub IsTight : State K V S H → Type 0
   IsTight st = IfSome (buckets_for st.max (length st.pairs)) (λ count. buckets st ≤ count)
 
-  -- the pairs need `count` buckets, and the table has more
+  -- the pairs need `count` buckets, and the table has more buckets
   abbrev pub IsLooseFor : ℕ → State K V S H → Type 0
   IsLooseFor count st = (buckets_for st.max (length st.pairs) ≡ Some count) × (count < buckets st)
 
-  -- the map with all its pairs counted as rehashed by a shrink
+  -- the map after all its pairs were counted as rehashed by a shrink
   abbrev pub shrink_counted : State K V S H → State K V S H
   shrink_counted st = record st { counts = record st.counts { shrunk = count_up st.counts.shrunk (length st.pairs) } }
 
   -- how a shrink ends
   pub data Shrink (old : State K V S H) (result : Result Bool AllocError) (new : State K V S H) : Type 0 where
-    -- There is nothing to do.
+    -- The table has no more buckets than its pairs need, and nothing changes.
     kept : IsTight old →
         result ≡ Ok false → new ≡ old →
         Shrink old result new
-    -- Or the pairs move into `count` buckets. If there are no pairs, the table is freed, which needs no memory.
+    -- The pairs move into a table of `count` buckets. If there are no pairs, the table is freed, which needs no memory.
     shrunk : (count : ℕ) → IsLooseFor count old →
         result ≡ Ok true → MovesTo count (shrink_counted old) new →
         Shrink old result new
-    -- Or the allocation fails, and nothing changes.
+    -- The allocation of a smaller table fails, and nothing changes.
     no_memory_to_shrink : (count : ℕ) → IsLooseFor count old → 0 < length old.pairs →
         IsErr result → new ≡ old →
         Shrink old result new

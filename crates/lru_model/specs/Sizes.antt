@@ -4,7 +4,7 @@ use Rattle.std.specs.Prelude.{◌≡◌, ◌⊎◌, ℕ, ◌+◌, ◌-◌, ◌*�
 use Rattle.std.specs.Prelude.{Option, Some, None}
 use Rattle.group_table.specs.Sizes.{IsPowerFromFour, full_capacity, buckets_for}
 
--- the number of the link `MAX`, for links of 32 and of 64 bits; each bucket has a smaller number
+-- The number of the link `MAX`, for links of 32 bits and of 64 bits. Each bucket has a smaller number.
 abbrev pub max_of_32_bits : ℕ
 max_of_32_bits = 2 ^ 32 - 1
 
@@ -23,8 +23,8 @@ usage entry_bytes buckets =
     else (if nat_le (bytes_of entry_bytes buckets) (2 ^ 63 - 16) then Some (bytes_of entry_bytes buckets)
     else None)
 
--- `bytes` is the greatest usage within the budget, among the tables of fewer than `max` buckets. It is 0 if no such
--- table is within the budget.
+-- `bytes` is the greatest usage within the budget, among the tables of fewer than `max` buckets, or 0 if each of these
+-- tables uses more than the budget.
 pub record IsGreatestUsage (max entry_bytes budget bytes : ℕ) : Type 0 where
   pub within : bytes ≤ budget
   pub of_table : (bytes ≡ 0)
@@ -46,9 +46,10 @@ abbrev pub table_with : ℕ → Option ℕ → Target
 table_with entry_bytes None = no_table
 table_with entry_bytes (Some buckets) = table_of buckets (usage entry_bytes buckets)
 
--- A table of `buckets` buckets grows for `pairs` pairs, which need `need` buckets. If the table has fewer, it grows to
--- `need` buckets. Otherwise, if `pairs` is at most half of its capacity, it keeps its size. Otherwise it grows to twice
--- its buckets. If the new table is too large, the table does not grow (`no_table`).
+-- A table of `buckets` buckets grows for `pairs` pairs, which need `need` buckets. If the table has fewer buckets, it
+-- grows to `need` buckets. If the table has enough buckets, and `pairs` is at most half of its capacity, the table
+-- keeps its size. If `pairs` is more than half of its capacity, the table grows to twice its buckets. If the new table
+-- would be too large, the table does not grow (`no_table`).
 abbrev pub target_from : ℕ → ℕ → ℕ → ℕ → Option ℕ → Target
 target_from max entry_bytes buckets pairs None = no_table
 target_from max entry_bytes buckets pairs (Some need) =
@@ -60,7 +61,7 @@ target_from max entry_bytes buckets pairs (Some need) =
 unfoldable pub target : ℕ → ℕ → ℕ → ℕ → Target
 target max entry_bytes buckets pairs = target_from max entry_bytes buckets pairs (buckets_for max pairs)
 
--- the larger table with these numbers of buckets and bytes, or no table
+-- the `Target` with these numbers of buckets and bytes, or `no_table` if there are none
 abbrev pub larger : Option (ℕ × ℕ) → Target
 larger None = no_table
 larger (Some table) = new_table table.0 table.1

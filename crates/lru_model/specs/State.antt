@@ -1,4 +1,4 @@
--- What a contract sees of a map: its entries as a list of pairs, its limiter, hasher, bucket states and counts.
+-- What a contract says of a map: its entries as a list of pairs, its limiter, hasher, bucket states and counts.
 use Rattle.std.specs.Prelude.{◌≡◌, ℕ, zero, suc, ◌+◌, ◌-◌, ◌*◌, ◌^◌, ◌≤◌, ◌<◌, ◌⊎◌, Bool, false, if◌then◌else◌, List}
 use Rattle.std.specs.Prelude.{[], length, Option, Some, None, filter, not, nat_eq}
 use Rattle.std.specs.List.{IsDistinct}
@@ -11,7 +11,7 @@ use Rattle.lru_limits.specs.Rules.{Rules}
 use Rattle.lru_model.specs.Sizes.{usage}
 use Rattle.lru_model.specs.Lists.{last, without_last, keys_of, place_of}
 
--- the pairs, newest first, and the limiter's state
+-- the contents of a map: its pairs, newest first, and the state of its limiter
 pub record Contents (K V S : Type 0) : Type 0 where
   pub pairs : List (K × V)
   pub limiter : S
@@ -27,28 +27,28 @@ abbrev pub empty_table : TableState
 empty_table = record { states = []; places = [] }
 
 pub record Counts : Type 0 where
-  -- how many insertions the table has made, of new and of moved entries
+  -- how many insertions the table has made, of new and of moved entries together
   pub insertions : ℕ
-  -- how many entries the inserts moved, and how many new entries they stored
+  -- how many entries the inserts moved, and how many new entries the inserts stored
   pub moved : ℕ
   pub placed : ℕ
-  -- how many entries shrinks rehashed
+  -- how many entries all shrinks have rehashed
   pub shrunk : ℕ
 
 pub record State (K V S H : Type 0) : Type 0 where
-  -- newest first
+  -- the pairs, newest first
   pub pairs : List (K × V)
   pub limiter : S
   -- what builds the hashers of keys
   pub hasher : H
   pub table : TableState
   pub counts : Counts
-  -- how many bytes an entry takes in the table, as the constructor got or computed it
+  -- how many bytes an entry takes in the table; the constructor got or computed this number
   pub entry_bytes : ℕ
   -- the number of the link `MAX`; each bucket has a smaller number
   pub max : ℕ
 
--- A sound table: what holds for the bucket states and the counts of every map of n pairs.
+-- A table is sound if it satisfies what holds for the bucket states and the counts of every map of n pairs.
 pub record IsSound (n entry_bytes max : ℕ) (states : List BucketState) (counts : Counts) : Type 0 where
   pub table : IsTable states
   pub taken : entry_count states ≡ n
@@ -65,13 +65,13 @@ abbrev pub IsAhead : ℕ → Counts → Type 0
 IsAhead n counts = counts.shrunk < 2 ^ 64 - 1 → counts.moved + n ≤ 2 * counts.placed + counts.shrunk
 
 -- Inserts moved at most two entries for each entry that they stored, plus one for each entry that a shrink rehashed.
--- The next `potential` moves are already paid for, too, until the count `shrunk` stops at its maximum.
+-- The next `potential` moves are also paid for already, until the count `shrunk` stops at its maximum.
 pub record IsPaid (potential : ℕ) (counts : Counts) : Type 0 where
   pub moved : counts.moved ≤ 2 * counts.placed + counts.shrunk
   pub ahead : IsAhead potential counts
 
--- How the bucket states change when n of `was` pairs are left. The growth left never falls. It rises by at most one for
--- each removed pair, and by exactly one in a table of up to 16 buckets.
+-- How the bucket states change when a map of `was` pairs keeps n pairs. The growth left never falls. For each removed
+-- pair, the growth left rises by at most one, and by exactly one in a table of up to 16 buckets.
 pub record GivesBack (was n : ℕ) (old new : List BucketState) : Type 0 where
   pub table : length new ≡ length old
   pub keeps : growth_left_of old ≤ growth_left_of new
@@ -84,9 +84,9 @@ pub record GivesBack (was n : ℕ) (old new : List BucketState) : Type 0 where
 abbrev pub FirstFreeIs : BucketState → ℕ → List BucketState → Type 0
 FirstFreeIs state hash states = (b : ℕ) × IsFirstFree states hash b × (bucket_at states b ≡ state)
 
--- The pair at `place` was removed, and its bucket is free now. If each run of 16 neighbouring buckets that includes
--- this bucket contained an empty bucket, this bucket is empty now. Otherwise it is deleted. The other buckets keep
--- their states.
+-- The pair at `place` was removed, and its bucket is free now. The bucket is empty if each run of 16 neighbouring
+-- buckets with this bucket contained an empty bucket, and deleted if one of these runs contained none. The other
+-- buckets keep their states.
 pub record Frees (place : Option ℕ) (old new : TableState) : Type 0 where
   pub bucket : ℕ
   pub there : place ≡ Some bucket
@@ -96,7 +96,7 @@ pub record Frees (place : Option ℕ) (old new : TableState) : Type 0 where
 abbrev pub no_counts : Counts
 no_counts = record { insertions = 0; moved = 0; placed = 0; shrunk = 0 }
 
--- the counts after an entry was inserted, and `moves` other entries moved for it
+-- the counts after an insert that stored an entry, and moved `moves` other entries
 abbrev pub count_insert : ℕ → Counts → Counts
 count_insert moves c = record c {
   insertions = count_up c.insertions (moves + 1);
@@ -133,7 +133,8 @@ module _ {K V S H : Type 0} where
   abbrev pub IsSized : State K V S H → Type 0
   IsSized st = IsSound (length st.pairs) st.entry_bytes st.max st.table.states st.counts
 
-  -- twice the number of full and deleted buckets, minus the full capacity, and at least 0
+  -- twice the number of full and deleted buckets, minus the number of entries that the table may hold, or 0 if this is
+  -- negative
   abbrev pub potential : State K V S H → ℕ
   potential st = full_capacity (buckets st) - 2 * growth_left st
 
@@ -162,12 +163,12 @@ module _ {K V S H : Type 0} where
     pub growth_left : FreesGrowth old new
 
 module _ {K V S : Type 0} (rules : Rules K V S) where
-  -- the limiter, after it was notified of the removed pair if there is one
+  -- the limiter after it was notified of the removed pair, if a pair was removed
   abbrev pub notified_of : Option (K × V) → S → S
   notified_of None s = s
   notified_of (Some pair) s = (rules.on_removed s pair.0 pair.1).limiter
 
-  -- the pairs `left`, and the limiter after it was notified of the removed pair `gone` if there is one
+  -- the pairs `left`, and the limiter after it was notified of the removed pair `gone`, if `gone` is not `None`
   abbrev pub after_removal : Option (K × V) → List (K × V) → S → Contents K V S
   after_removal gone left s = record { pairs = left; limiter = notified_of gone s }
 

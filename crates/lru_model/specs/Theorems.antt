@@ -19,7 +19,7 @@ CountsInsertions old new = new.insertions < 2 ^ 64 - 1 → new.moved < 2 ^ 64 - 
     new.insertions + old.moved + old.placed ≡ old.insertions + new.moved + new.placed
 
 module _ {K V S H : Type 0} where
-  -- The count `moved`, plus the potential, rises by at most 2 for each stored entry. This holds until the count
+  -- The count `moved`, plus the potential, rises by at most 2 for each stored entry. This bound holds until the count
   -- `placed` stops at its maximum. No entry is counted as rehashed by a shrink.
   pub record PaysByStoring (old new : State K V S H) : Type 0 where
     pub placed : old.counts.placed ≤ new.counts.placed
@@ -29,7 +29,7 @@ module _ {K V S H : Type 0} where
         ≤ old.counts.moved + potential old + 2 * new.counts.placed
 
   -- The count `moved`, plus the potential, rises by at most 2 for each stored entry, plus 1 for each entry that a
-  -- shrink rehashed. This holds until the count `placed` or `shrunk` stops at its maximum.
+  -- shrink rehashed. This bound holds until the count `placed` or `shrunk` stops at its maximum.
   pub record PaysForMoves (old new : State K V S H) : Type 0 where
     pub placed : old.counts.placed ≤ new.counts.placed
     pub shrunk : old.counts.shrunk ≤ new.counts.shrunk
@@ -47,23 +47,24 @@ module _ {K V S H : Type 0} where
 abbrev pub others : {K V : Type 0} → (K → Bool) → List (K × V) → List (K × V)
 others test pairs = filter (λ pair. not (test pair.0)) pairs
 
--- the newest pair has a key that passes the test
+-- the list has a newest pair, and the key of this pair passes the test
 pub record IsNewest {K V : Type 0} (names : K → Bool) (pairs : List (K × V)) : Type 0 where
   pub pair : K × V
   pub rest : List (K × V)
   pub first : pairs ≡ pair ∷ rest
   pub named : names pair.0 ≡ true
 
--- What an insert evicts or removes. `names` tests whether a key is the inserted key, and `refuses pair` says that the
+-- What an insert evicts or removes. `names` tests whether a key is the inserted key, and `refuses pair` means that the
 -- limiter rejects the new value for this pair.
 pub data EvictsOldest {K V : Type 0} (names : K → Bool) (refuses : K × V → Type 0) (old new : List (K × V))
     : Type 0 where
-  -- The pair of the key is the newest, followed by the newest pairs of other keys, in their order. Or nothing is left.
+  -- The pair of the inserted key is the newest, followed by the newest pairs of other keys, in their order; or no pair
+  -- is left.
   behind : (newest : K × V) → names newest.0 ≡ true → IsFront new (newest ∷ without names old) →
       EvictsOldest names refuses old new
-  -- The key was not there, and its pair is not stored. The oldest pairs may have been evicted.
+  -- The inserted key was not there, and its pair is not stored. The oldest pairs may have been evicted.
   with_none : lookup_entry names old ≡ None → IsFront new old → EvictsOldest names refuses old new
-  -- Only the pair of the key is removed, because the limiter rejects its new value.
+  -- Only the pair of the inserted key is removed, because the limiter rejects the new value.
   without_one : (pair : K × V) → lookup_entry names old ≡ Some pair → refuses pair → new ≡ without names old →
       EvictsOldest names refuses old new
 
@@ -77,15 +78,15 @@ module _ {K V S H : Type 0} (rules : Rules K V S) where
     pub refused : CannotGrow rules st mid
 
   -- What the result of an insert says. If the result is true, the pair of the key is the newest, and the limiter is not
-  -- over its limit. If the result is false or an error, the key is not there.
+  -- over its limit. If the result is false or an error, the map does not contain the key.
   abbrev pub SaysWhether : (K → Bool) → Result Bool AllocError → State K V S H → Type 0
   SaysWhether names (Ok true) new =
       IsNewest names new.pairs × (rules.is_over_the_limit new.limiter (length new.pairs) ≡ false)
   SaysWhether names result new = lookup_entry names new.pairs ≡ None
 
 module _ {K V S H I : Type 0} (rules : Rules K V S) (offers : Offers K V S I) (names : I → K → Bool) where
-  -- The pair that an insert stores. If the key was there, this is the stored key with the new value, as `on_replace`
-  -- left both. If the key is new, this is the pair that the limiter returned.
+  -- The pair that an insert stores. If the key was there, this pair is the stored key with the new value, as
+  -- `on_replace` left both. If the key is new, it is the pair that the limiter returned.
   pub data Stores (i : I) (v : V) (old : State K V S H) (pair : K × V) : Type 0 where
     left : (was : K × V) → lookup_entry (names i) old.pairs ≡ Some was
         → (replacement rules offers names was i v (contents old)).taken ≡ true →
@@ -95,9 +96,9 @@ module _ {K V S H I : Type 0} (rules : Rules K V S) (offers : Offers K V S I) (n
         (s : S) → MayGive rules offers names i v (contents old) s (Some pair) →
         Stores i v old pair
 
-  -- How an insert ends. The result says whether the key is in the map (`says`). If the key is in the map, the newest
-  -- pair is the pair that the insert stored (`stores`). If memory runs out, the key is new (`out_of_memory`), and only
-  -- the oldest pairs may have been evicted (`keeps`).
+  -- How an insert ends. The result says whether the key is in the map (`says`). If the result is true, the newest pair
+  -- is the pair that the insert stored (`stores`). If memory runs out, the key is new (`out_of_memory`), and only the
+  -- oldest pairs may have been evicted (`keeps`).
   pub record InsertEnds (hash_of : H → K → ℕ) (i : I) (v : V) (old : State K V S H) (result : Result Bool AllocError)
       (new : State K V S H) : Type 0 where
     pub says : SaysWhether rules (names i) result new

@@ -10,7 +10,8 @@ use Rattle.lru_model.specs.Inserts.{Insert}
 use Rattle.lru_model.specs.Runs.{Step, Run}
 use Rattle.lru_model.specs.declared.results.ReserveError.{ReserveError}
 
--- `ready` is the map just before the insert: `old` if growth is left, and otherwise `old` after a reservation.
+-- `ready` is the map just before the insert, which is the map `old` if growth is left, or else `old` after a
+-- reservation.
 pub data IsReady {K V S H : Type 0} (rules : Rules K V S) (old ready : State K V S H) : Type 0 where
   has_growth : 0 < growth_left old → ready ≡ old →
       IsReady rules old ready
@@ -18,7 +19,7 @@ pub data IsReady {K V S H : Type 0} (rules : Rules K V S) (old ready : State K V
       IsReady rules old ready
 
 module _ {K V S : Type 0} (terms : Terms K V S) (rules : Rules K V S) where
-  -- whether the limiter accepts the pair of a new key, and is not over its limit once the pair is stored
+  -- whether the limiter accepts the pair of a new key, and is not over its limit when the pair is stored
   abbrev pub can_store : K → V → Contents K V S → Bool
   can_store key value c = if terms.accepts c.limiter (length c.pairs) key value
       then not (rules.is_over_the_limit (terms.admit c.limiter (length c.pairs) key value) (length c.pairs + 1))
@@ -34,27 +35,28 @@ module _ {K V S : Type 0} (terms : Terms K V S) (rules : Rules K V S) where
 
     module _ (eq : K → K → Bool) (hash_of : H → K → ℕ) where
       pub data TryInsert (result : Result (Unit {0}) (K × V)) (new : State K V S H) : Type 0 where
-        -- If the key is there, or if `can_store` is false, nothing changes.
+        -- If the key is there already, or if `can_store` is false, nothing changes.
         there : (pair : K × V) → lookup_entry (eq key) old.pairs ≡ Some pair →
             result ≡ Err (key, value) → new ≡ old →
             TryInsert result new
         cannot_store : lookup_entry (eq key) old.pairs ≡ None → can_store key value (contents old) ≡ false →
             result ≡ Err (key, value) → new ≡ old →
             TryInsert result new
-        -- `can_store` is true, but no growth is left. Either the reservation fails, or `can_store` is false after it.
+        -- `can_store` is true, but no growth is left. Either the reservation of growth fails, or `can_store` is false
+        -- after the reservation.
         unready : lookup_entry (eq key) old.pairs ≡ None → can_store key value (contents old) ≡ true →
             IsUnready new → result ≡ Err (key, value) →
             TryInsert result new
-        -- Otherwise the pair is inserted.
+        -- The pair is inserted: the key is new, growth is left or was reserved, and `can_store` is true.
         inserted : lookup_entry (eq key) old.pairs ≡ None → can_store key value (contents old) ≡ true →
             (ready : State K V S H) → IsReady rules old ready → can_store key value (contents ready) ≡ true →
             result ≡ Ok tt → Insert rules (offers_of terms) eq hash_of key value ready (Ok true) new →
             TryInsert result new
 
       -- How `try_insert` ends. At an `Ok`, the pair is the newest, nothing is evicted (`added`), and the limiter is
-      -- within its limit (`within`). At an `Err`, the key and the value come back (`returned`), the pairs stay
-      -- (`keeps`), and if growth was left, nothing has changed (`unchanged`). In a run, the call counts as at most two
-      -- steps: a reservation, and an insert (`calls`).
+      -- within its limit (`within`). At an `Err`, the call returns the key and the value (`returned`), and the pairs
+      -- stay (`keeps`). If growth was left before an `Err`, nothing has changed (`unchanged`). In a run, the call
+      -- counts as at most two steps: a reservation, and an insert (`calls`).
       pub record TryInsertEnds (result : Result (Unit {0}) (K × V)) (new : State K V S H) : Type 0 where
         pub calls : Run (Step rules (offers_of terms) eq hash_of) new old
         pub added : OnOk result (new.pairs ≡ (key, value) ∷ old.pairs)

@@ -1,5 +1,5 @@
 -- What `update` does: it offers the limiter a new value for a key that is there.
---     names i k           the given key i names the key k
+--     `names i k`: the given key i names the key k.
 use Rattle.std.specs.Prelude.{◌≡◌, Bool, true, false, List, [], Some, None}
 use Rattle.lru_limits.specs.Rules.{Rules, Offers}
 use Rattle.lru_model.specs.Lists.{lookup_entry, set_entry}
@@ -10,7 +10,8 @@ use Rattle.lru_model.specs.declared.results.Updated.{Updated}
 use Rattle.lru_model.specs.declared.results.Updated.TheVariants.{Replaced, Rejected, Absent}
 
 module _ {K V S I : Type 0} (rules : Rules K V S) (offers : Offers K V S I) (names : I → K → Bool) where
-  -- the contents after the limiter accepted the new value: the pair gets this value and keeps its place in the order
+  -- the contents after the limiter accepted the new value; the pair gets this value, and keeps its position in the
+  -- order
   abbrev pub with_updated : K × V → I → V → Contents K V S → Contents K V S
   with_updated pair i v c = record {
     pairs = set_entry (names i) (with_new_value rules offers names pair i v c) c.pairs;
@@ -19,8 +20,8 @@ module _ {K V S I : Type 0} (rules : Rules K V S) (offers : Offers K V S I) (nam
 
   pub data Update {H : Type 0} (i : I) (v : V) (old : State K V S H) (result : Updated V) (new : State K V S H)
       : Type 0 where
-    -- The key is there, and the limiter accepts the new value. The oldest pairs are then evicted while the limiter is
-    -- over its limit.
+    -- The key is there, and the limiter accepts the new value. The update ends with a trim: the oldest pairs are
+    -- evicted while the limiter is over its limit.
     updated : (pair : K × V) → lookup_entry (names i) old.pairs ≡ Some pair →
         (replacement rules offers names pair i v (contents old)).taken ≡ true →
         result ≡ Replaced (replacement rules offers names pair i v (contents old)).old_value →
@@ -32,7 +33,7 @@ module _ {K V S I : Type 0} (rules : Rules K V S) (offers : Offers K V S I) (nam
         result ≡ Rejected (replacement rules offers names pair i v (contents old)).new_value →
         Leaves old (with_removed rules offers names pair i v (contents old)) new →
         Update i v old result new
-    -- The key is not there: nothing changes.
+    -- The key is not there, and nothing changes.
     not_there : lookup_entry (names i) old.pairs ≡ None →
         result ≡ Absent v → new ≡ old →
         Update i v old result new

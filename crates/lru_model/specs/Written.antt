@@ -1,13 +1,13 @@
 -- What `for_each_mut` does: it calls a closure with each pair, and the closure may write the value of the pair.
---     closure    how the closure may be called
---     f, g       the closure before and after
+--     `closure`: how the closure may be called.
+--     `f`, `g`: the closure before and after the call.
 use Rattle.std.specs.Prelude.{◌≡◌, List, [], ◌∷◌}
 use Rattle.std.specs.Borrow.{Bor, MutBor}
 use Rattle.std.specs.Fn.{Mut, Called}
 use Rattle.lru_model.specs.State.{State}
 
 module _ {K V F : Type 0} (closure : Mut F (Bor K × (MutBor V × Unit {0})) (Unit {0} × (MutBor V × Unit {0}))) where
-  -- a call of f with the pair may write w in place of its value; f is then g
+  -- a call of f with the pair may write w in place of the pair's value, and change f into g
   pub record Writes (f : F) (pair : K × V) (w : V) (g : F) : Type 0 where
     pub key : Bor K
     pub value : MutBor V
@@ -16,13 +16,14 @@ module _ {K V F : Type 0} (closure : Mut F (Bor K × (MutBor V × Unit {0})) (Un
     pub called : Called closure f (key, (value, tt)) (tt, (left, tt)) g
     pub writes : left.now ≡ w
 
-  -- f was called with the pairs of the first list, in order, wrote the values of the second list, and is then g
+  -- f was called with the pairs of the first list, in order, and wrote the values of the second list; after these
+  -- calls, f is g
   abbrev pub WritesEach : F → List (K × V) → List (K × V) → F → Type 0
   WritesEach f [] new g = (new ≡ []) × (g ≡ f)
   WritesEach f (pair ∷ pairs) new g = (w : V) × (between : F) × (rest : List (K × V)) × Writes f pair w between
       × WritesEach between pairs rest g × (new ≡ (pair.0, w) ∷ rest)
 
-  -- f was called with each pair of the map, newest first; only the values that f wrote have changed
+  -- f was called with each pair of the map, newest first, and only the values that f wrote have changed
   pub record WritesAll {S H : Type 0} (f : F) (old new : State K V S H) : Type 0 where
     pub last : F
     pub each : WritesEach f old.pairs new.pairs last

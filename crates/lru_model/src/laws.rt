@@ -51,8 +51,8 @@ pub use runs::{
 };
 pub use shrinks::{shrinks_keep_the_list, shrinks_leave_a_tight_table, shrinks_pay_for_moves};
 
-/// An insert evicts only the oldest entries. Or it removes only the entry of its key, because the limiter rejected the
-/// new value.
+/// An insert evicts only the oldest entries. If the limiter rejects a new value, the insert removes only the entry of
+/// its key.
 pub fn inserts_evict_the_oldest<
     K: Eq + Hash,
     V,
@@ -67,8 +67,8 @@ pub fn inserts_evict_the_oldest<
         new.pairs }
 {}
 
-/// Suppose that an insert finds n entries, leaves m entries, and passes p entries to its callback. Then m + p is at
-/// most n + 1 (`few`). An insert with a callback is also an `Insert` (`step`).
+/// If an insert finds n entries, leaves m, and passes p to its callback, m + p is at most n + 1 (`few`). An insert with
+/// a callback is also an `Insert` (`step`).
 pub fn inserts_pass_few<K: Eq + Hash, V, I: LookupKey<K>, L: Insertion<K, V, I>, S: KeyHasher<K>>()
     ensures few { (key : I) (value : V) (old : State K V L S) (result : Result Bool AllocError)
         (passed : List (K × V)) (new : State K V L S) →
@@ -80,9 +80,10 @@ pub fn inserts_pass_few<K: Eq + Hash, V, I: LookupKey<K>, L: Insertion<K, V, I>,
         Insert L.rules L.offers I.names S.hash_of key value old result new }
 {}
 
-/// If a table has up to 16 buckets, `small_report` computes the report of the table about an insert (`Report` in
-/// `specs/Exact`). It uses only the entries, the limiter, the number of buckets, the growth left, and constants of the
-/// map. The insert changes the entries as this report says. Memory may still run out.
+/// A `Report` (`specs/Exact`) says whether a table queried the limiter for an insert, and how many entries a refused
+/// growth evicted. If a table has up to 16 buckets, `small_report` computes the report from the entries, the limiter,
+/// the number of buckets, the growth left, and constants of the map. The insert changes the entries as the report says,
+/// unless memory runs out.
 pub fn small_inserts_are_exact<
     K: Eq + Hash,
     V,
@@ -96,10 +97,10 @@ pub fn small_inserts_are_exact<
         InsertsInSmallTable L.rules L.offers I.names old key value result (contents new) }
 {}
 
-/// An insert changes the entries as the report of the table says (`exact`; `Report` in `specs/Exact`). Every insert has
-/// a report (`given`). Suppose that two inserts have equal arguments and reports, and equal entries and limiters before
-/// them. If both return `Ok`, they return the same, and leave the same entries and limiter (`alike`). The limiter and
-/// the arguments must determine what `on_insert` does (`IsDetermined`).
+/// An insert changes the entries as the `Report` of the table says (`exact`; see `small_inserts_are_exact`). Every
+/// insert has a report (`given`). Two inserts that return `Ok` return the same, and leave the same entries and limiter,
+/// if their arguments, their reports, and the entries and limiters before them are equal (`alike`). The limiter and the
+/// arguments must determine what `on_insert` does (`IsDetermined`).
 pub fn inserts_are_exact_unless_refused<
     K: Eq + Hash,
     V,
@@ -125,8 +126,8 @@ pub fn inserts_are_exact_unless_refused<
 {}
 
 /// An insert changes the entries as it would change a plain list without a table (`InsertsInList`), under two premises.
-/// `on_grow` permits every growth and changes nothing, as in `ByLength` and `Unlimited`. There is a table for the
-/// entries, and a table for one entry more (`HasTables`). The insert may still run out of memory.
+/// First, `on_grow` permits every growth and changes nothing, as in `ByLength` and `Unlimited`. Second, there is a
+/// table for the entries, and a table for one entry more (`HasTables`). The insert may still run out of memory.
 pub fn granted_inserts_are_exact<
     K: Eq + Hash,
     V,
@@ -140,8 +141,7 @@ pub fn granted_inserts_are_exact<
         InsertsInList L.rules L.offers I.names key value (contents old) result (contents new) }
 {}
 
-/// Suppose that there are n entries before an insert. If the insert grows the table, the new table can hold fewer than
-/// 4 * (n + 1) entries.
+/// If an insert into a map of n entries grows the table, the new table can hold fewer than 4 * (n + 1) entries.
 pub fn inserts_grow_little<
     K: Eq + Hash,
     V,
@@ -157,7 +157,7 @@ pub fn inserts_grow_little<
 
 /// Suppose that the map has entries, but no growth left. If the first free bucket in the search for the new key is
 /// deleted, the new entry fills this bucket, without a query of the limiter or a move (`served`). If the limiter also
-/// accepts the new entry, and is then not over its limit, an insert evicts nothing (`added`). Conversely, if an
+/// accepts the new entry, and is not over its limit with it, an insert evicts nothing (`added`). Conversely, if an
 /// insertion keeps the number of buckets, and evicts and moves nothing, the first free bucket was deleted (`only`).
 pub fn deleted_buckets_serve<
     K: Eq + Hash,
@@ -210,9 +210,9 @@ pub fn inserts_pay_for_moves<
         CountsInsertions old.counts new.counts }
 {}
 
-/// Suppose that growth is refused (`IsRefusedGrowth`). After the insertion, the map has at least half as many entries
-/// as the table may hold, including the new entry (`half`). If memory runs out, the map may have one entry fewer
-/// (`without_memory`). If the table has up to 16 buckets, only the oldest entry is evicted (`one`).
+/// If growth is refused (`IsRefusedGrowth`), the map has at least half as many entries after the insertion as the table
+/// may hold, including the new entry (`half`). If memory runs out, the map may have one entry fewer (`without_memory`).
+/// If the table has up to 16 buckets, only the oldest entry is evicted (`one`).
 pub fn refused_growth_keeps_half<K: Eq + Hash, V, L: Limiter<K, V>, S: KeyHasher<K>>()
     ensures half { (pair : K × V) (old new : State K V L S) →
         IsRefusedGrowth L.rules old →
@@ -229,8 +229,8 @@ pub fn refused_growth_keeps_half<K: Eq + Hash, V, L: Limiter<K, V>, S: KeyHasher
 {}
 
 /// If an insertion grows the table, it evicts nothing (`grown`). An insertion evicts entries only if the table needs to
-/// grow and cannot: there is no larger table, or the limiter refuses the larger table (`otherwise`). The same holds if
-/// memory runs out (`without_memory`).
+/// grow and cannot: there is no larger table, or the limiter refuses the larger table (`otherwise`). An insertion that
+/// runs out of memory evicts entries only if growth was refused (`without_memory`).
 pub fn growth_keeps_the_list<K: Eq + Hash, V, L: Limiter<K, V>, S: KeyHasher<K>>()
     ensures grown { (pair : K × V) (old new : State K V L S) →
         buckets new ≢ buckets old →
@@ -271,7 +271,7 @@ pub fn reservations_make_room<K: Eq + Hash, V, L: Limiter<K, V>, S: KeyHasher<K>
         IsSized old → Reserve L.rules n old (Ok tt) new → n ≤ growth_left new }
 {}
 
-/// Suppose that the table of a map uses n bytes. Then the greatest usage within a budget of n bytes is n.
+/// If the table of a map uses n bytes, the greatest usage within a budget of n bytes is n.
 pub fn usages_are_their_budgets<K: Eq + Hash, V, L: Limiter<K, V>, S: KeyHasher<K>>()
     ensures { (old : State K V L S) (bytes greatest : ℕ) →
         IsSized old → usage old.entry_bytes (buckets old) ≡ Some bytes →

@@ -25,7 +25,7 @@ pub fn usage(entry_bytes: usize, buckets: usize) -> Option<usize>
     }
 }
 
-/// Returns how many bytes a table with one or more buckets takes. These bytes must be at most `isize::MAX - 15`.
+/// Returns how many bytes a table with one or more buckets takes. The result must be at most `isize::MAX - 15`.
 pub fn bytes_of(entry_bytes: usize, buckets: usize) -> usize
     requires { bytes_of entry_bytes buckets ≤ 2 ^ 63 - 16 }
     ensures { result ≡ bytes_of entry_bytes buckets }
@@ -33,9 +33,9 @@ pub fn bytes_of(entry_bytes: usize, buckets: usize) -> usize
     (entry_bytes * buckets + 15) / 16 * 16 + buckets + 16
 }
 
-/// Returns the number of buckets and the bytes of the larger table into which a table of `buckets` buckets grows for
-/// `pairs` entries. `pairs` must be more than half of the capacity of the old table. Returns `None` if the larger table
-/// would have `max` buckets or more, which links cannot number, or would take more than `isize::MAX - 15` bytes.
+/// Returns the number of buckets and the bytes of the next table, if a table of `buckets` buckets grows to hold `pairs`
+/// entries. `pairs` must be more than half of the capacity of the old table. Returns `None` if the larger table would
+/// have `max` buckets or more, which links cannot number, or would take more than `isize::MAX - 15` bytes.
 #[tactic(auto, unfolding(crate::specs::Sizes::target))]
 pub fn larger_table(
     max: usize,
@@ -59,7 +59,7 @@ pub fn larger_table(
 }
 
 /// Returns the bytes of the largest table that has fewer than `max` buckets and takes at most `budget` bytes. A table
-/// has 4, 8, 16 or a greater power of 2 buckets. Returns 0 if there is no such table.
+/// has 4, 8, 16 or a greater power of 2 buckets. Returns 0 if no table fits.
 pub fn usage_within(max: usize, entry_bytes: usize, budget: usize) -> usize
     ensures { IsGreatestUsage max entry_bytes budget result }
 {

@@ -1,4 +1,4 @@
--- Runs of calls.
+-- Runs of calls: steps one after another.
 use Rattle.std.specs.Prelude.{◌≡◌, ℕ, Bool, List, [], ◌∷◌, ◌⊎◌, MatchOption}
 use Rattle.std.specs.List.{AllByRecursion}
 use Rattle.lru_limits.specs.Rules.{Rules, Offers}
@@ -10,7 +10,7 @@ use Rattle.lru_replay.specs.declared.calls.Call.TheVariants as calls
 use Rattle.lru_replay.specs.Replies.{Reply, no_memory, cost_differs}
 use Rattle.lru_replay.specs.Steps.{Named, nothing, a_key, the_newest, does, ReplyStep, ListStep}
 
--- Steps one after another, each with a call and a reply. `Holds` is true after each step.
+-- A run is a list of steps, each with a call and its reply. `Holds` is true after each step.
 module _ {S C R : Type 0} (IsStep : S → C → R → S → Type 0) (Holds : S → Type 0) where
   abbrev pub IsRun : S → List C → List R → S → Type 0
   IsRun old [] [] new = new ≡ old
@@ -20,14 +20,14 @@ module _ {S C R : Type 0} (IsStep : S → C → R → S → Type 0) (Holds : S �
   IsRun old (call ∷ calls) [] new = ⊥
 
 module _ {K V S : Type 0} where
-  -- the call returns a list of pairs, which takes memory
+  -- the call returns a list of pairs, for which it must allocate memory
   abbrev pub StoresPairs : Call K V S → Type 0
   StoresPairs (calls.InsertWith key v) = Unit {0}
   StoresPairs calls.List = Unit {0}
   StoresPairs (calls.Drain front back) = Unit {0}
   StoresPairs call = ⊥
 
-  -- the call makes its step, or there is no memory for the returned pairs, and nothing changes
+  -- the call makes its step, or the allocation of the returned list fails, and nothing changes
   abbrev pub StepIfMemory : {A : Type 0} → (A → Call K V S → Reply K V → A → Type 0) → A → Call K V S → Reply K V → A
       → Type 0
   StepIfMemory IsStep old call reply new = IsStep old call reply new
@@ -38,7 +38,7 @@ module _ {K V S : Type 0} where
   SetsNoLimiter call = Unit {0}
 
 module _ {K V S : Type 0} (eq : K → K → Bool) (cost : K → V → ℕ) (account : S → ℕ) where
-  -- A write keeps the cost of its pair. A new limiter has the same running total.
+  -- If the call writes a value, the cost of the pair stays. If the call sets a limiter, the running total stays.
   abbrev pub KeepsCost : Contents K V S → Call K V S → Type 0
   KeepsCost old (calls.Write key v) =
       MatchOption (lookup_entry (eq key) old.pairs) (Unit {0}) (λ there. cost there.0 v ≡ cost there.0 there.1)
@@ -63,16 +63,17 @@ module _ {K V S H : Type 0} (rules : Rules K V S) (offers : Offers K V S K) (eq 
   CallStep = StepIfMemory (ReplyStep rules offers eq hash_of)
 
   module _ (cost : K → V → ℕ) (account : S → ℕ) where
-    -- If the call keeps the cost, it does what `CallStep` says. Otherwise it gives `CostDiffers`, and nothing changes.
+    -- If the call keeps the cost (`KeepsCost`), it does what `CallStep` says. If the call does not keep the cost, the
+    -- reply is `cost_differs`, and nothing changes.
     abbrev pub SummingStep : State K V S H → Call K V S → Reply K V → State K V S H → Type 0
     SummingStep old call reply new = (KeepsCost eq cost account (contents old) call × CallStep old call reply new)
         ⊎ ((KeepsCost eq cost account (contents old) call → ⊥) × (reply ≡ cost_differs) × (new ≡ old))
 
-  -- The calls are a run of steps of the map. The run leaves out calls that change nothing.
+  -- The calls make a run of steps of the map. Calls that change nothing are no steps.
   pub record AreSteps (calls : List (Call K V S)) (old new : State K V S H) : Type 0 where
     pub any : Run (AnyStep rules offers eq hash_of) new old
-    -- if the calls name only keys that pass a test, so do the steps
+    -- if the calls name only keys that pass a test, the steps name only such keys, too
     pub among : (test : K → Bool) → AllByRecursion (NamesAmong test) calls
         → Run (StepAmong rules offers eq hash_of test) new old
-    -- if no call sets a limiter, no step does
+    -- if no call sets a limiter, no step sets a limiter
     pub limited : AllByRecursion SetsNoLimiter calls → Run (StepOrWrite rules offers eq hash_of) new old

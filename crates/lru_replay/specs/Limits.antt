@@ -1,4 +1,4 @@
--- The rules and the offers of `ByCost` for numbers, and the running total that a limiter of a replay reports.
+-- The rules and the offers of `ByCost` for numbers, and the running total that a replay reports for its limiter.
 use Rattle.std.specs.Prelude.{ℕ, Option, Some, None}
 use Rattle.lru_limits.specs.Rules.{Rules, Offers}
 use Rattle.lru_limits.specs.Budget.{Budget, by_cost, charges}
@@ -8,7 +8,7 @@ use Rattle.lru_limits.specs.Budget.{Budget, by_cost, charges}
 abbrev pub cost_rules : Rules ℕ ℕ Budget
 cost_rules = by_cost (λ value. value)
 
--- A pair is stored, unchanged, if its cost alone is within the limit and the new total has at most 64 bits.
+-- A pair is stored unchanged if its cost alone is at most the limit, and the new total has at most 64 bits.
 abbrev pub cost_offers : Offers ℕ ℕ Budget ℕ
 cost_offers = charges (λ value. value)
 

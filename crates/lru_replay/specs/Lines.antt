@@ -23,7 +23,7 @@ lines_of (b ∷ bytes) = if b == 10 then [] ∷ lines_of bytes else onto_first b
 abbrev pub fed : List ℕ → List ℕ
 fed line = line ++ 10 ∷ []
 
--- A reader had the bytes `old` left, if they are known, and has `new` left now.
+-- The reader had the bytes `old` left before, and has the bytes `new` left now, if these are known.
 module _ (old new : Option (List ℕ)) where
   abbrev pub TakesPart : List ℕ → Type 0
   TakesPart bytes = Lacks 10 bytes × Consumes old new bytes
@@ -34,7 +34,7 @@ module _ (old new : Option (List ℕ)) where
   abbrev pub TakesRest : List ℕ → Type 0
   TakesRest bytes = Lacks 10 bytes × Consumes old new bytes × OnSome old (IsAtEnd new)
 
-  -- what one look at the reader's buffer took
+  -- what was taken from the reader by one look at its buffer
   abbrev pub TakesPiece : Piece → List ℕ → Type 0
   TakesPiece pieces.Part bytes = TakesPart bytes
   TakesPiece pieces.Last bytes = TakesFed bytes
@@ -48,7 +48,7 @@ module _ (old new : Option (List ℕ)) where
   abbrev pub TakesFirst : Type 0
   TakesFirst = (line : List ℕ) × (TakesFed line ⊎ TakesRest line)
 
-  -- these lines were read with their line feeds, and then a part of the next line
+  -- these lines were read with their line feeds, and after them a part of the next line
   abbrev pub TakesLines : List (List ℕ) → List ℕ → Type 0
   TakesLines lines part = AllByRecursion (Lacks 10) lines × Lacks 10 part
       × Consumes old new (flat_map fed lines ++ part)

@@ -1,10 +1,10 @@
--- The maps of a replay. Keys and values are numbers.
+-- The maps of a replay, whose keys and values are numbers.
 use Rattle.std.specs.Prelude.{ℕ, [], ◌∷◌}
 use Rattle.std.specs.Hash.{le_bytes}
 use Rattle.lru_limits.specs.Mixing.{Mixer, seeded, written, closed}
 use Rattle.lru_model.specs.State.{State, empty_map}
 
--- a map with the default hasher, whose limiter has the states S
+-- a map of numbers with the default hasher, and a limiter with states S
 abbrev pub Map : Type 0 → Type 0
 Map S = State ℕ ℕ S Mixer
 

@@ -1,4 +1,4 @@
--- What is written: the text of a reply.
+-- The text that a replay writes for a reply.
 use Rattle.std.specs.Prelude.{◌≡◌, ℕ, Bool, true, false, List, [], ◌∷◌, ◌++◌, Option, Some, None, Result, Ok, Err}
 use Rattle.std.specs.Prelude.{decimal, codes, ◌==◌, if◌then◌else◌}
 use Rattle.std.specs.declared.alloc.AllocError.{AllocError}
@@ -21,12 +21,12 @@ Begins old new text = (part : List ℕ) × IsFront part text × Appends old new 
 abbrev pub Fails : ReplayError → Option (List ℕ) → Option (List ℕ) → List ℕ → Type 0
 Fails e old new text = (e ≡ errors.Write) × Begins old new text
 
--- the text was written, or a write failed after a beginning of the text
+-- the whole text was written, or a write failed after a beginning of the text
 abbrev pub Writes : {A : Type 0} → Option (List ℕ) → Option (List ℕ) → Result A ReplayError → List ℕ → Type 0
 Writes old new (Ok _) text = Appends old new text
 Writes old new (Err e) text = Fails e old new text
 
--- such as `3:30`
+-- the text of a pair, such as `3:30`
 abbrev pub pair_text : ℕ × ℕ → List ℕ
 pair_text p = decimal p.0 ++ 58 ∷ decimal p.1
 
@@ -34,13 +34,13 @@ abbrev pub rest_text : List (ℕ × ℕ) → List ℕ
 rest_text [] = []
 rest_text (p ∷ pairs) = 32 ∷ pair_text p ++ rest_text pairs
 
--- the text of the next pair; a space comes first if a pair was written before
+-- the text of the next pair, with a space in front if a pair was written before
 abbrev pub taken_text : Bool → Option (ℕ × ℕ) → List ℕ
 taken_text any None = []
 taken_text false (Some p) = pair_text p
 taken_text true (Some p) = 32 ∷ pair_text p
 
--- such as `3:30 2:20 1:10`, or `-`
+-- the text of a list of pairs, such as `3:30 2:20 1:10`, or `-` if the list is empty
 abbrev pub pairs_text : List (ℕ × ℕ) → List ℕ
 pairs_text [] = codes "-"
 pairs_text (p ∷ pairs) = pair_text p ++ rest_text pairs
@@ -49,7 +49,7 @@ abbrev pub value_text : Option ℕ → List ℕ
 value_text None = codes "none"
 value_text (Some v) = decimal v
 
--- such as `3:30`, or `none`
+-- the text of a removed pair, such as `3:30`, or `none`
 abbrev pub left_text : Option (ℕ × ℕ) → List ℕ
 left_text None = codes "none"
 left_text (Some p) = pair_text p
@@ -81,23 +81,23 @@ shrink_text (Err e) = codes "no memory"
 abbrev pub named_text : List ℕ → ℕ → List ℕ
 named_text name n = name ++ decimal n
 
--- such as ` cost 3`, or nothing if the limiter keeps no total
+-- the text of a running total, such as ` cost 3`, or no text if the limiter keeps no running total
 abbrev pub cost_text : Option ℕ → List ℕ
 cost_text None = []
 cost_text (Some cost) = named_text (codes " cost ") cost
 
--- such as ` placed 15 shrunk 5`, or ` placed 15` if no shrink rehashed an entry
+-- the text of two counts, such as ` placed 15 shrunk 5`, or ` placed 15` if no shrink rehashed an entry
 abbrev pub placed_text : ℕ → ℕ → List ℕ
 placed_text placed anew =
     named_text (codes " placed ") placed ++ (if anew == 0 then [] else named_text (codes " shrunk ") anew)
 
--- such as `len 1 capacity 3 memory 148 moved 0 placed 3`
+-- the text of the figures, such as `len 1 capacity 3 memory 148 moved 0 placed 3`
 abbrev pub figures_text : Figures → List ℕ
 figures_text figures = named_text (codes "len ") figures.len ++ (named_text (codes " capacity ") figures.capacity
     ++ (named_text (codes " memory ") figures.memory ++ (named_text (codes " moved ") figures.moved
     ++ placed_text figures.placed figures.shrunk)))
 
--- The text of a reply. `cost` is the running total of the limiter, if it keeps one. No line gets the reply
+-- The text of a reply. `cost` is the running total of the limiter, if the limiter keeps one. No line gets the reply
 -- `cost_differs`.
 abbrev pub reply_text : Option ℕ → Reply ℕ ℕ → List ℕ
 reply_text cost (flag there) = flag_text there

@@ -1,5 +1,5 @@
--- What a program does to the keys of a map, whichever calls the program makes. The map is an LRU cache with a maximum
--- length or a limit of cost.
+-- What a program does to the keys of a map, whatever calls it makes. The map is an LRU cache with a maximum length or a
+-- limit of cost.
 use Rattle.std.specs.Prelude.{◌≡◌, ℕ, ◌+◌, ◌*◌, ◌^◌, ◌<◌, ◌≤◌, Bool, true, List, [], ◌∷◌, ◌++◌, length, take, sum_by}
 use Rattle.std.specs.List.{AllByRecursion}
 use Rattle.group_table.specs.Change.{count_up}
@@ -13,24 +13,24 @@ use Rattle.lru_theory.specs.Budgets.{refer_within}
 use Rattle.lru_theory.specs.Inclusion.{KeyCall, after_call}
 use Rattle.lru_theory.specs.Traces.{AreEqual, fault, refer}
 
--- A kind of LRU cache.
+-- A kind of LRU cache, such as `of_length` and `of_cost`.
 pub record Cache (K V S H : Type 0) : Type 1 where
   pub eq : K → K → Bool
   pub limit : S → ℕ
-  -- the keys after a reference to the key, with this limit
+  -- the keys of the cache after a reference to this key, if the limit is this number
   pub refer : ℕ → K → List K → List K
-  -- if the limit is this number, each missed key is stored
+  -- a cache whose limit is this number stores each missed key
   pub Stores : ℕ → Type 0
   -- what holds for the map before and after each reference
   pub Keeps : State K V S H → Type 0
 
--- equal keys have equal costs, and equal weights with each value
+-- equal keys have equal costs, and with each value equal weights
 pub record CostsAlike {K V : Type 0} (eq : K → K → Bool) (weight : K → V → ℕ) (cost : K → ℕ) : Type 0 where
   pub keys : (key other : K) → eq key other ≡ true → cost key ≡ cost other
   pub pairs : (key other : K) (value : V) → eq key other ≡ true → weight key value ≡ weight other value
 
--- Each pair costs what its key costs. If keys together cost at most the limit, there are at most `most` of them, even
--- if some are equal. There is a table for 8 * (most + 1) pairs.
+-- Each pair costs what its key costs (`each`). A list of keys that together cost at most the limit has at most `most`
+-- keys, some of which may be equal (`few`). The map can have a table for 8 * (most + 1) pairs (`tables`).
 pub record KeepsToCost {K V H : Type 0} (weight : K → V → ℕ) (cost : K → ℕ) (st : State K V Budget H) : Type 0 where
   pub each : AllByRecursion (λ pair. weight pair.0 pair.1 ≡ cost pair.0) st.pairs
   pub summed : IsSummed weight (λ budget. budget.cost) st
@@ -62,8 +62,8 @@ module _ {K V S H : Type 0} (cache : Cache K V S H) where
     pub limit : cache.limit new.limiter ≡ cache.limit old.limiter
     pub keeps : cache.Keeps old → cache.Keeps new
 
-  -- Afterwards the key is the newest, and the other keys follow in their order, as far as the limit permits (`does`).
-  -- If the limit permits an entry, and the key was not in the map, an entry was stored (`stored`).
+  -- After a reference, its key is the newest, and the other keys follow in their order, as far as the limit permits
+  -- (`does`). If the limit permits an entry, and the key was not in the map, an entry was stored (`stored`).
   pub record Reference (key : K) (old new : State K V S H) : Type 0 where
     pub does : LeavesKeys (cache.refer (cache.limit old.limiter) key (keys_of old.pairs)) old new
     pub stored : cache.Stores (cache.limit old.limiter)
@@ -74,8 +74,9 @@ module _ {K V S H : Type 0} (cache : Cache K V S H) where
     pub does : LeavesKeys (keys_of old.pairs) old new
     pub stored : new.counts.placed ≡ old.counts.placed
 
-  -- The program made the references of a trace on the map `old`, and left the map `new`. `missed` references did not
-  -- find their key. Between references the program may have read the map or written values (`Reads`).
+  -- The program made the references of a trace on the map `old`, and left the map `new`. The number of references that
+  -- did not find their key is `missed`. Between references, the program may have read the map or written values
+  -- (`Reads`).
   pub data Referenced (old : State K V S H) : (trace : List K) (missed : ℕ) (new : State K V S H) → Type 0 where
     begins : Referenced old [] 0 old
     refers : (key : K) (trace : List K) (missed : ℕ) (mid new : State K V S H) → Referenced old trace missed mid →
@@ -84,7 +85,7 @@ module _ {K V S H : Type 0} (cache : Cache K V S H) where
     reads : (trace : List K) (missed : ℕ) (mid new : State K V S H) → Referenced old trace missed mid →
         Reads mid new → Referenced old trace missed new
 
-  -- A loop made the references of the first i keys of a trace.
+  -- A loop has made the references to the first i keys of a trace.
   pub record Loops (old : State K V S H) (trace : List K) (i missed : ℕ) (new : State K V S H) : Type 0 where
     pub run : Referenced old (take i trace) missed new
     pub limit : cache.limit new.limiter ≡ cache.limit old.limiter

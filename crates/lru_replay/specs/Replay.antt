@@ -1,4 +1,4 @@
--- A whole replay.
+-- What a whole replay reads and writes.
 use Rattle.std.specs.Prelude.{◌≡◌, ℕ, List, [], ◌∷◌, ◌⊎◌, Option, OnSome, IfSome, Result, Ok, Err}
 use Rattle.std.specs.Io.KnownBytes.{Appends, IsAtEnd}
 use Rattle.lru_limits.specs.Limiters.{length_rules, length_offers, memory_rules, no_rules, all_offers}
@@ -21,7 +21,7 @@ use Rattle.lru_replay.specs.LineRuns.{IsTextOf, OfAll, OfRead, BeginsText}
 abbrev pub plain_entry_bytes : ℕ
 plain_entry_bytes = 32
 
--- The text answers the lines, carried out on an empty map under the limit.
+-- The text answers the lines, if their calls are made on an empty map with this limit.
 abbrev pub IsTextUnder : Limit → List (List ℕ) → List ℕ → Type 0
 IsTextUnder (limits.Length most) =
     IsTextOf length_rules length_offers no_cost (empty most plain_entry_bytes max_of_32_bits)
@@ -37,7 +37,7 @@ abbrev pub IsReplay : List (List ℕ) → List ℕ → Type 0
 IsReplay lines text = (limit : Limit) × (first : List ℕ) × (others : List (List ℕ))
     × (lines ≡ first ∷ others) × SpellsLimit first limit × IsTextUnder limit others text
 
--- The first line names no limit, or there is no line.
+-- The first line spells no limit, or there is no line.
 abbrev pub NamesNoLimit : List (List ℕ) → Type 0
 NamesNoLimit lines = (limit : Limit) (first : List ℕ) (others : List (List ℕ)) → lines ≡ first ∷ others
     → SpellsLimit first limit → ⊥
@@ -46,13 +46,13 @@ NamesNoLimit lines = (limit : Limit) (first : List ℕ) (others : List (List ℕ
 abbrev pub IsOutput : List (List ℕ) → List ℕ → Type 0
 IsOutput lines text = IsReplay lines text ⊎ (NamesNoLimit lines × (text ≡ no_limiter_text))
 
--- What is written for the lines that were read. If no line was read, nothing is written.
+-- What is written for the lines that were read: nothing if no line was read.
 abbrev pub SoFar : (List (List ℕ) → List ℕ → Type 0) → List (List ℕ) → List ℕ → Type 0
 SoFar IsText [] text = text ≡ []
 SoFar IsText (first ∷ others) text = IsText (first ∷ others) text
 
--- How a replay ended. The reader had the bytes `from` left, and has `to` left now. The writer's bytes were `old` and
--- are `new`.
+-- How a replay ended. The reader had the bytes `from` left before, and has the bytes `to` left now. The writer's bytes
+-- were `old` before, and are `new` now.
 module _ (from to old new : Option (List ℕ)) where
   pub record Finished : Type 0 where
     pub named : IfSome from (λ input. NamesNoLimit (lines_of input) → ⊥)
@@ -65,12 +65,12 @@ module _ (from to old new : Option (List ℕ)) where
     pub reads : TakesFirst from to
     pub writes : Appends old new no_limiter_text
 
-  -- The text of the lines that were read whole was written, and nothing else.
+  -- The answers to the lines that were read whole were written, and nothing else.
   abbrev pub ReadFailed : Type 0
   ReadFailed = OfRead (SoFar IsReplay) from to (Appends old new)
 
-  -- A beginning of the output for all lines was written. It is also a beginning of the output for the lines that were
-  -- read.
+  -- What was written is a beginning of the output for all lines, and also a beginning of the output for the lines that
+  -- were read.
   pub record WriteFailed : Type 0 where
     pub cut : OfAll IsOutput from (Begins old new)
     pub reads : BeginsText IsOutput (SoFar IsOutput) from to old new

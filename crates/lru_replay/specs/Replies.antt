@@ -1,4 +1,4 @@
--- The replies to calls. A contract sees an `Answer` as a `Reply`.
+-- The replies to calls. In contracts, an `Answer` is a `Reply`.
 use Rattle.std.specs.Prelude.{Bool, true, false, List, [], ◌∷◌, Option, None, Result, Ok, Err}
 use Rattle.std.specs.declared.alloc.AllocError.{AllocError}
 use Rattle.lru_model.specs.Lists.{newest_value}
@@ -19,13 +19,13 @@ pub data Reply (K V : Type 0) : Type 0 where
   pair : Option (K × V) → Reply K V
   listed : List (K × V) → Reply K V
   reserved : Result (Unit {0}) ReserveError → Reply K V
-  -- whether the table has fewer buckets
+  -- whether the table has fewer buckets than before
   shrunk : Result Bool AllocError → Reply K V
   stats : Figures → Reply K V
   -- the call returned nothing
   done : Reply K V
   no_memory : Reply K V
-  -- the running total would be wrong after the call, so the call was not made
+  -- the call was not made, because the running total would be wrong after the call
   cost_differs : Reply K V
 
 pub data MemoryReport : Type 0 where
@@ -71,7 +71,7 @@ module _ {K V : Type 0} where
   insert_reply (Ok there) = flag there
   insert_reply (Err e) = no_memory
 
-  -- the reply to a get that inserts, from its result and the pairs after the call
+  -- the reply to a get that inserts, made from the result of the get and the pairs after it
   abbrev pub made_reply : Result Bool AllocError → List (K × V) → Reply K V
   made_reply (Ok true) pairs = value (newest_value pairs)
   made_reply (Ok false) pairs = value None

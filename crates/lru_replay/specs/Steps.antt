@@ -1,8 +1,8 @@
 -- What each call does to a map, and to a list of pairs (newest first) with a limiter and no table, as if a bucket were
 -- always free.
---     rules, offers       the limiter's `Rules` and `Offers` (`lru_limits`)
---     eq                  when two keys are equal
---     hash_of h k         the hash of k by the hasher h
+--     `rules`, `offers`: the limiter's `Rules` and `Offers` (`lru_limits`).
+--     `eq`: when two keys are equal.
+--     `hash_of h k`: the hash of k by the hasher h.
 use Rattle.std.specs.Prelude.{◌≡◌, ℕ, ◌++◌, Bool, List, [], Option, Some, None, Result, MatchOption, is_some, length}
 use Rattle.std.specs.Prelude.{option_map, unwrap_or, if◌then◌else◌}
 use Rattle.std.specs.declared.alloc.AllocError.{AllocError}
@@ -28,15 +28,17 @@ use Rattle.lru_replay.specs.Replies.{Reply, flag, given, updated, value, pair, l
 use Rattle.lru_replay.specs.Replies.{insert_reply, made_reply}
 
 module _ {K V : Type 0} (eq : K → K → Bool) (hash_of : K → ℕ) where
-  -- What a search by a hash finds for a key. If the stored key's hash has the tag of this hash, the search may find the
-  -- pair. If no equal key is stored, or the stored key has another hash, the search may find nothing.
+  -- What a search by a hash finds for a key. If an equal key is stored, and its hash has the tag of the searched hash,
+  -- the search may find its pair. If no equal key is stored, or the stored key has another hash, the search may find
+  -- nothing.
   pub data FindsByHash (hash : ℕ) (key : K) (pairs : List (K × V)) (result : Option V) : Type 0 where
     found : (there : K × V) → lookup_entry (eq key) pairs ≡ Some there → hash_tag (hash_of there.0) ≡ hash_tag hash
         → result ≡ Some there.1 → FindsByHash hash key pairs result
     not_found : ((there : K × V) → lookup_entry (eq key) pairs ≡ Some there → hash_of there.0 ≡ hash → ⊥)
         → result ≡ None → FindsByHash hash key pairs result
 
--- what a call names: nothing, a key whose pair it may move, write or remove, or the newest pair, which it pops
+-- What a call names: nothing, a key, or the newest pair. If the call names a key, it may move, write or remove the pair
+-- of this key. If the call names the newest pair, it pops this pair.
 pub data Named (K : Type 0) : Type 0 where
   nothing : Named K
   a_key : K → Named K
@@ -45,7 +47,7 @@ pub data Named (K : Type 0) : Type 0 where
 pub record Does (K V S H : Type 0) : Type 1 where
   pub names : Named K
   pub on_map : (old : State K V S H) (reply : Reply K V) (new : State K V S H) → Type 0
-  -- the same on the contents c, which become d, if the hasher is h
+  -- what the call does to the contents c, which become d, if the hasher is h
   pub on_list : (h : H) (c : Contents K V S) (reply : Reply K V) (d : Contents K V S) → Type 0
 
 module _ {K V S H : Type 0} where
@@ -53,7 +55,7 @@ module _ {K V S H : Type 0} where
   abbrev pub bare : H → Contents K V S → State K V S H
   bare h c = record (empty_map c.limiter h 0 0) { pairs = c.pairs }
 
-  -- The contents determine the reply, and `after` changes the map.
+  -- The call's reply depends only on the contents of the map, and `after` gives the map after the call.
   abbrev pub turns : Named K → (Contents K V S → Reply K V) → (State K V S H → State K V S H) → Does K V S H
   turns names says after = record {
     names = names;
@@ -64,7 +66,8 @@ module _ {K V S H : Type 0} where
   abbrev pub reads : (Contents K V S → Reply K V) → Does K V S H
   reads says = turns nothing says (λ old. old)
 
-  -- The contents determine the reply, and `after` changes them. Pairs may be evicted or removed.
+  -- The call's reply depends only on the contents of the map, and `after` gives the contents after the call. Pairs may
+  -- be evicted or removed.
   abbrev pub takes : Named K → (Contents K V S → Reply K V) → (Contents K V S → Contents K V S) → Does K V S H
   takes names says after = record {
     names = names;
@@ -82,7 +85,7 @@ module _ {K V S H : Type 0} where
 
 module _ {K V S : Type 0} (rules : Rules K V S) (offers : Offers K V S K) (eq : K → K → Bool) (key : K) (v : V)
     (c : Contents K V S) where
-  -- what an update of the pair `there` returns and leaves
+  -- what an update of the pair `there` returns, and what contents it leaves
   abbrev pub updates_pair : K × V → Updated V × Contents K V S
   updates_pair there = let r = replacement rules offers eq there key v c in
       if r.taken then (Replaced r.old_value, trim rules (with_updated rules offers eq there key v c))
@@ -96,14 +99,14 @@ beside list c = record { pairs = c.pairs; limiter = (c.limiter, list) }
 
 module _ {K V S H : Type 0} (rules : Rules K V S) (offers : Offers K V S K) (eq : K → K → Bool)
     (hash_of : H → K → ℕ) where
-  -- The call searches by a hash. `after` changes the map, depending on the result.
+  -- The call searches by a hash. For each result of the search, `after` gives the map after the call.
   abbrev pub finds : Named K → ℕ → K → (Option V → State K V S H → State K V S H) → Does K V S H
   finds names hash key after = gives names value
       (λ old result new. FindsByHash eq (hash_of old.hasher) hash key old.pairs result × (new ≡ after result old))
       (λ h c result d. FindsByHash eq (hash_of h) hash key c.pairs result × (d ≡ contents (after result (bare h c))))
 
-  -- The table determines the results of a reservation and of a shrink, and all figures except the number of pairs. So
-  -- the step on a list permits any of them.
+  -- What each call does. The results of a reservation and of a shrink, and all figures except the number of pairs,
+  -- depend on the table. A list of pairs has no table, so the step on a list permits any of these results and figures.
   abbrev pub does : Call K V S → Does K V S H
   does (calls.Insert key v) = gives (a_key key) insert_reply (Insert rules offers eq hash_of key v)
       (λ h. InsertsInList rules offers eq key v)

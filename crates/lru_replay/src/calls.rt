@@ -26,9 +26,9 @@ use std::hash::Hash;
 #[derive(Debug, Drop)]
 pub enum Call<K, V, L> {
     Insert(K, V),
-    /// `insert_and_keep`: inserts, and returns the pairs that `insert_with` passes to its callback.
+    /// Inserts by `insert_and_keep`.
     InsertWith(K, V),
-    /// `get_or_insert`: inserts the key with this value if the key is not in the map, and returns the value of the key.
+    /// `get_or_insert`, with a closure that returns this value.
     GetOrInsert(K, V),
     Update(K, V),
     Get(K),
@@ -40,7 +40,7 @@ pub enum Call<K, V, L> {
     GetByHash(u64, K),
     /// `peek_by_hash`, with a closure that accepts only this key.
     PeekByHash(u64, K),
-    /// Writes the value through `peek_mut` of the key.
+    /// Writes the value, by `peek_mut`.
     Write(K, V),
     Remove(K),
     RemoveEntry(K),
@@ -67,39 +67,39 @@ pub enum Call<K, V, L> {
 /// ```
 #[derive(Debug, Drop, PartialEq)]
 pub enum Answer<K, V> {
-    /// To `Insert`, `Write`, `Contains`, `Promote` and `Demote`: whether the key is in the map now.
+    /// For `Insert`, `Write`, `Contains`, `Promote` and `Demote`: whether the key is in the map now.
     Flag(bool),
-    /// To `InsertWith`: what `insert_and_keep` returned.
+    /// For `InsertWith`: what `insert_and_keep` returned.
     Given {
         /// Whether the key is in the map now. `Err` means out of memory.
         done: Result<bool, AllocError>,
         /// The pairs that `insert_with` passes to its callback, in order.
         out: Vec<(K, V)>,
     },
-    /// To `Update`.
+    /// For `Update`.
     Updated(Updated<V>),
-    /// To `GetOrInsert`, `Get`, `Peek`, `Remove` and the searches by a hash: the value, if there is one.
+    /// For `GetOrInsert`, `Get`, `Peek`, `Remove` and the searches by a hash: the value, if there is one.
     Value(Option<V>),
-    /// To the pops, the peeks at an end and `RemoveEntry`: the pair, if there is one.
+    /// For the pops, the peeks at an end and `RemoveEntry`: the pair, if there is one.
     Pair(Option<(K, V)>),
-    /// To `List` and `Drain`: the pairs.
+    /// For `List` and `Drain`: the pairs.
     Pairs(Vec<(K, V)>),
     Done,
-    /// To `Reserve`: `Ok` if enough growth is left, else the reason why not.
+    /// For `Reserve`: `Ok` if enough growth is left, else the reason why not.
     Reserved(Result<(), ReserveError>),
-    /// To `Shrink`: whether the table has fewer buckets now. After an `Err`, out of memory, nothing has changed.
+    /// For `Shrink`: whether the table has fewer buckets now. `Err` means out of memory, and nothing has changed.
     Shrunk(Result<bool, AllocError>),
-    /// To `Stats`: the figures of the map.
+    /// For `Stats`: the figures of the map.
     Stats {
         len: usize,
         capacity: usize,
         memory: usize,
         report: MoveReport,
     },
-    /// To `Insert` and `GetOrInsert`: out of memory. To `InsertWith`, `List` and `Drain`: out of memory for the
+    /// For `Insert` and `GetOrInsert`: out of memory. For `InsertWith`, `List` and `Drain`: out of memory for the
     /// returned pairs, and nothing has changed.
     Memory,
-    /// To `Write` and `SetLimiter` in `run_summing`: the call was not made, because the running total would be wrong.
+    /// For `Write` and `SetLimiter` in `run_summing`: the call was not made, because the running total would be wrong.
     CostDiffers,
 }
 

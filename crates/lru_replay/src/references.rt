@@ -26,7 +26,8 @@ use std::hash::Hash;
 
 /// These calls make a reference if they return `Ok`: an insert (`inserts`), a `try_insert` (`tries`), and a call of a
 /// memo (`remembers`). If the map contains the key, a get (`gets`) and a promotion (`promotes`) make a reference. The
-/// program may write through the loan of the get. A reference to a key is also a reference to each equal key (`equal`).
+/// program may write to the value that a get lends. A reference to a key is also a reference to each equal key
+/// (`equal`).
 pub fn calls_make_references<K: Eq + Hash + Drop, V: Drop, S: KeyHasher<K>>()
     ensures inserts { (key : K) (value : V) (kept : Bool) (old new : State K V ByLength S) →
         KeepsToLength old → IsSized new →
@@ -115,9 +116,9 @@ pub fn calls_change_the_keys<K: Eq + Hash + Drop, V: Drop, S: KeyHasher<K>>()
     laws::calls_keep_the_length::<K, V, ByLength, S>();
 }
 
-/// If a program made the references of a trace, and then makes one more, it made the references of the longer trace:
-/// with as many misses if the reference hits (`hits`), and one more if it misses (`misses`). The map still keeps to its
-/// length (`keeps`).
+/// A program that made the references of a trace, and then makes one more, has made the references of the longer trace.
+/// The number of misses stays if the last reference hits (`hits`), and rises by one if it misses (`misses`). The map
+/// still keeps to its length (`keeps`).
 pub fn programs_make_references<K: Eq + Hash + Drop, V: Drop, S: KeyHasher<K>>()
     ensures hits { (trace : List K) (missed : ℕ) (key : K) (value : V) (old mid new : State K V ByLength S) →
         Referenced (of_length K.eq) old trace missed mid → lookup (K.eq key) mid.pairs ≡ Some value →
@@ -150,9 +151,9 @@ pub fn references_keep_the_newest<K: Eq + Hash + Drop, V: Drop, S: KeyHasher<K>>
 {}
 
 /// More capacity never means more misses. Suppose that the references of one trace are made on two maps, by any calls.
-/// If the keys of the smaller map were the newest keys of the larger map, they still are after the trace (`front`). If
-/// the keys of the smaller map were included in the keys of the larger map (`IsIncluded`), the smaller map misses at
-/// least as often (`misses`).
+/// If the keys of the smaller map were the newest keys of the larger map, they still are its newest keys after the
+/// trace (`front`). If the keys of the smaller map were included in the keys of the larger map (`IsIncluded`), the
+/// smaller map misses at least as often (`misses`).
 pub fn more_capacity_never_misses_more<K: Eq + Hash + Drop, V: Drop, S: KeyHasher<K>>()
     ensures front { (trace : List K) (missed other_missed : ℕ) (old small other large : State K V ByLength S) →
         Referenced (of_length K.eq) old trace missed small → Referenced (of_length K.eq) other trace other_missed large →
@@ -166,8 +167,8 @@ pub fn more_capacity_never_misses_more<K: Eq + Hash + Drop, V: Drop, S: KeyHashe
 {}
 
 /// If the keys of a smaller map are included in the keys of a larger map, they are included after the same calls, too
-/// (`included`). So the larger map finds each key that the smaller map finds (`finds`). The calls are references and
-/// the calls of `calls_change_the_keys`.
+/// (`included`). So the larger map finds each key that the smaller map finds (`finds`). Such a call is a reference, or
+/// a call of `calls_change_the_keys`.
 pub fn a_smaller_map_is_included<K: Eq + Hash + Drop, V: Drop, S: KeyHasher<K>>()
     ensures included { (calls : List (KeyCall K)) (old small other large : State K V ByLength S) →
         Did K.eq old calls small → Did K.eq other calls large → old.limiter ≤ other.limiter →
@@ -179,12 +180,12 @@ pub fn a_smaller_map_is_included<K: Eq + Hash + Drop, V: Drop, S: KeyHasher<K>>(
         is_in K.eq key (keys_of small.pairs) ≡ true → is_in K.eq key (keys_of large.pairs) ≡ true }
 {}
 
-/// LRU is competitive, whichever calls make the references. Take a map with `ByLength(k)`, whatever keys it contains
-/// before, and any policy of h ≤ k places. The policy may know the trace in advance, begins with the keys `first`, and
-/// pays `paid` times for the same references. If the policy stores each referenced key, the map misses at most
-/// `k / (k + 1 - h) * paid + length first` times. The policy may load keys ahead (`loads`), or load on demand and begin
-/// with at most h keys (`demands`). If the policy need not store the key, and h < k, the map misses at most
-/// `k / (k - h) * paid + length first` times (`bypasses`).
+/// LRU is competitive, whichever calls make the references. Take a map with `ByLength(k)` and any keys, and any policy
+/// of h ≤ k places. The policy may know the trace in advance, begins with the keys `first`, and pays `paid` times for
+/// the same references. If the policy stores each referenced key, the map misses at most
+/// `k / (k + 1 - h) * paid + length first` times. The bound holds for a policy that may load keys ahead (`loads`), and
+/// for a policy that loads on demand and begins with at most h keys (`demands`). If the policy need not store the key,
+/// and h < k, the map misses at most `k / (k - h) * paid + length first` times (`bypasses`).
 pub fn maps_are_competitive<K: Eq + Hash + Drop, V: Drop, S: KeyHasher<K>>()
     ensures loads { (trace : List K) (missed : ℕ) (old new : State K V ByLength S) (h paid : ℕ) (first left : List K) →
         IsDistinct K.eq (keys_of old.pairs) → length old.pairs ≤ old.limiter →

@@ -1,4 +1,4 @@
-//! Callers of runs, as in docs/CALLING.md. Their contracts follow from laws on runs.
+//! Callers of runs, whose contracts follow from laws on runs, as in docs/CALLING.md.
 ghost use Rattle.std.specs.Prelude.{◌≡◌, ◌≤◌, ◌+◌, ◌*◌, ℕ, Bool, true, length, IfOk, OnOk, nat_eq};
 ghost use Rattle.std.specs.List.{IsDistinct, sum_by};
 ghost use Rattle.lru_model.specs.Exact.{HasTableFor};
@@ -43,7 +43,7 @@ fn put_both(
     run_calls(alloc, map, calls)
 }
 
-/// Inserts two entries by a list of calls. A map that was within its limit of cost still is.
+/// Inserts two entries by a list of calls. A map that was within its limit of cost still is afterwards.
 fn charge_both(
     alloc: Global,
     map: &mut LruMap<u64, u64, ByCost>,
@@ -66,7 +66,7 @@ fn charge_both(
 }
 
 /// Makes m calls on a map with a maximum length and n entries. If there is a table for 8 * (n + m + 1) entries, the
-/// calls do to the map what they do to a list without a table.
+/// calls change the map as they would change a list without a table.
 fn call_on_list<S: KeyHasher<u64>>(
     alloc: Global,
     map: &mut LruMap<u64, u64, ByLength, S>,

@@ -1,4 +1,4 @@
-//! Programs with `String` keys under a limit of cost. Their contracts say how often they load a value.
+//! Programs with `String` keys under a limit of cost, whose contracts say how often they load a value.
 ghost use Rattle.std.specs.Prelude.{◌≡◌, ◌≤◌, ◌<◌, ◌+◌, ◌*◌, ◌^◌, ℕ, [], true, length, take, IfOk, OnOk, string_len, vec_len};
 ghost use Rattle.std.specs.Prelude.{Ok, Vec};
 ghost use Rattle.std.specs.List.{All};
@@ -169,8 +169,8 @@ fn try_to_remember<F: FnOnce() -> Result<Vec<u8>, u64>>(
     Ok(kept)
 }
 
-/// Inserts a text under a number, with a limit of weight. If the entry costs what its key costs, and at most the limit,
-/// a successful call is a reference.
+/// Inserts a text under a number, with a limit of weight. If the weight of the entry is the cost of its key, and at
+/// most the limit, a successful call is a reference.
 fn insert_weighed(
     map: &mut LruMap<u64, String, ByWeight<16>>,
     key: u64,

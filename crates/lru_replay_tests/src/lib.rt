@@ -1,4 +1,4 @@
-//! Callers of the laws of `lru_replay`, and tests of what none of its contracts says.
+//! Callers of the laws of `lru_replay`, and tests of what no contract says.
 #![tactic(auto)]
 
 #[cfg(test)]

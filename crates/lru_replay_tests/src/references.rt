@@ -1,4 +1,4 @@
-//! Programs with `String` keys that make references. Their contracts say how often they miss.
+//! Programs with `String` keys, whose contracts say how often they miss.
 ghost use Rattle.std.specs.Prelude.{◌≡◌, ◌≤◌, ◌<◌, ◌-◌, ◌+◌, ◌*◌, ℕ, [], List, IfOk, OnOk};
 ghost use Rattle.std.specs.String.{string_eq};
 ghost use Rattle.lru_model.specs.Kept.{KeepsToLength};
@@ -54,9 +54,9 @@ pub fn read_through<F: Fn(&String) -> u64>(
     Ok(count)
 }
 
-/// Computes the values of the texts with two new maps. The larger map computes at most as many as the smaller. If the
-/// smaller map has `length` places and computes n values, each policy with h ≤ `length` places pays at least (length +
-/// 1 - h) / length * n times. The policy begins empty, stores each text, and may load texts ahead.
+/// Computes the values of the texts with two new maps. The larger map computes no more values than the smaller map. If
+/// the smaller map has `length` places and computes n values, each policy with h ≤ `length` places pays at least
+/// (length + 1 - h) / length * n times. The policy begins empty, stores each text, and may load texts ahead.
 fn compare<F: Fn(&String) -> u64>(
     alloc: Global,
     texts: &[String],

@@ -1,4 +1,4 @@
--- What a `ByteCache` is after the loan of one of its values.
+-- What a `ByteCache` is after the loan of one of its values has ended.
 use Rattle.std.specs.Prelude.{◌≡◌, ℕ, ⊤}
 use Rattle.std.specs.Borrow.{Fml, RattleType, MutBor, follows_so}
 use Rattle.std.specs.HashMap.Lent.{HashMembers}
@@ -13,13 +13,13 @@ use mathlib.Core.Option.{none}
 
 module _ (K V S H : RattleType) (key : HashMembers K.Denot) (of_key : K.Denot → ℕ) (of_value : V.Denot → ℕ)
     (hashed : HasherMembers S.Denot K.Denot H.Denot) (hash : hasher.Ghosts H.Denot) where
-  -- the type of a tenant's map in the logic
+  -- the type of a tenant's map, as a `RattleType`
   abbrev pub map_row : RattleType
   map_row = tenant_row K V S H (record { eq = key.eq }) (record { hash_input = key.hash_input })
       (record { owned = of_key }) (record { owned = of_value }) (record { hash_of = hashed.hash_of })
       (record { build_hasher = hashed.build_hasher }) hash
 
-  -- the map is `last` after the loan
+  -- after the loan, the tenant's map is `last`
   abbrev pub ends_as : MutBor (State K.Denot V.Denot Bytes S.Denot) → State K.Denot V.Denot Bytes S.Denot → Fml
   ends_as m last = follows_so map_row map_row m.ghost_name none (λ _ _. ⊤) (λ n. n ≡ last)
 

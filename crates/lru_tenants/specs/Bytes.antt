@@ -1,7 +1,7 @@
 -- A cache of tenants within one limit of bytes.
---     names name             whether the call names the tenant of this name
---     of_name name           how many bytes the name owns
---     of_pair key value      how many bytes the entry owns
+--     `names name`: whether the call names the tenant of this name.
+--     `of_name name`: how many bytes the name owns.
+--     `of_pair key value`: how many bytes the entry owns.
 use Rattle.std.specs.Prelude.{◌≡◌, ℕ, ◌+◌, ◌≤◌, Bool, false, List, Option, nat_lt, sum_by, unwrap_or}
 use Rattle.lru_limits.specs.Bytes.{Bytes, both_own, in_word}
 use Rattle.lru_model.specs.Lists.{lookup}
@@ -16,7 +16,7 @@ pub record ByteCache (N K V S : Type 0) : Type 0 where
   pub limit : ℕ
   pub hasher : S
 
--- the bytes of the table; `usage` is `Some` for every map
+-- the bytes of a map's table; the `usage` of a map is always `Some`
 abbrev pub table_bytes : {K V L S : Type 0} → State K V L S → ℕ
 table_bytes map = unwrap_or (usage map.entry_bytes (buckets map)) 0
 
@@ -39,11 +39,11 @@ module _ {N K V S : Type 0} where
   abbrev pub IsWithin : (N → ℕ) → (K → V → ℕ) → ByteCache N K V S → Type 0
   IsWithin of_name of_pair cache = cache.table + sum_by (taken of_name of_pair) cache.tenants ≤ cache.limit
 
-  -- the bytes of the table of tenants, and for each tenant its own limit and the bytes that its name owns
+  -- the bytes of the table of tenants, plus for each tenant its own limit and the bytes that its name owns
   abbrev pub reserved : (N → ℕ) → ByteCache N K V S → ℕ
   reserved of_name cache = cache.table + sum_by (λ t. both_own of_name limit_of t.0 t.1) cache.tenants
 
-  -- whether one tenant more would be above the limit
+  -- whether the cache would be above its limit with one tenant more
   abbrev pub is_over : (N → ℕ) → N → ℕ → ByteCache N K V S → Bool
   is_over of_name name own cache = nat_lt cache.limit (reserved of_name cache + in_word (of_name name + own))
 

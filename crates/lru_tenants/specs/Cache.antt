@@ -1,5 +1,5 @@
 -- A cache of tenants: a map for each open tenant.
---     names name      whether the call names the tenant of this name
+--     `names name`: whether the call names the tenant of this name.
 use Rattle.std.specs.Prelude.{◌≡◌, ℕ, ◌≤◌, ◌<◌, ◌+◌, ◌-◌, ◌^◌, nat_lt, Bool, true, false, List, cond, Option, Some, None}
 use Rattle.std.specs.Prelude.{sum_by}
 use Rattle.std.specs.Option.{option_map, unwrap_or}
@@ -27,20 +27,21 @@ pub record Cache (N K V L S : Type 0) : Type 0 where
   -- the open tenants by their names, in no particular order
   pub tenants : List (N × State K V L S)
   pub hasher : S
-  -- if there is one, the limit of the sum of all budgets
+  -- the limit of the sum of all budgets, or `None` if this sum has no limit
   pub total_limit : Option ℕ
 
 module _ {N K V L S : Type 0} where
   abbrev pub tenant : (N → Bool) → Cache N K V L S → Option (State K V L S)
   tenant named cache = lookup named cache.tenants
 
-  -- the empty map of a new tenant: `made` makes its limiter, an entry takes `entry_bytes`, a link is below `max`
+  -- the empty map of a new tenant, whose limiter `made` makes; an entry takes `entry_bytes` bytes, and `max` is the
+  -- number of the link `MAX`
   abbrev pub fresh : (ℕ → L) → ℕ → ℕ → Cache N K V L S → ℕ → State K V L S
   fresh made entry_bytes max cache budget = empty_map (made budget) cache.hasher entry_bytes max
 
   pub record Leaves (eq : N → N → Bool) (names : N → Bool) (left : Option (State K V L S)) (old new : Cache N K V L S)
       : Type 0 where
-    -- if the call names x, it names exactly the names equal to x
+    -- if the call names the tenant x, it names exactly the tenants whose names equal x
     pub one : (x y : N) → names x ≡ true → names y ≡ eq x y
     pub own : tenant names new ≡ left
     pub tenants : (other : N) → tenant (eq other) new ≡ cond (names other) left (tenant (eq other) old)

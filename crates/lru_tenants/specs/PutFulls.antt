@@ -1,5 +1,5 @@
 -- The value that a `put_full` returns.
---     accepts s k v       whether the limiter s accepts the entry of a new key
+--     `accepts s k v`: whether the limiter s accepts the entry of a new key.
 use Rattle.std.specs.Prelude.{Bool, Option, Some, is_some, not, ◌&&◌, if◌then◌else◌}
 use Rattle.lru_limits.specs.Rules.{Rules, Offers}
 use Rattle.lru_model.specs.Inserts.{unkept_value}
@@ -10,8 +10,8 @@ module _ {K V L S : Type 0} (accepts : L → K → V → Bool) (eq : K → K →
   abbrev pub rejects : State K V L S → Bool
   rejects map = not (accepts map.limiter key value) && not (is_some (lookup (eq key) map.pairs))
 
-  -- The value that the map does not keep. If a new key is rejected, this is its value. Otherwise it is the
-  -- `unkept_value` of the insert.
+  -- The value that the map does not keep: the value of a new key if the key is rejected, or else the `unkept_value` of
+  -- the insert.
   abbrev pub comes_back : Rules K V L → Offers K V L K → State K V L S → Option V
   comes_back rules offers map =
       if rejects map then Some value else unkept_value rules offers eq key value (contents map)

@@ -1,5 +1,5 @@
 -- What a call does to the tenant that it names, and what a run of calls does to each tenant.
---     fresh budget        the empty map with which a tenant opens
+--     `fresh budget`: the empty map with which a tenant opens.
 use Rattle.std.specs.Prelude.{◌≡◌, ◌≤◌, ◌⊎◌, ℕ, Bool, true, false, List, [], length, reverse, Option, Some, None}
 use Rattle.std.specs.Prelude.{option_map, IfSome}
 use Rattle.std.specs.Prelude.{Result, Ok, Err}
@@ -31,15 +31,16 @@ abbrev pub put_answer : {R : Type 0} → Result R AllocError → Result R Tenant
 put_answer (Ok inserted) = Ok inserted
 put_answer (Err e) = Err Memory
 
--- Below: what each call may return, and how it leaves the tenant that it names. `None` is a tenant that is not open.
+-- The definitions below say what each call may return, and how it leaves the tenant that it names. `None` stands for a
+-- tenant that is not open.
 
--- If the sum would be over the limit, or memory runs out, the tenant stays closed.
+-- If the sum of the budgets would be over the limit, or memory runs out, the tenant stays closed.
 abbrev pub Opens : {X : Type 0} → Bool → X → Option X → Result (Unit {0}) TenantError → Option X → Type 0
 Opens over fresh (Some map) answer new = (answer ≡ Err AlreadyOpen) × (new ≡ Some map)
 Opens true fresh None answer new = (answer ≡ Err OverTotal) × (new ≡ None)
 Opens false fresh None answer new = ((answer ≡ Ok tt) × (new ≡ Some fresh)) ⊎ ((answer ≡ Err Memory) × (new ≡ None))
 
--- If the tenant is open, the call does what `does` says. Otherwise it returns `NotOpen`.
+-- If the tenant is open, the call does what `does` says. If the tenant is not open, the call returns `NotOpen`.
 abbrev pub OfOpen : {X R : Type 0} → (X → Result R TenantError → Option X → Type 0) → Option X
     → Result R TenantError → Option X → Type 0
 OfOpen does None answer new = (answer ≡ Err NotOpen) × (new ≡ None)
@@ -56,7 +57,8 @@ module _ {K V L S : Type 0} where
   IfOpen {R} does = OfOpen (λ map answer new.
       (result : R) × (left : State K V L S) × does map result left × (answer ≡ Ok result) × (new ≡ Some left))
 
-  -- if the total limit permits the budget, the tenant gets it, and its oldest entries above the budget are evicted
+  -- If the total limit permits the new budget, the tenant gets this budget, and its oldest entries above the budget are
+  -- evicted.
   abbrev pub SetsBudget : Rules K V L → (L → L) → Bool → State K V L S → Result (Unit {0}) TenantError
       → Option (State K V L S) → Type 0
   SetsBudget rules rebudgeted true map answer new = (answer ≡ Err OverTotal) × (new ≡ Some map)
@@ -85,7 +87,7 @@ module _ {K V L S : Type 0} where
   abbrev pub Closes : State K V L S → Result ℕ TenantError → Option (State K V L S) → Type 0
   Closes map answer new = (answer ≡ Ok (length map.pairs)) × (new ≡ None)
 
-  -- a put, which keeps the budget
+  -- a put, which does not change the tenant's budget
   module _ (rules : Rules K V L) (offers : Offers K V L K) (budget_of : L → ℕ) (eq : K → K → Bool)
       (hash_of : S → K → ℕ) (key : K) (value : V) where
     pub record Puts (old : State K V L S) (answer : Result Bool TenantError) (new : Option (State K V L S))
@@ -107,7 +109,8 @@ module _ {N K V L S : Type 0} (rules : Rules K V L) (offers : Offers K V L K) (c
     (account budget_of : L → ℕ) (eq : K → K → Bool) (hash_of : S → K → ℕ) (fresh : ℕ → State K V L S)
     (total_limit : Option ℕ) where
   -- The call may return `answer`, and leave the tenant that it names as `new`. `sum` is the sum of all budgets, the new
-  -- budget included. It depends on the other tenants, so the step only says that it is at least the new budget.
+  -- budget included. The sum depends on the other tenants, so the step only says that the sum is at least the new
+  -- budget.
   abbrev pub TenantStep : TenantCall N K V → Option (State K V L S) → TenantAnswer V → Option (State K V L S) → Type 0
   TenantStep (calls.Open name budget) old answer new = (result : Result (Unit {0}) TenantError) × (sum : ℕ)
       × (budget ≤ sum) × Opens (is_above total_limit sum) (fresh budget) old result new

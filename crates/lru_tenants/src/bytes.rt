@@ -1,4 +1,4 @@
-//! One limit for the bytes of all tenants.
+//! `ByteTenants`.
 ghost use Rattle.std.specs.Prelude.{◌≡◌, ◌+◌, [], length};
 ghost use Rattle.std.specs.Borrow.{u32 as link};
 ghost use Rattle.std.specs.Result.{OnErr};
@@ -136,8 +136,8 @@ impl<
     /// # Errors
     ///
     /// The tenants are unchanged. `AlreadyOpen`, or `OverTotal`: the limit and the bytes of the name are above `left`.
-    /// `Memory`: a larger table of tenants is needed, and memory or the limit does not permit it, or permits it but not
-    /// this tenant in it. After `Memory` the table may be larger, so `left` may be lower.
+    /// `Memory`: the table of tenants has to grow, but memory runs out, or the limit does not permit a larger table
+    /// with this tenant in it. After `Memory` the table may be larger, so `left` may be lower.
     pub fn open(&mut self, name: N, limit: u64) -> Result<(), TenantError>
         ensures opens { On N.eq (N.eq name) (Opens (is_over N.owned name limit self.old)
             (fresh (entry_size K.row V.row link) self.old.hasher limit)) self.old result

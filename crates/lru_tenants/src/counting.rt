@@ -3,9 +3,9 @@ ghost use Rattle.lru_tenants.specs.Counting.{counting_rules, counting_terms, cou
 use lru_caches::Counts;
 use lru_limits::{Admission, Budgeted, Limiter, Summing};
 
-/// A limiter that carries the counts of its map, and limits as the limiter inside does.
+/// Limits as the limiter inside does, and carries the counts of the map.
 ///
-/// In a `TenantCache` over it, call `get_counted` and `put_counted`. No other call counts.
+/// In a `TenantCache` with this limiter, call `get_counted` and `put_counted`. No other call counts.
 ///
 /// In the examples of the calls, `counted` has one tenant, 1, with a budget of 3, the entry (7, 2) and its insertion.
 ///

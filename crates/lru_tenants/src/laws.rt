@@ -53,10 +53,11 @@ pub fn costs_are_within_the_total_limit<
 }
 
 /// If no call of a list names a tenant of a pool, the tenant keeps its share, and only its oldest entries are evicted.
-/// If its cost is within its share, its map stays as it is (`others`).
+/// If the tenant's cost is within its share, its map stays as it is (`others`).
 ///
-/// The premise: each call spares every tenant that the call does not name. The clause `spares` of `put` says this for
-/// `put`. The other calls do not change these tenants (`leaves`). `joins` joins two calls that name the same tenants.
+/// The premise: each call spares every tenant that the call does not name, as the clause `spares` of `put` says. No
+/// other call changes a tenant that the call does not name (`leaves`). `joins` joins two calls that name the same
+/// tenants.
 ///
 /// ```
 /// calls_spare_other_tenants::<u64, u64, u64, ByCost, RandomState>();

@@ -1,4 +1,4 @@
-//! A cache of pages for many hosts. All of it takes at most its limit.
+//! A cache of pages for many hosts. The whole cache takes at most its limit.
 ghost use Rattle.std.specs.Prelude.{◌≡◌, ◌+◌, ◌≤◌, sum_by, string_capacity};
 ghost use Rattle.lru_limits.specs.Bytes.{both_own, block_bytes};
 ghost use Rattle.lru_tenants.specs.Bytes.{taken};
@@ -10,7 +10,7 @@ use test_helpers::{all, check};
 
 type Pages = ByteTenants<String, String, String>;
 
-/// Gets the page of each path of a host, or else puts it. Returns how many pages were there.
+/// Gets the page of each path of a host, or puts the page if it is not there. Returns how many pages were there.
 fn serve(pages: &mut Pages, host: &str, paths: Vec<String>) -> Result<u64, TenantError>
     ensures { pages.new.limit ≡ pages.old.limit }
 {
@@ -34,7 +34,7 @@ fn serve_within(pages: &mut Pages, host: &str, paths: Vec<String>) -> Result<u64
         pages.new.tenants ≤ pages.old.limit }
 {
     let served = serve(pages, host, paths);
-    // The clause `within` of `len`.
+    // Shows the prover the clause `within` of `len`.
     let _len = pages.len();
     served
 }

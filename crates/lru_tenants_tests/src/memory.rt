@@ -1,4 +1,4 @@
-//! A list of calls takes the memory of its answers.
+//! Tests the memory that a list of calls takes for its answers.
 use lru_tenants::{TenantAnswer, TenantCache, TenantCall, run_tenants};
 use std::alloc::Global;
 use std::mem::size_of;

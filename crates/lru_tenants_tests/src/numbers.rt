@@ -29,7 +29,8 @@ pub fn recount(counted: &mut Counted) -> bool {
 
 pub type Shared = TenantPool<u64, u64, u64>;
 
-/// Leaves two tenants of a pool with a limit of 5: 1 with a share of 3 and the entry (7, 2), and 2 with a share of 1.
+/// Leaves two tenants of a pool with a limit of 5: tenant 1 with a share of 3 and the entry (7, 2), and tenant 2 with a
+/// share of 1.
 pub fn restock(pool: &mut Shared) -> bool {
     let _ = (pool.close(&1), pool.close(&2), pool.close(&3));
     (pool.open(1, 3), pool.open(2, 1), pool.put(&1, 7, 2)) == (Ok(()), Ok(()), Ok(true))

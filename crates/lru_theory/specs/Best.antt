@@ -1,24 +1,25 @@
--- The best possible policies, which know the rest of the trace.
---     eq        when two keys are equal
+-- The best possible eviction policies, which know the rest of the trace.
+--     `eq`: when two keys are equal.
 use Rattle.std.specs.Prelude.{ℕ, zero, suc, ◌+◌, Bool, nat_le, if◌then◌else◌, List, [], ◌∷◌, take}
 use Rattle.std.specs.Set.{remove_key}
 use Rattle.lru_theory.specs.Traces.{fault}
 
 module _ {K : Type 0} (eq : K → K → Bool) where
-  -- how many references come before the next reference to the key; if there is none, the length of the trace
+  -- how many references come before the next reference to the key, or the length of the trace if no reference is to the
+  -- key
   abbrev pub until : K → List K → ℕ
   until key [] = 0
   until key (other ∷ trace) = if eq key other then 0 else suc (until key trace)
 
-  -- puts the key among the other keys, in the order of their next references in the trace
+  -- the list of keys after this key was inserted; the list is in the order of the keys' next references in the trace
   abbrev pub put : List K → K → List K → List K
   put trace key [] = key ∷ []
   put trace key (other ∷ keys) = if nat_le (until key trace) (until other trace) then key ∷ (other ∷ keys)
       else other ∷ put trace key keys
 
   -- The keys of MIN with n places after a reference to the key, in the order of their next references. If n is 0, there
-  -- are none. Otherwise MIN stores the key. If there are then more than n keys, MIN evicts the other key whose next
-  -- reference comes last.
+  -- are no keys. If n is above 0, MIN stores the key. If this makes more than n keys, MIN evicts the other key whose
+  -- next reference comes last.
   abbrev pub min_refer : ℕ → K → List K → List K → List K
   min_refer zero key trace keys = []
   min_refer (suc n) key trace keys = put trace key (take n (remove_key (eq key) keys))

@@ -1,6 +1,6 @@
 -- LRU caches with a limit of cost.
---     eq        when two keys are equal
---     cost      what each key costs
+--     `eq`: when two keys are equal.
+--     `cost`: what each key costs.
 use Rattle.std.specs.Prelude.{◌≡◌, ℕ, ◌+◌, ◌-◌, Bool, true, not, ◌||◌, nat_le, nat_lt, if◌then◌else◌, List, [], ◌∷◌}
 use Rattle.std.specs.Prelude.{sum_by}
 use Rattle.std.specs.Set.{remove_key}
@@ -18,27 +18,27 @@ module _ {K : Type 0} (eq : K → K → Bool) (cost : K → ℕ) where
   abbrev pub refer_within : ℕ → K → List K → List K
   refer_within n key keys = affordable cost n (key ∷ remove_key (eq key) keys)
 
-  -- the keys after a trace
+  -- the keys of the cache after a trace
   abbrev pub cached_within : ℕ → List K → List K → List K
   cached_within n = cached_by (refer_within n)
 
-  -- how many references of the trace miss
+  -- how many references of the trace miss in the cache
   abbrev pub faults_within : ℕ → List K → List K → ℕ
   faults_within n = faults_by eq (refer_within n)
 
   abbrev pub EqualCosts : Type 0
   EqualCosts = (x y : K) → eq x y ≡ true → cost x ≡ cost y
 
-  -- what the key, and the different keys that were referenced after its last reference, cost together
+  -- the cost of the key, plus the costs of the different keys that were referenced after the key's last reference
   abbrev pub needs : K → List K → ℕ
   needs key past = cost key + sum_by cost (recency eq (since eq key past))
 
-  -- whether a reference to the key misses in a cache with the limit n: it is the first reference to the key, or the key
-  -- needs more than n
+  -- Whether a reference to the key misses in a cache with the limit n. The reference misses if it is the first one to
+  -- the key, or if the key needs more than n (`needs`).
   abbrev pub is_far_within : ℕ → K → List K → Bool
   is_far_within n key past = not (is_in eq key past) || nat_lt n (needs key past)
 
-  -- how many references of the trace miss with the limit n, after this past
+  -- how many references of the trace, which come after this past, miss in a cache with the limit n
   abbrev pub misses_within : ℕ → List K → List K → ℕ
   misses_within n past [] = 0
   misses_within n past (key ∷ trace) =

@@ -1,11 +1,11 @@
 -- Calls on LRU caches of several sizes.
---     eq        when two keys are equal
+--     `eq`: when two keys are equal.
 use Rattle.std.specs.Prelude.{◌≡◌, ℕ, ◌+◌, ◌-◌, ◌≤◌, Bool, true, if◌then◌else◌, List, [], ◌∷◌, length}
 use Rattle.std.specs.Set.{remove_key}
 use Rattle.lru_theory.specs.Traces.{is_in, refer}
 
--- What a call does to the keys of a cache: it references a key, makes a key the newest if the key is there, removes a
--- key, removes all keys, or changes nothing.
+-- What a call does to the keys of a cache: it references a key (`refers`), makes a stored key the newest (`promotes`),
+-- removes a key, removes all keys, or changes nothing (`looks`).
 pub data KeyCall (K : Type 0) : Type 0 where
   refers : K → KeyCall K
   promotes : K → KeyCall K
@@ -22,19 +22,19 @@ module _ {K : Type 0} (eq : K → K → Bool) (n : ℕ) where
   after_call clears keys = []
   after_call looks keys = keys
 
-  -- the keys after calls, one after another
+  -- the keys of an LRU cache of n places after these calls, one after another
   abbrev pub after_calls : List (KeyCall K) → List K → List K
   after_calls [] keys = keys
   after_calls (call ∷ calls) keys = after_calls calls (after_call call keys)
 
 module _ {K : Type 0} (eq : K → K → Bool) where
-  -- ys contains, in the same order, a key equal to each key of xs
+  -- for each key of xs, the list ys contains an equal key, in the same order
   pub data IsSubsequence : List K → List K → Type 0 where
     none : (ys : List K) → IsSubsequence [] ys
     both : (x y : K) (xs ys : List K) → eq x y ≡ true → IsSubsequence xs ys → IsSubsequence (x ∷ xs) (y ∷ ys)
     skips : (y : K) (xs ys : List K) → IsSubsequence xs ys → IsSubsequence xs (y ∷ ys)
 
-  -- a cache of n places is included in a cache of m places
+  -- the cache `small` of n places is included in the cache `large` of m places
   pub record IsIncluded (n m : ℕ) (small large : List K) : Type 0 where
     pub keys : IsSubsequence small large
     pub more : length large ≤ length small + (m - n)

@@ -1,12 +1,13 @@
 -- Definitions for traces. A trace is the list of the keys that were referenced, in order of time.
---     eq        when two keys are equal
---     past      the keys of earlier references, newest first; a key may occur more than once
+--     `eq`: when two keys are equal.
+--     `past`: the keys of earlier references, newest first; a key may occur more than once.
 use Rattle.std.specs.Prelude.{◌≡◌, ℕ, ◌+◌, Bool, true, not, ◌||◌, nat_le, if◌then◌else◌, List, [], ◌∷◌, length, take}
 use Rattle.std.specs.Cmp.Lexicographic.{pointwise}
 use Rattle.std.specs.List.{list_any}
 use Rattle.std.specs.Set.{remove_key}
 
--- The keys of a cache after a trace. The cache begins with `keys`, and `refer` changes its keys at each reference.
+-- The keys of a cache after a trace. The cache begins with the keys `keys`, and `refer` changes its keys at each
+-- reference.
 abbrev pub cached_by : {K : Type 0} → (K → List K → List K) → List K → List K → List K
 cached_by refer keys [] = keys
 cached_by refer keys (key ∷ trace) = cached_by refer (refer key keys) trace
@@ -15,7 +16,7 @@ module _ {K : Type 0} (eq : K → K → Bool) where
   abbrev pub is_in : K → List K → Bool
   is_in key keys = list_any (eq key) keys
 
-  -- the lists have the same length, and are equal key by key
+  -- the two lists have the same length, and are equal key by key
   abbrev pub AreEqual : List K → List K → Type 0
   AreEqual keys others = pointwise eq keys others ≡ true
 
@@ -33,39 +34,39 @@ module _ {K : Type 0} (eq : K → K → Bool) where
   abbrev pub distance : K → List K → ℕ
   distance key past = length (recency (since key past))
 
-  -- whether a reference to the key misses in a cache of n places: it is the first reference to the key, or its reuse
-  -- distance is at least n
+  -- Whether a reference to the key misses in a cache of n places. The reference misses if it is the first one to the
+  -- key, or if the key's reuse distance is at least n.
   abbrev pub is_far : ℕ → K → List K → Bool
   is_far n key past = not (is_in key past) || nat_le n (distance key past)
 
-  -- how many references of the trace miss in n places, after this past
+  -- how many references of the trace, which come after this past, miss in a cache of n places
   abbrev pub misses : ℕ → List K → List K → ℕ
   misses n past [] = 0
   misses n past (key ∷ trace) = (if is_far n key past then 1 else 0) + misses n (key ∷ past) trace
 
-  -- The keys of an LRU cache of n places after a reference, newest first. The key becomes the newest. If there are then
-  -- more than n keys, the oldest is evicted.
+  -- The keys of an LRU cache of n places after a reference, newest first. The key becomes the newest. If this makes
+  -- more than n keys, the oldest key is evicted.
   abbrev pub refer : ℕ → K → List K → List K
   refer n key keys = take n (key ∷ remove_key (eq key) keys)
 
-  -- if the key is there, 0, else 1
+  -- 0 if the key is among the keys, else 1
   abbrev pub fault : K → List K → ℕ
   fault key keys = if is_in key keys then 0 else 1
 
-  -- how many references of the trace did not find their key in a cache that `refer` changes
+  -- how many references of the trace did not find their key in a cache whose keys `refer` changes
   abbrev pub faults_by : (K → List K → List K) → List K → List K → ℕ
   faults_by refer keys [] = 0
   faults_by refer keys (key ∷ trace) = fault key keys + faults_by refer (refer key keys) trace
 
-  -- `cached_by` for an LRU cache of n places
+  -- the keys after a trace (`cached_by`), for an LRU cache of n places
   abbrev pub cached : ℕ → List K → List K → List K
   cached n = cached_by (refer n)
 
-  -- `faults_by` for an LRU cache of n places
+  -- how many references miss (`faults_by`), for an LRU cache of n places
   abbrev pub faults : ℕ → List K → List K → ℕ
   faults n = faults_by (refer n)
 
--- the past after the references of a trace
+-- the past after these references: the keys of the trace, newest first, followed by the old past
 abbrev pub past_after : {K : Type 0} → List K → List K → List K
 past_after past [] = past
 past_after past (key ∷ trace) = past_after (key ∷ past) trace

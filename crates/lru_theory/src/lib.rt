@@ -11,8 +11,8 @@ ghost use Rattle.lru_theory.specs.Best.{min_misses, bypass_misses};
 ghost use Rattle.lru_theory.specs.Inclusion.{KeyCall, after_calls, IsIncluded, IsSubsequence};
 
 /// If an LRU cache of n places contains the n keys that were referenced last, it still does after any trace (`keys`).
-/// It misses exactly at the references whose reuse distance is at least n, and at the first reference to each key
-/// (`misses`).
+/// The cache misses exactly at the references whose reuse distance is at least n, and at the first reference to each
+/// key (`misses`).
 pub fn a_cache_is_the_newest<K: Eq>()
     ensures keys { (n : ℕ) (past trace : List K) →
         cached K.eq n (take n (recency K.eq past)) trace ≡ take n (recency K.eq (past_after past trace)) }
@@ -25,12 +25,14 @@ pub fn more_places_never_miss_more<K: Eq>()
     ensures { (n m : ℕ) (past trace : List K) → n ≤ m → misses K.eq m past trace ≤ misses K.eq n past trace }
 {}
 
-/// LRU is competitive, whatever both caches contain at first. Take any policy with h places, which may know the whole
-/// trace, and an LRU cache of k ≥ h places. The policy begins with the keys `first`, and pays `paid` times.
+/// LRU is competitive, whatever both caches contain at first. Take an LRU cache of k ≥ h places, and any policy with h
+/// places, which may know the whole trace. The policy begins with the keys `first`, and pays `paid` times.
 ///
 /// - If the policy stores each referenced key, and may load keys ahead, LRU misses at most
 ///   `k / (k + 1 - h) * paid + length first` times (`loads`).
+///
 /// - The same bound holds for a demand policy that begins with at most h keys (`demands`).
+///
 /// - If the policy need not store referenced keys, and k > h, LRU misses at most `k / (k - h) * paid + length first`
 ///   times (`bypasses`).
 pub fn lru_is_competitive<K: Eq>()
@@ -53,10 +55,10 @@ pub fn loading_ahead_gains_nothing<K: Eq>()
         (demanded : ℕ) × (other : List K) × Served (Demands K.eq h) other first trace demanded × (demanded ≤ paid) }
 {}
 
-/// A cache of n places is *included* in a cache of m places if its keys are keys of the larger cache, in the same
-/// order, and the larger cache contains at most m - n more keys. If the smaller cache is included before some calls, it
-/// is included after them (`included`). So the larger cache finds each key that the smaller cache finds (`finds`), and
-/// misses no more often in a trace (`misses`). `KeyCall` lists the calls.
+/// A cache of n places is *included* in a cache of m places if the larger cache contains its keys, in the same order,
+/// and at most m - n more keys. If the smaller cache is included, it is still included after any calls (`included`). So
+/// the larger cache finds each key that the smaller cache finds (`finds`), and misses no more often in a trace
+/// (`misses`). `KeyCall` lists the calls.
 pub fn a_smaller_cache_is_included<K: Eq>()
     ensures included { (n m : ℕ) (calls : List (KeyCall K)) (small large : List K) → n ≤ m →
         IsIncluded K.eq n m small large →
@@ -77,8 +79,8 @@ pub fn a_larger_budget_never_misses_more<K: Eq>()
         faults_within K.eq cost m keys trace ≤ faults_within K.eq cost n (take some keys) trace }
 {}
 
-/// Suppose that equal keys cost the same. If a cache with the limit n contains the longest beginning of the recency list
-/// that costs at most n, it still does after any trace, even if a key alone costs more than n (`keys`). It misses
+/// Suppose that equal keys cost the same. If a cache with the limit n contains the first keys of the recency list, up
+/// to a cost of n, it still does after any trace, even if a key alone costs more than n (`keys`). The cache misses
 /// exactly at the references that need more than n, and at the first reference to each key (`misses`).
 pub fn a_budget_keeps_the_newest<K: Eq>()
     ensures keys { (cost : K → ℕ) (n : ℕ) (past trace : List K) → EqualCosts K.eq cost →
@@ -90,9 +92,9 @@ pub fn a_budget_keeps_the_newest<K: Eq>()
 {}
 
 /// A policy that stores each referenced key pays at least as often as MIN misses, whether it loads keys ahead (`loads`)
-/// or only on demand (`demands`). A policy that need not store referenced keys pays at least as often as MIN with
-/// bypass misses (`bypasses`). All these policies have n places, and begin with no keys. If MIN has a place, it is
-/// itself a policy of the first kind (`min`). MIN with bypass is a policy of the second kind (`bypass`).
+/// or only on demand (`demands`). MIN with bypass misses at most as often as any policy pays that need not store
+/// referenced keys (`bypasses`). All these policies have n places, and begin with no keys. If MIN has a place, it
+/// stores each referenced key (`min`). MIN with bypass is a policy that need not store referenced keys (`bypass`).
 pub fn min_is_best<K: Eq>()
     ensures loads { (n : ℕ) (trace left : List K) (paid : ℕ) → Served (Loads K.eq n) left [] trace paid →
         min_misses K.eq n trace ≤ paid }
@@ -108,8 +110,8 @@ pub fn min_is_best<K: Eq>()
 
 /// LRU is near MIN. MIN has h ≥ 1 places, and begins with no keys. LRU has k ≥ h places, and begins with any keys. LRU
 /// misses at most `k / (k + 1 - h)` times as often as MIN (`min`). If k > h, LRU misses at most `k / (k - h)` times as
-/// often as MIN with bypass (`bypass`). If LRU begins with no keys, and has as many places as MIN, it misses at least
-/// as often (`least`).
+/// often as MIN with bypass (`bypass`). If LRU begins with no keys, and has h places, it misses at least as often as
+/// MIN (`least`).
 pub fn lru_is_near_min<K: Eq>()
     ensures min { (k h : ℕ) (past trace : List K) → 0 < h → h ≤ k →
         (k + 1 - h) * misses K.eq k past trace ≤ k * min_misses K.eq h trace }

@@ -1,4 +1,4 @@
--- The curve of a trace, as its references are counted.
+-- The miss-ratio curve of a trace, computed as its references are counted.
 use Rattle.std.specs.Prelude.{◌≡◌, ℕ, ◌+◌, ◌≤◌, ◌<◌, List, [], length, map, take, sum, Option, Some, IfSome, nat_eq, String}
 use Rattle.std.specs.Global.{Global}
 use Rattle.std.specs.Map.{lookup}
@@ -9,18 +9,18 @@ use Rattle.lru_trace.specs.Slots.{Recent}
 
 pub record Counted : Type 0 where
   pub names : List (String Global × ℕ)
-  -- the numbers of the keys, the last referenced first
+  -- the numbers of the keys, the last referenced key first
   pub recency : List ℕ
-  -- how many counted references had each reuse distance
+  -- for each reuse distance, how many counted references had it
   pub counts : List ℕ
   pub references : ℕ
-  -- the number of the key of each counted reference, if the curve keeps them
+  -- the number of the key of each counted reference, or `None` if the curve does not keep these numbers
   pub kept : Option (List ℕ)
 
 abbrev pub number_in : List (String Global × ℕ) → List ℕ → Option ℕ
 number_in names key = lookup (λ name. bytes_eq key (string_bytes name)) names
 
--- no two keys have the same number, and numbers are below n
+-- different keys have different numbers, and all numbers are below n
 pub record AreNumbered (names : List (String Global × ℕ)) (n : ℕ) : Type 0 where
   pub small : (key : List ℕ) (number : ℕ) → number_in names key ≡ Some number → number < n
   pub apart : (a b : List ℕ) (number : ℕ) → number_in names a ≡ Some number → number_in names b ≡ Some number → a ≡ b

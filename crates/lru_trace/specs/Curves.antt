@@ -1,4 +1,4 @@
--- The curve of a trace in either measure.
+-- The miss-ratio curve of a trace, for sizes in entries or in bytes.
 use Rattle.std.specs.Prelude.{◌≡◌, ◌≤◌, ◌<◌, ◌/◌, ◌^◌, ℕ, nat_eq, Bool, true, false, List, [], ◌++◌, Option, Some, None}
 use Rattle.std.specs.Prelude.{is_some, IfSome}
 use Rattle.std.specs.List.{All}
@@ -22,7 +22,7 @@ abbrev pub references_of : AnyCurve → ℕ
 references_of (curves.Places curve) = curve.references
 references_of (curves.Bytes curve) = curve.references
 
--- whether the references are kept
+-- whether the curve keeps the keys of all counted references
 abbrev pub keeps : AnyCurve → Bool
 keeps (curves.Places curve) = is_some curve.kept
 keeps (curves.Bytes curve) = false
@@ -32,11 +32,11 @@ abbrev pub limits_of : AnyCurve → Option (List ℕ)
 limits_of (curves.Places curve) = None
 limits_of (curves.Bytes curve) = Some curve.limits
 
--- the curve counts the misses for the size
+-- the curve counts the misses in a cache of this size
 abbrev pub Has : AnyCurve → ℕ → Type 0
 Has curve size = IfSome (limits_of curve) (λ limits. is_in nat_eq size limits ≡ true)
 
--- `Has`, for what these sizes stand for in a sample of one key in 2 ^ bits
+-- the curve of a sample of one key in 2 ^ bits counts the misses for each of these sizes, divided by 2 ^ bits
 abbrev pub HasAll : AnyCurve → ℕ → List ℕ → Type 0
 HasAll curve bits sizes = All (λ size. Has curve (size / 2 ^ bits)) sizes
 
@@ -45,21 +45,21 @@ abbrev pub IsCurveOf : List (List ℕ × ℕ) → List (List ℕ × ℕ) → Any
 IsCurveOf warm trace (curves.Places curve) = IsOf (keys_of warm) (keys_of trace) curve
 IsCurveOf warm trace (curves.Bytes curve) = IsSizedOf warm trace curve
 
--- what references do not change
+-- what further references do not change in a curve
 pub record AreAlike (old new : AnyCurve) : Type 0 where
   pub measure : measure_in new ≡ measure_in old
   pub keeps : keeps new ≡ keeps old
   pub limits : limits_of new ≡ limits_of old
 
--- The curve can make the report of `options`, whose first line names `sizes`.
+-- The curve has every count that a report with these `options` needs, if the first line names `sizes`.
 pub record Fits (options : Options) (sizes : List ℕ) (curve : AnyCurve) : Type 0 where
   pub measure : measure_in curve ≡ measure_of options.policies
   pub keeps : keeps curve ≡ wants_best options.policies
   pub named : HasAll curve (bits_of options) sizes
   pub powers : (most : ℕ) → most < 2 ^ 128 → HasAll curve (bits_of options) (powers most 64 0)
 
--- The curve of a warm-up and a trace was `old`. `Holds` is true of both after these references. If `is_warm` is false,
--- the references are counted.
+-- The curve of a warm-up and a trace was `old`. After these further references, `Holds` is true of the warm-up and the
+-- trace. The references are part of the warm-up if `is_warm` is true, and of the trace if it is false.
 pub record Leads (is_warm : Bool) (old : AnyCurve) (references : List (List ℕ × ℕ))
     (Holds : List (List ℕ × ℕ) → List (List ℕ × ℕ) → Type 0) : Type 0 where
   pub counted : is_warm ≡ false → (warm trace : List (List ℕ × ℕ)) → IsCurveOf warm trace old
@@ -70,6 +70,6 @@ pub record Leads (is_warm : Bool) (old : AnyCurve) (references : List (List ℕ 
 abbrev pub Follows : Bool → AnyCurve → List (List ℕ × ℕ) → AnyCurve → Type 0
 Follows is_warm old references new = Leads is_warm old references (λ warm trace. IsCurveOf warm trace new)
 
--- all keys together take 2 ^ 64 bytes or more
+-- the entries of all keys together take 2 ^ 64 bytes or more
 abbrev pub AreTooLarge : List (List ℕ × ℕ) → List (List ℕ × ℕ) → Type 0
 AreTooLarge warm trace = 2 ^ 64 ≤ bytes_of (warm ++ trace)

@@ -29,9 +29,9 @@ EndsSo endings.Feed bytes line = bytes ≡ fed line
 EndsSo endings.InputEnd bytes line = (line ≡ bytes) × (0 < length line) × ((front : List ℕ) → bytes ≡ fed front → ⊥)
 EndsSo endings.Nothing bytes line = (line ≡ bytes) × (line ≡ [])
 
--- A reader had the bytes `from` left, if they are known, and has `to` left now.
+-- The reader had the bytes `from` left before, and has the bytes `to` left now, if these are known.
 module _ (from to : Option (List ℕ)) where
-  -- these bytes without a line feed were read, and nothing is left
+  -- these bytes, which have no line feed, were read, and the reader has nothing left
   abbrev pub TakesRest : List ℕ → Type 0
   TakesRest bytes = LacksFeed bytes × Consumes from to bytes × OnSome from (IsAtEnd to)
 
@@ -49,7 +49,7 @@ abbrev pub behind : ℕ → List ℕ → List ℕ
 behind separator [] = []
 behind separator (b ∷ line) = if b == separator then line else behind separator line
 
--- The column behind n separators. If the line has fewer separators, the column is empty.
+-- The column after n separators of the line. If the line has fewer separators, the column is empty.
 abbrev pub cell : ℕ → ℕ → List ℕ → List ℕ
 cell separator zero line = before separator line
 cell separator (suc n) line = cell separator n (behind separator line)

@@ -1,7 +1,7 @@
--- A tree of sums is the list of its nodes. Node 0 is not used.
+-- A tree of sums, as the list of its nodes. Node 0 is not used.
 use Rattle.std.specs.Prelude.{◌≡◌, ℕ, ◌+◌, ◌*◌, ◌^◌, ◌<◌, List, length, get_or, drop, sum}
 
--- Each inner node contains the sum of its two children. The leaves are the last half.
+-- Each inner node contains the sum of its two children. The leaves are the second half of the list.
 pub record IsTree (slots levels : ℕ) (nodes : List ℕ) : Type 0 where
   pub power : slots ≡ 2 ^ levels
   pub len : length nodes ≡ 2 * slots

@@ -1,4 +1,4 @@
--- How a trace ends: what was read and written.
+-- How the program `trace` ends: what it read and wrote.
 use Rattle.std.specs.Prelude.{◌≡◌, ℕ, ◌≤◌, List, [], ◌∷◌, ◌++◌, length, drop, Option, OnSome, Some, None, Result, Ok, Err}
 use Rattle.std.specs.Io.KnownBytes.{Consumes, IsAtEnd, Appends, Keeps}
 use Rattle.lru_trace.specs.declared.options.Options.{Options}
@@ -16,8 +16,8 @@ use Rattle.lru_trace.specs.declared.lines.Others.{Others}
 use Rattle.lru_trace.specs.Report.{output}
 use Rattle.lru_trace.specs.Sizes.{sizes_from}
 
--- A reader had the bytes `from` left, if they are known, and has `to` left now. The reader was read to its end, and
--- `curve` counts the references that the lines make.
+-- The reader had the bytes `from` left before, and has the bytes `to` left now, if these are known. The reader was read
+-- to its end, and `curve` counts the references that the lines make.
 pub record KeysRead (from to : Option (List ℕ)) (options : Options) (curve : AnyCurve) (others : Others) : Type 0 where
   pub input : List ℕ
   pub reads : Consumes from to input
@@ -25,7 +25,7 @@ pub record KeysRead (from to : Option (List ℕ)) (options : Options) (curve : A
   pub curve_of : IsCurveOf (warm_in options (lines_of input)) (counted_in options (lines_of input)) curve
   pub left_out : others ≡ others_in options (lines_of input)
 
--- `KeysRead`, with a first line that names the sizes and makes no reference.
+-- What `KeysRead` says, for an input whose first line names the sizes and makes no reference.
 pub record TraceRead (from to : Option (List ℕ)) (options : Options) (sizes : List ℕ) (curve : AnyCurve)
     (others : Others) : Type 0 where
   pub input : List ℕ
@@ -39,7 +39,7 @@ pub record TraceRead (from to : Option (List ℕ)) (options : Options) (sizes : 
   pub fits : Fits options sizes curve
   pub left_out : others ≡ others_in options rest
 
--- At most one line was read, and it names no sizes.
+-- The input has at most one line, and no line that names sizes.
 pub record NoSizesRead (from to : Option (List ℕ)) : Type 0 where
   pub input : List ℕ
   pub reads : Consumes from to input
@@ -49,13 +49,13 @@ pub record NoSizesRead (from to : Option (List ℕ)) : Type 0 where
 abbrev pub SomeRead : Option (List ℕ) → Option (List ℕ) → Type 0
 SomeRead from to = (part : List ℕ) × Consumes from to part
 
--- Behind the first n lines, the keys that were read together take 2 ^ 64 bytes or more.
+-- After the first n lines, the entries of the keys that were read together take 2 ^ 64 bytes or more.
 pub record TooLargeRead (n : ℕ) (from to : Option (List ℕ)) (options : Options) : Type 0 where
   pub input : List ℕ
   pub reads : Consumes from to input
   pub large : AreTooLarge (warm_in options (drop n (lines_of input))) (counted_in options (drop n (lines_of input)))
 
--- A writer's bytes were `old` and are `new`: a beginning of the text was written.
+-- A beginning of the text was written: the writer's bytes were `old` before, and are `new` now.
 abbrev pub Begins : Option (List ℕ) → Option (List ℕ) → List ℕ → Type 0
 Begins old new text = (begun rest : List ℕ) × (text ≡ begun ++ rest) × Appends old new begun
 

@@ -1,4 +1,4 @@
--- The references that lines make: the key, and the size of its entry.
+-- The references that lines make. A reference is a key, and the size of the key's entry.
 use Rattle.std.specs.Prelude.{ℕ, List, take, drop, min, filter_map, length, Bool, true, false, not, if◌then◌else◌}
 use Rattle.std.specs.Prelude.{Option, Some, None, is_some}
 use Rattle.std.specs.List.{filter}
@@ -31,14 +31,14 @@ measure_of (Sized n column) = Bytes
 abbrev pub bits_of : Options → ℕ
 bits_of options = min options.sample 20
 
--- The size that a line says. Without a column of sizes, each entry has the size 1.
+-- The size that a line spells. Without a column of sizes, each entry has the size 1.
 abbrev pub size_of : Policies → List ℕ → Option ℕ
 size_of (Lru n) line = Some 1
 size_of Best line = Some 1
 size_of (Sized n column) line = number_from None (cell column.separator column.index line)
 
 module _ (options : Options) where
-  -- if the line is malformed, `None`
+  -- the reference that the line makes, or `None` if the line is malformed
   abbrev pub reference_of : List ℕ → Option (List ℕ × ℕ)
   reference_of line = if is_key (text_in options.column line)
       then option_map (λ size. (text_in options.column line, size)) (size_of options.policies line) else None
@@ -53,18 +53,18 @@ module _ (options : Options) where
     abbrev pub warm_in : List (List ℕ × ℕ)
     warm_in = sampled (bits_of options) (take (warm_up_of options.policies) references_in)
 
-    -- the references after the warm-up
+    -- the counted references, which come after the warm-up
     abbrev pub counted_in : List (List ℕ × ℕ)
     counted_in = sampled (bits_of options) (drop (warm_up_of options.policies) references_in)
 
-    -- keys of the warm-up do not count as skipped
+    -- how many lines were malformed, and how many counted references the sample skipped
     abbrev pub others_in : Others
     others_in = record {
       malformed = malformed_in;
       skipped = skipped (bits_of options) (drop (warm_up_of options.policies) references_in);
     }
 
-    -- `others_in` of lines that are all in the warm-up, if `warm` is true, or all after it
+    -- `others_in` for lines that are all in the warm-up (if `warm` is true) or all after the warm-up (if it is false)
     abbrev pub others_so : Bool → Others
     others_so warm = record {
       malformed = malformed_in;

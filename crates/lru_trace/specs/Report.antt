@@ -1,4 +1,4 @@
--- What is written for a trace, in each form.
+-- What the program `trace` writes for a trace, in each form.
 use Rattle.std.specs.Prelude.{ℕ, ◌-◌, ◌/◌, ◌%◌, ◌==◌, if◌then◌else◌, List, [], ◌∷◌, ◌++◌, length, map}
 use Rattle.std.specs.Prelude.{flat_map, replicate, decimal, codes, Bool, false, Option, Some, None}
 use Rattle.std.specs.Map.{keys_of}
@@ -17,7 +17,7 @@ use Rattle.lru_trace.specs.Rows.{keys, expected_of, row_of, axis_in, powers_in, 
 use Rattle.lru_trace.specs.Sizes.{sizes_from}
 use Rattle.lru_trace.specs.Svg.{missed_part, svg_text}
 
--- a number of ten-thousandths, such as `0.8113`
+-- the text of a number of ten-thousandths, such as `0.8113`
 abbrev pub ratio_text : ℕ → List ℕ
 ratio_text n = decimal (n / 10000) ++ (codes "." ++ (decimal (n / 1000 % 10) ++ (decimal (n / 100 % 10)
     ++ (decimal (n / 10 % 10) ++ decimal (n % 10)))))
@@ -101,7 +101,7 @@ module _ (options : Options) (warm trace : List (List ℕ × ℕ)) (sizes : List
   abbrev pub written : List ℕ
   written = written_as options.form
 
--- What is written for these lines. If the first line names no sizes, the output is `None`.
+-- What the program writes for these lines, or `None` if the first line names no sizes.
 abbrev pub output : Options → List (List ℕ) → Option (List ℕ)
 output options [] = None
 output options (first ∷ lines) =

@@ -1,4 +1,4 @@
--- The numbers that are written for each size.
+-- The numbers that a report contains for each size.
 use Rattle.std.specs.Prelude.{ℕ, zero, suc, max, ◌+◌, ◌*◌, ◌/◌, ◌^◌, nat_lt, nat_le, ◌==◌, if◌then◌else◌, List, [], ◌∷◌, ◌++◌, length, drop}
 use Rattle.std.specs.Prelude.{Bool, true, false, Option, Some, None}
 use Rattle.std.specs.List.{fold}
@@ -18,7 +18,7 @@ abbrev pub best_in : List (List ℕ) → Bool → ℕ → Option BestMisses
 best_in trace false n = None
 best_in trace true n = Some (record { min = min_misses bytes_eq n trace; bypass = bypass_misses bytes_eq n trace })
 
--- How many references a sample of one key in 2 ^ bits is expected to have, rounded down.
+-- How many references a sample of one key in 2 ^ bits is expected to contain, rounded down.
 abbrev pub expected_of : ℕ → Counts → ℕ
 expected_of bits counts = (counts.references + unwrap_or counts.skipped 0) / 2 ^ bits
 
@@ -30,17 +30,17 @@ abbrev pub missed : Measure → List (List ℕ × ℕ) → List (List ℕ × ℕ
 missed Places warm trace size = misses bytes_eq size (past_after [] (keys_of warm)) (keys_of trace)
 missed Bytes warm trace size = missed_within size warm trace
 
--- the size of a cache for all keys
+-- the size of a cache that has room for all keys
 abbrev pub needed : Measure → List (List ℕ × ℕ) → List (List ℕ × ℕ) → ℕ
 needed Places warm trace = keys (keys_of warm) (keys_of trace)
 needed Bytes warm trace = bytes_of (warm ++ trace)
 
--- the powers of two from 2 ^ level to the first power that is at least `most`, but at most n powers
+-- the powers of two from 2 ^ level up to the first that is at least `most`, but at most n powers
 unfoldable pub powers : ℕ → ℕ → ℕ → List ℕ
 powers most zero level = []
 powers most (suc n) level = 2 ^ level ∷ (if nat_le most (2 ^ level) then [] else powers most n (suc level))
 
--- `trace` are the counted references, and `warm` the references of the warm-up before them.
+-- `trace` contains the counted references, and `warm` the earlier references of the warm-up.
 module _ (measure : Measure) (warm trace : List (List ℕ × ℕ)) where
   -- In a sample of one key in 2 ^ bits, a cache of the size n / 2 ^ bits stands for a cache of the size n.
   abbrev pub row_of : ℕ → ℕ → Bool → ℕ → Row
@@ -56,11 +56,11 @@ module _ (measure : Measure) (warm trace : List (List ℕ × ℕ)) where
   abbrev pub axis_in : ℕ → List ℕ
   axis_in bits = powers (max (needed measure warm trace) 1 * 2 ^ bits) 64 0
 
-  -- the powers of the axis that stand for a size of at least 1
+  -- the powers of two on the axis that stand for a size of at least 1 in the sample
   abbrev pub powers_in : ℕ → List ℕ
   powers_in bits = drop bits (axis_in bits)
 
--- inserts n into the rising list of sizes, unless the list has n
+-- inserts n into the rising list of sizes, unless the list contains n already
 abbrev pub with_size : List ℕ → ℕ → List ℕ
 with_size [] n = n ∷ []
 with_size (size ∷ sizes) n =

@@ -1,8 +1,8 @@
--- A sample of keys: the keys whose lowest hash bits are zero.
+-- A sample of keys, which contains the keys whose lowest hash bits are zero.
 use Rattle.std.specs.Prelude.{ℕ, ◌*◌, ◌%◌, ◌^◌, ◌==◌, Bool, not, List, length, bit_xor}
 use Rattle.std.specs.List.{fold, filter}
 
--- FNV-1a with 64 bits
+-- one step of the hash FNV-1a with 64 bits
 abbrev pub with_byte : ℕ → ℕ → ℕ
 with_byte hash b = bit_xor hash b * 1099511628211 % 2 ^ 64
 

@@ -1,4 +1,4 @@
--- The curve of a trace whose references say the sizes of their keys.
+-- The miss-ratio curve of a trace whose references say the sizes of their keys.
 use Rattle.std.specs.Prelude.{◌≡◌, ℕ, ◌+◌, ◌^◌, ◌<◌, Bool, true, nat_lt, List, [], ◌∷◌, ◌++◌, length, map, take, sum, sum_by}
 use Rattle.std.specs.Prelude.{get_or, Option, Some, None, nat_eq, String}
 use Rattle.std.specs.Global.{Global}
@@ -18,13 +18,13 @@ first_size references key = lookup (bytes_eq key) references
 abbrev pub size_in : List (List ℕ × ℕ) → List ℕ → ℕ
 size_in references key = unwrap_or (first_size references key) 0
 
--- How many references of the trace, after the warm-up, miss in an LRU cache with this limit of bytes. A key has the size
--- that its first reference says, also if that reference is in the warm-up.
+-- How many references of the trace, after the warm-up, miss in an LRU cache with this limit of bytes. A key has the
+-- size that its first reference says, even if this reference is in the warm-up.
 abbrev pub missed_within : ℕ → List (List ℕ × ℕ) → List (List ℕ × ℕ) → ℕ
 missed_within limit warm trace =
     misses_within bytes_eq (size_in (warm ++ trace)) limit (past_after [] (keys_of warm)) (keys_of trace)
 
--- how many bytes all keys take together
+-- how many bytes the entries of all keys take together
 abbrev pub bytes_of : List (List ℕ × ℕ) → ℕ
 bytes_of references = sum_by (size_in references) (recency bytes_eq (past_after [] (keys_of references)))
 
@@ -33,20 +33,20 @@ pub record Sized : Type 0 where
   pub recency : List ℕ
   pub sizes : List ℕ
   pub limits : List ℕ
-  -- for each limit, how many counted references need at most this limit and more than the limit before it; then, how
-  -- many miss at every limit
+  -- For each limit, how many counted references need at most this limit, but more than the limit before it. The last
+  -- count is how many counted references miss at every limit.
   pub counts : List ℕ
   pub references : ℕ
 
 abbrev pub total_of : Sized → ℕ
 total_of curve = sum_by (weight_in curve.sizes) curve.recency
 
--- The size of the key plus the sizes of the keys before it in the recency list. If this is the first reference to the
--- key, `None`.
+-- The size of the key, plus the sizes of the keys before it in the recency list, or `None` if this is the first
+-- reference to the key.
 abbrev pub need_of : (ℕ → ℕ) → ℕ → List ℕ → Option ℕ
 need_of size key recency = option_map (λ behind. size key + behind) (position size key recency)
 
--- whether the reference misses in a cache with the limit
+-- whether a reference with this need misses in a cache with this limit
 abbrev pub exceeds : Option ℕ → ℕ → Bool
 exceeds None limit = true
 exceeds (Some need) limit = nat_lt limit need
@@ -55,7 +55,7 @@ abbrev pub KeepsSizes : Sized → Sized → Type 0
 KeepsSizes old new = (key : List ℕ) (number : ℕ) → number_in old.names key ≡ Some number →
     weight_in new.sizes number ≡ weight_in old.sizes number
 
--- A reference to the key was made, but not yet counted.
+-- A reference to the key was made (the curve changed from `old` to `new`), but is not yet counted.
 pub record Made (key : List ℕ) (bytes : ℕ) (need : Option ℕ) (old new : Sized) : Type 0 where
   pub number : ℕ
   pub named : number_in new.names key ≡ Some number

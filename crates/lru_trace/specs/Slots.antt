@@ -1,22 +1,22 @@
--- Each slot of a log contains a key or is free.
+-- A log of references: a list of slots, each of which contains a key or is free.
 use Rattle.std.specs.Prelude.{◌≡◌, ℕ, ◌^◌, ◌≤◌, ◌<◌, if◌then◌else◌, List, [], ◌∷◌, ◌++◌, length, sum, sum_by}
 use Rattle.std.specs.Prelude.{get_or, Option, Some, None, nat_eq, Vec, vec_len, vec_capacity}
 use Rattle.std.specs.Option.{option_to_list}
 use Rattle.lru_theory.specs.Traces.{is_in, since}
 
--- `recency` has the referenced keys, the last referenced first. `weights` has the weights of the first keys. `room` is
--- the number of slots that are left.
+-- `recency` contains the referenced keys, the last referenced key first. `weights` contains the weights of the keys
+-- from key 0 on. `room` is the number of free slots at the end of the log.
 pub record Recent : Type 0 where
   pub recency : List ℕ
   pub keys : ℕ
   pub weights : List ℕ
   pub room : ℕ
 
--- a key that has no weight of its own weighs 1
+-- the weight of the key, which is 1 if the list contains no weight for this key
 abbrev pub weight_in : List ℕ → ℕ → ℕ
 weight_in weights key = get_or weights key 1
 
--- what the keys before a key in the recency list weigh together, if the key is there
+-- the weight of all keys before this key in the recency list, or `None` if the key is not in the list
 abbrev pub position : (ℕ → ℕ) → ℕ → List ℕ → Option ℕ
 position weight key recency =
     if is_in nat_eq key recency then Some (sum_by weight (since nat_eq key recency)) else None

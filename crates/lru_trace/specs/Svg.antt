@@ -1,5 +1,5 @@
--- The picture of the curves, in tenths of a pixel. The sizes 1 to 2 ^ octaves are at 900 to 7300 from the left. If no
--- references miss, the point is at 3900 from the top, and if all miss, at 700.
+-- The picture of the curves. Coordinates are tenths of a pixel. The sizes 1 to 2 ^ octaves are at 900 to 7300 from the
+-- left. The point of a size is at 3900 from the top if no reference misses, and at 700 if all miss.
 use Rattle.std.specs.Prelude.{ℕ, zero, suc, ◌+◌, ◌-◌, ◌*◌, ◌/◌, ◌%◌, ◌^◌, max, nat_le, ◌==◌, if◌then◌else◌}
 use Rattle.std.specs.Prelude.{List, [], ◌++◌, length, flat_map, decimal, codes, Bool, Option, Some, None}
 use Rattle.lru_trace.specs.declared.svg.TheConstants.{START, PLACES, BYTES, LRU, MIN, BYPASS}
@@ -11,21 +11,22 @@ use Rattle.lru_trace.specs.declared.options.Measure.TheVariants.{Places, Bytes}
 use Rattle.lru_trace.specs.declared.svg.Policy.{Policy}
 use Rattle.lru_trace.specs.declared.svg.Policy.TheVariants as policies
 
--- the part of the references that missed, in units of 1 / scale, rounded down
+-- the share of the references that missed, times `scale` and rounded down
 abbrev pub part : ℕ → ℕ → ℕ → ℕ
 part missed references scale = if references == 0 then 0 else missed * scale / references
 
--- The part of the expected references that miss, in the same units. If more references miss than are expected, the part
--- is `scale`.
+-- The share of the expected references that miss, times `scale` and rounded down. The result is `scale` if more
+-- references miss than are expected.
 abbrev pub missed_part : ℕ → ℕ → ℕ → ℕ
 missed_part missed expected scale = part missed (max missed expected) scale
 
--- the last level up to `most` with 2 ^ level ≤ n, or 0
+-- the greatest level up to `most` for which 2 ^ level is at most n, or 0 if there is none
 unfoldable pub level_of : ℕ → ℕ → ℕ
 level_of zero n = 0
 level_of (suc most) n = if nat_le (2 ^ suc most) n then suc most else level_of most n
 
--- 1000 times the logarithm of n to the base 2, within 9. It is exact at a power of two, and a parabola between powers.
+-- 1000 times the logarithm of n to the base 2, with an error of at most 9. The function is exact at each power of two,
+-- and a parabola between two powers.
 abbrev pub log_of : ℕ → ℕ
 log_of n =
     let level : ℕ = level_of 63 n in
@@ -51,7 +52,7 @@ abbrev pub point_text : ℕ → Policy → Row → List ℕ
 point_text octaves policy row = if row.size == 0 then [] else if nat_le (x_of octaves row.size) 7300
     then decimal (x_of octaves row.size) ++ (codes " " ++ (decimal (y_of policy row) ++ codes " ")) else []
 
--- what the horizontal axis is
+-- the label of the horizontal axis
 abbrev pub label : Measure → List ℕ
 label Places = PLACES.now
 label Bytes = BYTES.now
@@ -69,7 +70,7 @@ abbrev pub grid_text : ℕ → ℕ → List ℕ
 grid_text x size = codes "<path class='grid' d='M" ++ (decimal x ++ (codes " 700v3200'/><text class='tick' x='"
     ++ (decimal x ++ (codes "' y='4080'>" ++ (decimal size ++ codes "</text>\n")))))
 
--- The tick of a power of two. If the axis has more than nine powers, only some have a tick.
+-- The tick of a power of two on the axis. If the axis has more than nine powers, only some of them have a tick.
 abbrev pub tick_text : ℕ → ℕ → List ℕ
 tick_text octaves power =
     if level_of 63 power % (1 + octaves / 9) == 0 then grid_text (x_of octaves power) power else []

@@ -1,4 +1,4 @@
-//! How often the best possible policies miss. They know the rest of the trace.
+//! How often the best possible policies miss: policies that know the rest of the trace.
 ghost use Rattle.std.specs.Prelude.{◌≡◌, ◌+◌, ◌<◌, ◌≤◌, ℕ, List, IfOk, OnOk, length, take, get_or, nat_eq};
 ghost use Rattle.std.specs.List.{All};
 ghost use Rattle.std.specs.Str.{bytes_eq};
@@ -9,8 +9,8 @@ use std::alloc::{AllocError, Global};
 use std::collections::BTreeSet;
 use std::marker::Model;
 
-/// For each reference of a trace, the time of the next reference to its key, or else the length of the trace. From
-/// these times `Best` counts how often the best possible policies miss; `docs/THEORY.md` explains these policies.
+/// Counts how often the best possible policies miss (`docs/THEORY.md`). `Best` stores for each reference of a trace the
+/// time of the next reference to its key, or the length of the trace if there is none.
 ///
 /// `Best` takes 8 bytes for each reference.
 #[derive(Drop)]
@@ -48,8 +48,8 @@ impl Best {
         self.nexts[now]
     }
 
-    /// Returns how often MIN with `places` places misses if it begins with no keys. No policy with `places` places that
-    /// begins with no keys, stores each referenced key, and loads keys only on demand misses less often.
+    /// Returns how often MIN with `places` places misses if it begins with no keys. No other policy misses less often,
+    /// if it has `places` places, begins with no keys, stores each referenced key, and loads keys only on demand.
     ///
     /// Cost: for n places, `O(log n)` for each reference. The memory is in proportion to the smaller of n and the
     /// number of keys.
@@ -75,8 +75,8 @@ impl Best {
         Ok(misses)
     }
 
-    /// Returns how often MIN with bypass and `places` places misses if it begins with no keys. No policy with `places`
-    /// places that begins with no keys and loads keys only on demand misses less often.
+    /// Returns how often MIN with bypass and `places` places misses if it begins with no keys. No other policy misses
+    /// less often, if it has `places` places, begins with no keys, and loads keys only on demand.
     ///
     /// Cost: as `min_misses`.
     ///

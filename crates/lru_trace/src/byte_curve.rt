@@ -1,4 +1,4 @@
-//! The misses of a trace in LRU caches with limits of bytes.
+//! `ByteCurve`.
 ghost use Rattle.std.specs.Prelude.{◌≡◌, ◌+◌, ◌-◌, ◌<◌, ◌≤◌, ◌^◌, ℕ, List, [], ◌∷◌, ◌++◌, IfOk, OnOk, OnErr, IfErr};
 ghost use Rattle.std.specs.Prelude.{length, get_or, set, nat_lt, is_some, Some, None, IfSome, true, nat_eq};
 ghost use Rattle.std.specs.List.Sorted.{IsNonDecreasing, IsPermutation};
@@ -38,9 +38,9 @@ impl From<AllocError> for SizeError {
 
 /// The misses of a trace in LRU caches with limits of bytes, counted in one pass.
 ///
-/// A reference needs the sizes of its key and of the other keys that were referenced after the last reference to this
-/// key. It misses if it is the first reference to its key, or if it needs more than the limit. The size of a key is
-/// what its first reference says. The memory is in proportion to the number of keys and of limits.
+/// A reference needs the size of its key, plus the sizes of the other keys that were referenced since the last
+/// reference to its key. A reference misses if it is the first to its key, or if it needs more than the limit. The
+/// first reference to a key says its size. The memory is in proportion to the number of keys and of limits.
 ///
 /// ```
 /// let mut curve = ByteCurve::new(alloc, vec![in alloc; 10, 30]?)?;
@@ -195,7 +195,7 @@ impl ByteCurve {
         self.references += 1;
     }
 
-    /// References a key without counting the reference. Call this before the first `refer`.
+    /// References a key without counting the reference. Call `warm_up` before the first `refer`.
     ///
     /// Cost: as `refer`.
     ///
@@ -223,8 +223,7 @@ impl ByteCurve {
     ///
     /// # Errors
     ///
-    /// `Memory`: out of memory. `TooLarge`: the sizes of all keys would sum to 2 ^ 64 or more. In both cases the
-    /// reference is not counted.
+    /// After an error, the reference is not counted.
     pub fn refer(&mut self, key: &str, bytes: u64) -> Result<(), SizeError>
         requires { self.old.references < 2 ^ 64 - 1 }
         ensures ok { OnOk result ((warm trace : List (List ℕ × ℕ)) → IsSizedOf warm trace self.old →
@@ -250,7 +249,7 @@ impl ByteCurve {
         self.references
     }
 
-    /// Returns how many different keys were referenced, also in the warm-up.
+    /// Returns how many different keys were referenced, including in the warm-up.
     pub fn keys(&self) -> usize
         ensures { (warm trace : List (List ℕ × ℕ)) → IsSizedOf warm trace self.now →
             result ≡ keys (keys_of warm) (keys_of trace) }
@@ -258,7 +257,7 @@ impl ByteCurve {
         self.distances.referenced()
     }
 
-    /// Returns how many bytes all referenced keys take together, also those of the warm-up.
+    /// Returns the sum of the sizes of all referenced keys, including the keys of the warm-up.
     pub fn bytes(&self) -> u64
         ensures { (warm trace : List (List ℕ × ℕ)) → IsSizedOf warm trace self.now → result ≡ bytes_of (warm ++ trace) }
     {

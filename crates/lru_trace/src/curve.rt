@@ -1,4 +1,4 @@
-//! The misses of a trace in LRU caches of every size.
+//! `Curve`.
 ghost use Rattle.std.specs.Prelude.{◌≡◌, ◌+◌, ◌-◌, ◌<◌, ◌≤◌, ◌^◌, ℕ, List, [], ◌∷◌, ◌++◌, IfOk, OnOk, OnErr, length};
 ghost use Rattle.std.specs.Prelude.{take, sum, Option, Some, None, IfSome, is_some, nat_eq};
 ghost use Rattle.std.specs.Set.{remove_key};
@@ -66,7 +66,7 @@ impl Curve {
         Curve::make(alloc, None)
     }
 
-    /// Makes a curve that also keeps the references, for `best`, with 8 bytes for each.
+    /// Makes a curve that also keeps the references, for `best`. Each reference takes 8 bytes.
     ///
     /// ```
     /// let mut curve = Curve::keeping_references(alloc)?;
@@ -185,7 +185,7 @@ impl Curve {
         Ok(())
     }
 
-    /// References a key without counting the reference. Call this before the first `refer`.
+    /// References a key without counting the reference. Call `warm_up` before the first `refer`.
     ///
     /// Cost: as `refer`.
     ///
@@ -245,7 +245,7 @@ impl Curve {
         }
     }
 
-    /// Returns the times of the next references. If the curve does not keep the references, returns `None`.
+    /// Returns the `Best` of the trace. If the curve does not keep the references, returns `None`.
     ///
     /// Cost: in proportion to the number of references.
     ///
@@ -271,7 +271,7 @@ impl Curve {
         self.references
     }
 
-    /// Returns how many different keys were referenced, also in the warm-up.
+    /// Returns how many different keys were referenced, including in the warm-up.
     pub fn keys(&self) -> usize
         ensures value { result ≡ length self.now.recency }
         ensures all { (warm trace : List (List ℕ)) → IsOf warm trace self.now → result ≡ keys warm trace }

@@ -1,4 +1,4 @@
-//! A curve in either measure.
+//! A curve of entries or of bytes.
 ghost use Rattle.std.specs.Prelude.{◌≡◌, ◌+◌, ◌-◌, ◌<◌, ◌≤◌, ◌^◌, ℕ, List, [], ◌∷◌, ◌++◌, IfOk, OnOk, IfErr, is_some, length};
 ghost use Rattle.std.specs.Map.{keys_of};
 ghost use Rattle.lru_trace.specs.Curves.{IsCurveOf, AreAlike, AreTooLarge, Follows, Has, Leads, measure_in, references_of, keeps};
@@ -48,7 +48,7 @@ impl AnyCurve {
         }
     }
 
-    /// References a key, and counts the reference unless `warm`.
+    /// References a key, and counts the reference unless `warm` is true.
     pub(crate) fn refer(&mut self, warm: bool, key: &str, size: u64) -> Result<(), SizeError>
         requires { references_of self.old < 2 ^ 64 - 1 }
         ensures ok { OnOk result (Follows warm self.old ((key.now, size) ∷ []) self.new) }
@@ -91,7 +91,7 @@ impl AnyCurve {
         }
     }
 
-    /// Returns the size of a cache for all keys.
+    /// Returns the size of a cache that can contain all keys.
     pub(crate) fn needed(&self) -> usize
         ensures { (warm trace : List (List ℕ × ℕ)) → IsCurveOf warm trace self.now →
             result ≡ needed (measure_in self.now) warm trace }

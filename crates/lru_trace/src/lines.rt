@@ -147,8 +147,7 @@ fn refer_line(
 ///
 /// # Errors
 ///
-/// `Read`: a read failed, or there were 2 ^ 64 - 2 lines. `Memory`: out of memory for a line or a key.
-/// `TooLarge`: the sizes of all keys sum to 2 ^ 64 or more.
+/// `Read`, `Memory` or `TooLarge`, as for `trace`.
 pub fn read_keys<R: BufRead, P: Write>(
     reader: &mut R,
     line: &mut Vec<u8>,

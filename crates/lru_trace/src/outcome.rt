@@ -51,7 +51,7 @@ impl From<SizeError> for TraceError {
 }
 
 /// Returns the exit status: 0 if the report was written, 1 if the first line names no sizes, 2 if reading or writing
-/// failed, 3 if memory ran out, and 5 if the sizes of all keys sum to 2 ^ 64 or more.
+/// failed, 3 if memory ran out, and 5 after `TooLarge`.
 pub fn status(end: &Result<TraceEnd, TraceError>) -> u8
     ensures { result ≡ status_of end.now }
 {

@@ -1,4 +1,4 @@
-//! The picture of the curves. Its lengths are tenths of a pixel.
+//! The picture of the curves, in tenths of a pixel.
 ghost use Rattle.std.specs.Prelude.{◌≡◌, ◌≤◌, ◌<◌, ◌+◌, ◌*◌, ◌^◌, ◌++◌, OnOk, IfOk, length, flat_map};
 ghost use Rattle.std.specs.List.{All};
 ghost use Rattle.lru_trace.specs.Svg.{part, level_of, log_of, x_of, missed_by, y_of, point_text, label, legend, curve_text};

@@ -1,5 +1,5 @@
--- How links keep an order of buckets: each entry contains links to its two neighbours. No public clause cites this
--- module.
+-- How links keep buckets in an order: each entry contains links to its newer and its older neighbour. No public clause
+-- cites this module.
 use Rattle.std.specs.Prelude.{◌≡◌, ◌≢◌, ◌⊎◌, ℕ, zero, suc, ◌<◌, slice_index_or, List, [], ◌∷◌, length, map}
 use Rattle.std.specs.Prelude.{Option, Some, None, option_map, unwrap_or, Contains, AllPairs}
 use Rattle.group_table.specs.Bucket.{empty, deleted, full, Slot, IsFull, bucket_at, entry_at, entry_count}
@@ -9,7 +9,7 @@ use Rattle.ordered_table.specs.OrderedTable.{bucket_after, bucket_before}
 use Rattle.ordered_table.specs.declared.linked.Entry.{Entry}
 use Rattle.ordered_table.specs.declared.linked.chain.Chain.{Chain}
 
--- a bucket with its pair, without the links
+-- the bucket with its pair, but without the links of its entry
 abbrev pub pair_slot : {K V N : Type 0} → Slot (Entry K V N) → Slot (K × V)
 pair_slot empty = empty
 pair_slot deleted = deleted
@@ -23,21 +23,21 @@ module _ {N : Type 0} (link : ℕ → N) (none : N) where
   link_to None = none
   link_to (Some b) = link b
 
--- the first n buckets from a link on, each followed by its older neighbour
+-- up to n buckets from the bucket of a link on, each followed by its older neighbour
 abbrev pub along : {K V N : Type 0} → (N → ℕ) → ℕ → List (Slot (Entry K V N)) → N → List ℕ
 along number zero slots from = []
 along number (suc n) slots from = unwrap_or (option_map (λ entry. number from ∷ along number n slots entry.older)
     (entry_at slots (number from))) []
 
 module _ {K V N : Type 0} where
-  -- the links of the entry in a bucket, to its newer neighbour and to its older neighbour
+  -- the link of the entry in bucket b to its newer neighbour, and (`older_at`) to its older neighbour
   abbrev pub newer_at : List (Slot (Entry K V N)) → ℕ → Option N
   newer_at slots b = option_map (λ entry. entry.newer) (entry_at slots b)
 
   abbrev pub older_at : List (Slot (Entry K V N)) → ℕ → Option N
   older_at slots b = option_map (λ entry. entry.older) (entry_at slots b)
 
-  -- the entry in bucket b now has these links, and nothing else has changed
+  -- the entry in bucket b now has the links `newer` and `older`, and nothing else has changed
   pub record SetsLinks (old new : List (Slot (Entry K V N))) (b : ℕ) (newer older : N) : Type 0 where
     pub pairs : pair_slots new ≡ pair_slots old
     pub newer_there : newer_at new b ≡ Some newer
@@ -60,29 +60,29 @@ module _ {K V N : Type 0} (number : N → ℕ) where
   SetsOlder = SetsLink (λ entry. entry.older) (λ entry. entry.newer)
 
 module _ {N : Type 0} (number : N → ℕ) (none : N) (links : List N) where
-  -- turns the link to an entry's old bucket into the link to its new bucket
+  -- the link to an entry's new bucket, computed from the link to its old bucket
   abbrev pub moved_link : N → N
   moved_link l = slice_index_or links (number l) none
 
-  -- the link is `none`, or leads to a bucket for which `links` contains the new number
+  -- the link is `none`, or leads to an old bucket for which `links` contains the new link
   abbrev pub HasPlace : N → Type 0
   HasPlace l = (l ≡ none) ⊎ (number l < length links)
 
-  -- the entry in bucket b now has links to the new buckets of its neighbours, and nothing else has changed
+  -- the links of the entry in bucket b now lead to the new buckets of its neighbours, and nothing else has changed
   pub record MovesLinks {K V : Type 0} (old new : List (Slot (Entry K V N))) (b : ℕ) : Type 0 where
     pub pairs : pair_slots new ≡ pair_slots old
     pub newer_there : newer_at new b ≡ option_map moved_link (newer_at old b)
     pub older_there : older_at new b ≡ option_map moved_link (older_at old b)
     pub others : (c : ℕ) → c ≢ b → entry_at new c ≡ entry_at old c
 
--- if the link `at` is `none`, the end of a chain is now `to`; otherwise the end stays
+-- If the link `at` is `none`, the end of the chain is now `to`. If `at` leads to a bucket, the end has not changed.
 pub record SetsEnd {N : Type 0} (none old new at to : N) : Type 0 where
   pub ends : at ≡ none → new ≡ to
   pub stays : at ≢ none → new ≡ old
 
 module _ {K V N : Type 0} (number : N → ℕ) (link : ℕ → N) (none : N) where
-  -- The links keep an order of some full buckets: `newest` and `oldest` lead to its ends, and each entry has links to
-  -- its neighbours. Links can number every bucket.
+  -- The links keep some full buckets in this order. `newest` and `oldest` lead to the ends of the order, and each entry
+  -- has links to its neighbours. Links can number every bucket.
   pub record IsChain (slots : List (Slot (Entry K V N))) (newest oldest : N) (order : List ℕ) : Type 0 where
     pub reached : length slots < number none
     pub distinct : AllPairs ◌≢◌ order
@@ -98,8 +98,8 @@ module _ {K V N : Type 0} (number : N → ℕ) (link : ℕ → N) (none : N) whe
     pub all : (b : ℕ) → IsFull slots b → Contains order b
     pub count : entry_count slots ≡ length order
 
-  -- Bucket b, with these two links, is about to be taken out of the chain `order`. The entry of b may be out of the
-  -- slots already. All other entries are still in their slots.
+  -- Bucket b, with these two links, is about to be taken out of the chain `order`. The entry of b may have left its
+  -- slot already. All other entries are still in their slots.
   pub record IsGap (slots : List (Slot (Entry K V N))) (newest oldest : N) (order : List ℕ) (b : ℕ) (newer older : N)
       : Type 0 where
     pub before : List (Slot (Entry K V N))
@@ -110,23 +110,23 @@ module _ {K V N : Type 0} (number : N → ℕ) (link : ℕ → N) (none : N) whe
     pub same : length slots ≡ length before
     pub others : (c : ℕ) → c ≢ b → bucket_at slots c ≡ bucket_at before c
 
-  -- `IsChain` of the fields of a chain
+  -- `IsChain` for the fields of the chain
   abbrev pub KeepsOrder : Chain K V N → List ℕ → Type 0
   KeepsOrder chain = IsChain chain.table.slots chain.newest chain.oldest
 
-  -- `IsGap` of the fields of a chain
+  -- `IsGap` for the fields of the chain
   abbrev pub HasGap : Chain K V N → List ℕ → ℕ → N → N → Type 0
   HasGap chain = IsGap chain.table.slots chain.newest chain.oldest
 
-  -- the links keep an order of some buckets, including b
+  -- the links keep an order of some buckets, one of which is b
   abbrev pub InChain : Chain K V N → ℕ → Type 0
   InChain chain b = (order : List ℕ) × KeepsOrder chain order × Contains order b
 
-  -- the links keep an order of some buckets, without b
+  -- the links keep an order of some buckets, none of which is b
   abbrev pub OutOfChain : Chain K V N → ℕ → Type 0
   OutOfChain chain b = (order : List ℕ) × KeepsOrder chain order × (Contains order b → ⊥)
 
-  -- the entries have moved into the slots, still with their old links
+  -- the entries have moved into new slots, but still have their old links
   abbrev pub Moved : Chain K V N → List N → Type 0
   Moved chain links = (before : List (Slot (Entry K V N))) × (order : List ℕ)
       × IsWhole before chain.newest chain.oldest order × Renumbers number none before chain.table.slots links

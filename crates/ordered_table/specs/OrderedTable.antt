@@ -49,11 +49,12 @@ module _ {K V : Type 0} where
   abbrev pub hash_in : (K → ℕ) → List (Slot (K × V)) → ℕ → ℕ
   hash_in hash_of slots b = unwrap_or (option_map (λ pair. hash_of pair.0) (entry_at slots b)) 0
 
-  -- the hashes of the keys fit the table: each tag is right, and a search for a key reaches its bucket
+  -- the hashes of the keys fit the table: each bucket has the tag of its key's hash, and a search for a key reaches its
+  -- bucket
   abbrev pub KeysFit : (K → ℕ) → List (Slot (K × V)) → Type 0
   KeysFit hash_of slots = Fits slots (hash_in hash_of slots)
 
-  -- the pair is now the newest, in bucket b, the first free bucket in a search for its hash
+  -- the pair is now the newest, and fills bucket b, the first free bucket in a search for its hash
   pub record Lands (old new : OrderedTable K V) (hash : ℕ) (pair : K × V) (b : ℕ) : Type 0 where
     pub first : IsFirstFree (bucket_states old.slots) hash b
     pub may : MayFill (bucket_states old.slots) b
@@ -62,7 +63,7 @@ module _ {K V : Type 0} where
     pub insertions : new.insertions ≡ one_placed old.insertions
     pub growth_left : growth_left (bucket_states new.slots) + growth_left_at (bucket_states old.slots) b ≡ growth_left (bucket_states old.slots)
 
-  -- the pair was taken out of bucket b; the other pairs keep their order
+  -- the pair was taken out of bucket b, and the other pairs keep their order
   pub record Takes (old new : OrderedTable K V) (b : ℕ) (taken : K × V) : Type 0 where
     pub pair : entry_at old.slots b ≡ Some taken
     pub removed : Removes old.slots new.slots b

@@ -1,9 +1,9 @@
--- How the fields of a walk determine the pairs that are left. No public clause cites this module.
+-- How the fields of a walk over the pairs determine which pairs are left to visit. No public clause cites this module.
 use Rattle.std.specs.Prelude.{◌≡◌, ℕ, ◌<◌, List, [], ◌∷◌, ◌++◌, length, take, nat_eq, if◌then◌else◌, Some}
 use Rattle.ordered_table.specs.OrderedTable.{OrderedTable, IsLinked, entries_in}
 use Rattle.lru_model.specs.Lists.{first as first_bucket, last as last_bucket}
 
--- the buckets of an order from b on
+-- the buckets of an order from bucket b on
 abbrev pub from_bucket : ℕ → List ℕ → List ℕ
 from_bucket b [] = []
 from_bucket b (c ∷ cs) = if nat_eq c b then c ∷ cs else from_bucket b cs
@@ -13,8 +13,8 @@ module _ {K V : Type 0} (t : OrderedTable K V) where
   abbrev pub rest_of : ℕ → ℕ → List (K × V)
   rest_of front left = entries_in t.slots (take left (from_bucket front t.order))
 
-  -- The walk returned the entries of `before` from the front, and the entries of `after` from the back. The entries of
-  -- `middle` are left.
+  -- The walk returned the entries of the buckets `before` from the front, and the entries of the buckets `after` from
+  -- the back. The entries of the buckets `middle` are left.
   pub record IsRest (front back left : ℕ) : Type 0 where
     pub linked : IsLinked t
     pub before : List ℕ
@@ -22,6 +22,7 @@ module _ {K V : Type 0} (t : OrderedTable K V) where
     pub after : List ℕ
     pub order : t.order ≡ before ++ (middle ++ after)
     pub count : length middle ≡ left
-    -- `front` and `back` are the first and the last bucket that is left, or any numbers if no bucket is left
+    -- If a bucket is left, `front` is the first and `back` the last bucket that is left. If no bucket is left, `front`
+    -- and `back` may be any numbers.
     pub first : 0 < left → first_bucket middle ≡ Some front
     pub last : 0 < left → last_bucket middle ≡ Some back

@@ -1,4 +1,4 @@
--- For which buckets of a linked table a search by a hash calls its closure.
+-- For which buckets of a table with links a search by a hash calls its closure.
 use Rattle.std.specs.Prelude.{◌≡◌, ℕ, Bool, true, false, List, [], ◌∷◌, ◌++◌, Some, Contains}
 use Rattle.std.specs.List.{FoldsTo}
 use Rattle.std.specs.Borrow.{Bor}
@@ -9,14 +9,14 @@ use Rattle.group_table.specs.Search.{IsSearch}
 use Rattle.lru_model.specs.ByHash.{Asks}
 
 module _ {K V F : Type 0} (closure : Mut F (Bor K × (Bor V × Unit {0})) Bool) (slots : List (Slot (K × V))) where
-  -- f was called with the pair in bucket b, returned `answer`, and became g
+  -- f was called with the pair in bucket b, and returned `answer`; after this call, f is g
   pub record AnswersPair (f : F) (b : ℕ) (answer : Bool) (g : F) : Type 0 where
     pub pair : K × V
     pub there : entry_at slots b ≡ Some pair
     pub asked : Asks closure f pair answer g
 
-  -- a search for the hash passed f the pairs in the buckets `before`, which f rejected, and then the pair in b, which f
-  -- accepted
+  -- A search for the hash called f with the pairs in the buckets `before`, and f rejected each. The search then called
+  -- f with the pair in bucket b, and f accepted this pair.
   pub record FindsPair (hash : ℕ) (f : F) (b : ℕ) : Type 0 where
     pub before : List ℕ
     pub search : IsSearch slots hash (before ++ b ∷ [])
@@ -25,8 +25,8 @@ module _ {K V F : Type 0} (closure : Mut F (Bor K × (Bor V × Unit {0})) Bool) 
     pub last : F
     pub accepted : AnswersPair between b true last
 
-  -- A search for the hash passed f the pairs in the buckets `asked`, and f rejected each. For any hashes that fit the
-  -- table, `asked` contains each bucket whose entry has the hash.
+  -- A search for the hash called f with the pairs in the buckets `asked`, and f rejected each. For any hashes that fit
+  -- the table, `asked` contains each bucket whose entry has the searched hash.
   pub record FindsNoPair (hash : ℕ) (f : F) : Type 0 where
     pub asked : List ℕ
     pub search : IsSearch slots hash asked

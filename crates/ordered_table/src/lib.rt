@@ -1,7 +1,7 @@
 //! The table of an LRU map: a bucket table whose entries are in an order, newest first.
 //!
-//! [`OrderedTable`] moves an entry to either end of the order, or takes it out, in constant time. It has no limiter.
-//! `LruMap` of `schnellru` adds one.
+//! [`OrderedTable`] moves an entry to either end of the order, or takes it out, in constant time. `LruMap` of
+//! `schnellru` adds a limiter.
 #![tactic(auto)]
 
 mod linked;

@@ -1,4 +1,4 @@
-//! `OrderedTable`: a table whose entries are in an order.
+//! `OrderedTable`.
 ghost use Rattle.std.specs.Prelude.{◌≡◌, ℕ, ◌+◌, ◌<◌, false, [], length, Some, IfSome, IfNone, IsTrue};
 ghost use Rattle.std.specs.Borrow.{sem};
 ghost use Rattle.std.specs.Map.Iter.{deref_pair, deref_pair_mut};
@@ -191,8 +191,8 @@ impl<K, V, N: LinkType> OrderedTable<K, V, N> {
 
     /// Returns the bucket of the first entry that `f` accepts.
     ///
-    /// `f` is called with entries whose tag is the hash's top 7 bits. Only tests show that `f` is called with each of
-    /// them at most once, and not again after it returned true.
+    /// `f` is called with entries whose hashes agree with `hash` in the top 7 bits. Only tests show that `f` is called
+    /// at most once with each entry, and not again after it returned true.
     ///
     /// Cost: `O(1)` expected.
     #[inline]

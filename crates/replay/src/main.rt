@@ -36,7 +36,7 @@ fn main(rt: HostRuntime) -> ExitCode {
         return ExitCode::from(NO_BUFFER);
     };
     let end = replay(rt.alloc(), &mut reader, &mut writer);
-    // After a failed write the buffer still contains bytes. Dropping the buffer would write them again.
+    // After a failed write, dropping the buffer would write its bytes again.
     let (_output, _unwritten) = writer.into_parts();
     ExitCode::from(status(&end))
 }

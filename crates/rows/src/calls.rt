@@ -3,8 +3,7 @@ use lru_replay::Call;
 use lru_replay::lines::words;
 use std::alloc::Global;
 
-/// Returns the calls that the lines spell: lines of the program `replay`, or other lines. A line that spells no call
-/// becomes a call for the figures, so its row fails.
+/// Returns the calls that the lines spell. A line that spells no call becomes `Call::Stats`, so its row fails.
 pub fn calls_of<L: Numbered + Drop>(alloc: Global, lines: &str) -> Vec<Call<u64, u64, L>> {
     let mut calls = Vec::new(alloc);
     for line in lines.lines() {

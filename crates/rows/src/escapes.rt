@@ -1,4 +1,4 @@
-//! Escapes. They spell bytes that a line of a text file cannot contain.
+//! Escapes, which spell bytes that a line of a text file cannot contain.
 //!
 //! Each function returns `false` if the text is malformed.
 

@@ -1,4 +1,4 @@
-//! Rows of calls on a map under any limiter. The program `replay` cannot spell all these limiters and calls.
+//! Rows of calls on a map, including limiters and calls that the program `replay` cannot spell.
 use crate::answers::write_answers;
 use crate::calls::calls_of;
 use crate::hasher::Polynomial;

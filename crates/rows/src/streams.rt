@@ -2,7 +2,7 @@
 use std::alloc::Global;
 use std::io::{self, Error, ErrorKind, Read, Write};
 
-/// Gives at most `most` bytes in each read, and fails at read `fails_at`, counted from 0.
+/// Gives at most `most` bytes in each read, and fails at read number `fails_at`, counted from 0.
 #[derive(Drop)]
 pub struct Slow<'a> {
     bytes: &'a [u8],

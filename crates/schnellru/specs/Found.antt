@@ -1,4 +1,4 @@
--- What a contract sees of an `OccupiedEntry`, also after the loan of its value has ended.
+-- What a contract says of an `OccupiedEntry`, also after a loan of the entry's value has ended.
 use Rattle.std.specs.Prelude.{◌≡◌, [], Bool, IsTrue, Option, Some}
 use Rattle.std.specs.Borrow.{Fml, GName, RattleType, MutBor, Lends, RestsIfNone}
 use Rattle.std.specs.HashMap.Lent.{HashMembers}
@@ -16,7 +16,7 @@ use Rattle.schnellru.specs.declared.map.entry.OccupiedEntry.{OccupiedEntry}
 use Rattle.schnellru.specs.contracts.map.entry.OccupiedEntry.{the_row}
 use mir.Syntax.{named}
 
--- `entry` is an `OccupiedEntry`; the other parameters are members of the traits that it depends on
+-- `entry` is an `OccupiedEntry`; the other parameters are members of the traits on which its type depends
 module _ {K V L S N H : Type 0} {equal : equality.Ghosts K} {input : hashing.Ghosts K} {limits : limiter.Ghosts L K V N}
     {links : link_type.Ghosts N}
     {keyed : key_hasher.Ghosts S K H} {build : builder.Ghosts S H} {hash : hasher.Ghosts H}
@@ -27,12 +27,12 @@ module _ {K V L S N H : Type 0} {equal : equality.Ghosts K} {input : hashing.Gho
   abbrev pub entry_lender : GName
   entry_lender = entry.map.ghost_name
 
-  -- `names` names the key of the entry, and no key that differs from it
+  -- `names` names the key of the entry, and no key that differs from this key
   pub record IsOn (names : K → Bool) : Type 0 where
     pub one : (x y : K) → IsTrue (names x) → names y ≡ equal.eq x y
     pub place : place_in names entry.map.now ≡ Some entry.bucket
 
-  -- the entry after the caller wrote the value w
+  -- the `OccupiedEntry` after the caller wrote the value w
   abbrev pub entry_written : V → OccupiedEntry K V L S N H equal input limits links keyed build hash
   entry_written w = record entry { map = record entry.map { now = written_in entry.bucket w entry.map.now } }
 
@@ -56,7 +56,7 @@ module _ (K V L S N H : RattleType) (key : HashMembers K.Denot)
   keeps_if_none m r = RestsIfNone (map_row K V L S N H key limits links hashed hash) m (λ e. entry_lender e) r
       (λ n. n ≡ m.now)
 
-  -- after the loan the entry (in `lends_into` the map) has the last value written through r
+  -- after the loan, the entry (in `lends_into`, the map) has the value that was written last through r
   abbrev pub lends_found : MutBor Entry → MutBor V.Denot → Fml
   lends_found e r = Lends entry_row V e r (λ last. entry_written e.now last)
 

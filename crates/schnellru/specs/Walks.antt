@@ -1,4 +1,4 @@
--- What a contract sees of an `IterMut`, also after the loan of a value has ended.
+-- What a contract says of an `IterMut`, also after a loan of a value has ended.
 use Rattle.std.proofs.Common.{refl, arith}
 use Rattle.std.specs.Prelude.{ℕ, ◌+◌, ◌-◌, ◌≤◌, [], length, slice_get, Option, None, Some, if◌then◌else◌, nat_lt}
 use Rattle.std.specs.Borrow.{Fml, GName, RattleType, Bor, MutBor, follows, follows_if}
@@ -25,7 +25,7 @@ abbrev pub lent_name : {K V : Type 0} → Option (Bor K × MutBor V) → maybe.O
 lent_name (Some pair) = maybe.some pair.1.ghost_name
 lent_name None = maybe.none
 
--- `walk` is an `IterMut`; the other parameters are members of the traits that it depends on
+-- `walk` is an `IterMut`; the other parameters are members of the traits on which its type depends
 module _ {K V L S N H : Type 0} {equal : equality.Ghosts K} {input : hashing.Ghosts K} {limits : limiter.Ghosts L K V N}
     {links : link_type.Ghosts N}
     {keyed : key_hasher.Ghosts S K H} {build : builder.Ghosts S H} {hash : hasher.Ghosts H}
@@ -36,18 +36,19 @@ module _ {K V L S N H : Type 0} {equal : equality.Ghosts K} {input : hashing.Gho
   abbrev pub walk_lender : GName
   walk_lender = walk.map.ghost_name
 
-  -- the pairs that are left are at the positions from `walk_start` to `walk_end - 1`
+  -- the pairs that are left for the walk are at the positions from `walk_start` to `walk_end - 1`
   abbrev pub walk_start : ℕ
   walk_start = walk.start
 
   abbrev pub walk_end : ℕ
   walk_end = walk.end
 
-  -- the reference to the map after a value was written at a position
+  -- the walk's reference to the map, after the caller wrote the value w at a position
   abbrev pub walk_written : ℕ → V → MutBor (State K V L S)
   walk_written at w = record walk.map { now = record walk.map.now { pairs = set_value_at walk.map.now.pairs at w } }
 
-  -- the walk after it lent the first pair that was left, and the caller wrote w; `walk_after_last` is for the last pair
+  -- The walk after the walk lent the first pair that was left, and the caller wrote w. `walk_after_last` says the same
+  -- of the last pair.
   abbrev pub walk_after_first : V → IterMut K V L S N H equal input limits links keyed build hash
   walk_after_first w = record walk {
     map = walk_written walk.start w;
@@ -84,7 +85,7 @@ module _ (K V L S N H : RattleType) (key : HashMembers K.Denot)
       (record { hash_input = key.hash_input }) limits
       links (record { hash_of = hashed.hash_of })
       (record { build_hasher = hashed.build_hasher }) hash)) where
-    -- if a pair was left, the first one (in `lends_next_back` the last one) is lent until the borrow r ends
+    -- if a pair was left, the walk lends the first of them (in `lends_next_back`, the last) until the borrow r ends
     abbrev pub lends_next : Option (Bor K.Denot × MutBor V.Denot) → Fml
     lends_next r = follows_if walk_row V walk.ghost_name (lent_name r) (λ w. walk_after_first walk.now w) walk.now
 

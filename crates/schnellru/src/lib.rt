@@ -5,7 +5,7 @@
 //! differs from the crate `schnellru` for Rust. The contract of each function of [`laws`] is a theorem about calls.
 #![tactic(auto)]
 
-// Marks code that is never reached. `group_table` has the same macro.
+// Marks code that is never reached.
 macro_rules! nowhere {
     () => {{
         let none: [Option<()>; 0] = [];

@@ -64,13 +64,13 @@ pub(crate) mod update;
 /// the limiter's `LinkType`. `default`, `with_limiter` and `with_limiter_and_hasher` compute the entry's size. To the
 /// other constructors, pass `size_of::<(K, V, N, N)>()` as `entry_bytes`.
 ///
-/// `entry_bytes` does not change how much memory a table takes. If it is too small, `ByMemoryUsage` and `ByBytes`
-/// permit tables above their limit. If it is too great, they refuse tables that would fit.
+/// `entry_bytes` does not change how much memory a table takes. If `entry_bytes` is too small, `ByMemoryUsage` and
+/// `ByBytes` permit tables above their limit. If `entry_bytes` is too great, they refuse tables that would fit.
 ///
 /// # The width of links
 ///
 /// The width of `LinkType` bounds the number of entries: 112 with `u8`, 28,672 with `u16`, 1,879,048,192 with `u32`.
-/// With `usize`, only memory bounds this number. `limiters_fix_their_links` lists the width for each limiter.
+/// With `usize`, only memory bounds the number of entries. `limiters_fix_their_links` lists the width for each limiter.
 ///
 /// Follows schnellru's `LruMap`.
 pub struct LruMap<K: Eq + Hash, V, L: Limiter<K, V> = ByLength, S: KeyHasher<K> = RandomState> {
@@ -156,8 +156,8 @@ impl<K: Eq + Hash, V, L: Limiter<K, V>, S: KeyHasher<K>> LruMap<K, V, L, S> {
 
     /// Makes an empty map with this limiter and the default hasher, and computes the bytes of an entry.
     ///
-    /// The default `RandomState` has the known seeds 1, 2, 3 and 4. If strangers choose the keys, call
-    /// `with_limiter_and_hasher`. Cost: `O(1)`, and no memory.
+    /// If strangers choose the keys, call `with_limiter_and_hasher`, because the default seeds are known. Cost: `O(1)`,
+    /// and no memory.
     ///
     /// ```
     /// let mut map: LruMap<u64, u64> = LruMap::with_limiter(alloc, ByLength::new(3));
@@ -230,7 +230,7 @@ impl<K: Eq + Hash, V, L: Limiter<K, V>> LruMap<K, V, L, RandomState> {
 }
 
 impl<K: Eq + Hash, V, S: KeyHasher<K>> LruMap<K, V, ByMemoryUsage, S> {
-    /// Makes an empty map with this hasher. Its table may use at most `budget` bytes.
+    /// Makes an empty map with this hasher, with a table of at most `budget` bytes.
     ///
     /// Cost: `O(1)`, and no memory.
     ///
@@ -254,7 +254,7 @@ impl<K: Eq + Hash, V, S: KeyHasher<K>> LruMap<K, V, ByMemoryUsage, S> {
 }
 
 impl<K: Eq + Hash, V> LruMap<K, V, ByMemoryUsage, RandomState> {
-    /// Makes an empty map whose hasher has these seeds. Its table may use at most `budget` bytes.
+    /// Makes an empty map whose hasher has these seeds, with a table of at most `budget` bytes.
     ///
     /// Cost: `O(1)`, and no memory.
     ///

@@ -317,7 +317,7 @@ fn put_and_show<F: FnMut(u64, u64)>(
     map.insert_with(key, value, callback)
 }
 
-/// Evicts the entries over the limit, and returns how many there were.
+/// Evicts the entries over the limit, and returns their number.
 fn trim_and_count(map: &mut LruMap<u64, u64>) -> usize {
     let _len = map.len();
     let mut count = 0usize;

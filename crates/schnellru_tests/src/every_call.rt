@@ -1,5 +1,5 @@
-//! Every public call that may change a map is a step, or steps one after another, for any types. So the laws on steps
-//! and on runs hold for every call.
+//! Every public call that may change a map is a step, or several steps. So the laws on steps and on runs hold for every
+//! call.
 ghost use Rattle.lru_model.specs.Runs.{Step, AnyStep, Run, RunWithoutInsert};
 
 use schnellru::{Insertion, KeyHasher, Limiter, LookupKey, LruMap};

@@ -3,7 +3,7 @@ ghost use Rattle.std.specs.Prelude.{◌≡◌, fold};
 
 use std::hash::{BuildHasher, Hasher};
 
-/// Hashes to the last byte that was written: for a number, its highest byte. So a `u64` below 2^56 hashes to 0.
+/// Hashes to the last byte that was written: for a number, its highest byte, which is 0 for a `u64` below 2^56.
 #[derive(Clone, Copy)]
 pub struct LastByte(pub u64);
 

@@ -3,7 +3,7 @@
 //! No contract can say what memory is left, so these calls are only proved safe.
 use std::alloc::{AllocError, Global};
 
-// The sizes that are tried: `LARGEST`, halved again and again, and from `SMALL` down each multiple of `STEP`.
+// The tried sizes are `LARGEST`, its half, and so on, and from `SMALL` down each multiple of `STEP`.
 const LARGEST: usize = 1 << 46;
 
 const SMALL: usize = 2048;
@@ -67,7 +67,7 @@ impl Hog {
         drop(self.spare.pop());
     }
 
-    /// Returns whether all memory was taken. With an allocator that has checks of its own, this may never succeed.
+    /// Returns whether all memory was taken. An allocator with checks of its own may never give all memory.
     pub fn took_all(&self) -> bool {
         self.held.len() < MOST
     }

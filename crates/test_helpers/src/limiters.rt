@@ -1,4 +1,4 @@
-//! Limiters of maps from numbers to numbers. Put each into a map as `Storing(..)`.
+//! Limiters of maps from numbers to numbers. Put such a limiter into a map as `Storing(..)`.
 ghost use Rattle.std.specs.Prelude.{◌≡◌, ◌+◌, true, false, not, if◌then◌else◌, min};
 ghost use Rattle.lru_limits.specs.Limiters.{no_rules};
 ghost use Rattle.lru_limits.specs.Stores.{answers};
@@ -28,8 +28,8 @@ impl<N: LinkType> Limiter<u64, u64> for LinkedBy<N> {
     }
 }
 
-/// Is over the limit at every length or at none, and permits every second growth. Counts removals and growths, and
-/// keeps their last arguments.
+/// Is either always or never over its limit, and permits every second growth. Counts removals and growths, and keeps
+/// their last arguments.
 #[derive(Clone, Copy, Debug)]
 pub struct Alternating {
     pub over: bool,

@@ -1,4 +1,4 @@
-//! The program of `docs/TRACE.md`. If standard error is a terminal, it shows the progress there.
+//! The program of `docs/TRACE.md`. Shows its progress on standard error, if this is a terminal.
 #![tactic(auto)]
 
 use lru_trace::{Column, Form, Options, Policies, Progress, status, trace};
@@ -193,7 +193,7 @@ fn run(rt: &HostRuntime, options: Options) -> ExitCode {
     };
     let mut progress = Progress::new(rt.alloc(), waiting);
     let end = trace(rt.alloc(), options, &mut reader, &mut writer, &mut progress);
-    // After a failed write the buffer still contains bytes. Dropping the buffer would write them again.
+    // After a failed write, dropping the buffer would write its bytes again.
     let (_output, _unwritten) = writer.into_parts();
     ExitCode::from(status(&end))
 }

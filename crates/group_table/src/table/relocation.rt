@@ -1,5 +1,5 @@
-//! The calls of `Table` that move every entry. They do not require `T: Drop`, so code that forgets an entry or a table
-//! does not compile.
+//! The calls of `Table` that move every entry. The compiler would reject a call that loses an entry, because entries
+//! need not implement `Drop`.
 ghost use Rattle.std.specs.Prelude.{◌≡◌, ℕ, ◌+◌, ◌^◌, ◌<◌, ◌≤◌, [], length, count_by, IfOk, OnErr, OnOk, IsOk};
 ghost use Rattle.group_table.specs.Sizes.{IsBucketCount, full_capacity};
 ghost use Rattle.group_table.specs.Bucket.{bucket_states, entry_at, entry_count, is_deleted, growth_left};
@@ -22,9 +22,9 @@ impl<T> Table<T> {
     ///
     /// A table without entries may move to 0 buckets, which frees its memory.
     ///
-    /// The result contains a link for each old bucket: the number of its entry's new bucket, or `MAX` if the old bucket
-    /// was free. The result is empty for a table without entries. `hash_of` is called once for each entry. Afterwards
-    /// no bucket is deleted. Takes time O(old buckets + new buckets).
+    /// The result contains a link for each old bucket: the new bucket of its entry, or `MAX` if the old bucket was
+    /// free. For a table without entries, the result is empty. `hash_of` is called once for each entry. Afterwards no
+    /// bucket is deleted. Takes time O(old buckets + new buckets).
     ///
     /// # Errors
     ///

@@ -41,7 +41,7 @@ fn must_evict(map: &BytesMap, key: &[u8], value_len: usize) -> bool
 {
     let limit = map.limiter().limit();
     let added = weight_of(key.len(), value_len);
-    // A put rejects an entry that is over the budget. Its key is not read here.
+    // A put rejects an entry that is over the budget, without reading its key.
     if added > limit {
         return false;
     }
@@ -159,7 +159,7 @@ pub fn pop_oldest(map: &mut BytesMap, key: &mut [u8], value: &mut [u8]) -> Poppe
     }
 }
 
-/// If a put of the key `own`, with a value of this length, has to evict another entry, makes the entry of `own` the
+/// If a put of the key `own` and a value of this length has to evict another entry, makes the entry of `own` the
 /// newest, and pops the oldest entry.
 pub fn pop_for(
     map: &mut BytesMap,

@@ -1,7 +1,7 @@
-//! The functions that C calls on a map of byte strings. `bindings/c/lru.h` documents each, without `alloc`.
+//! The functions that C calls on a map of byte strings. `bindings/c/lru.h` documents each function, without `alloc`.
 //!
-//! If a handle has no map, every call except `lru_bytes_new` and `lru_bytes_clone` changes nothing and finds nothing. A
-//! put returns `NO_MAP`.
+//! If a handle has no map, every call except `lru_bytes_new` and `lru_bytes_clone` changes nothing and finds nothing.
+//! Without a map, a put returns `NO_MAP`.
 ghost use Rattle.std.specs.Prelude.{◌≡◌, ◌≤◌, ◌∷◌, length, is_some, slice_get, IfSome, Option, Some, None, ⊤};
 ghost use Rattle.std.specs.Prelude.{true, false};
 ghost use Rattle.lru_limits.specs.Mixing.{seeded};

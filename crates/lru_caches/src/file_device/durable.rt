@@ -3,18 +3,18 @@ use std::io;
 use std::io::Cursor;
 
 /// A file that can make its bytes survive a crash. A file device calls `make_durable` when it syncs, and assumes that
-/// the bytes then survive. After an error, the device makes no more calls.
+/// the bytes survive a crash after an `Ok`. After an error, the device makes no more calls.
 ///
 /// ```
 /// assert!(rt; Cursor::new([0u8; 4]).make_durable().is_ok());
 /// ```
 pub trait Durable {
-    /// Makes all bytes durable that were written and flushed before, and then returns.
+    /// Makes all bytes durable that were written and flushed before this call.
     ///
     /// # Errors
     ///
-    /// The system reported an error. It may have lost bytes that were written since the last `Ok`, even if a later call
-    /// returns `Ok`.
+    /// The system reported an error, and may have lost bytes that were written since the last `Ok`, even if a later
+    /// call returns `Ok`.
     fn make_durable(&mut self) -> io::Result<()>;
 }
 
@@ -25,7 +25,7 @@ impl Durable for File {
     }
 }
 
-/// Does nothing: the bytes are in memory.
+/// Does nothing, because the bytes are in memory.
 impl<T> Durable for Cursor<T> {
     fn make_durable(&mut self) -> io::Result<()> {
         Ok(())

@@ -128,7 +128,7 @@ fn seek_to<F: Seek>(file: &mut F, n: u64, size: usize) -> io::Result<()> {
     }
 }
 
-// Returns how many blocks of this size are whole in the file.
+// Returns how many whole blocks of this size the file contains.
 pub(super) fn blocks_of<F: Seek>(file: &mut F, size: usize) -> Result<u64, FileError> {
     match file.seek(SeekFrom::End(0)) {
         Ok(len) => len.checked_div(size as u64).ok_or(FileError::File),

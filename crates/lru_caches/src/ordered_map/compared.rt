@@ -9,9 +9,9 @@ use std::hash::Hash;
 /// assert!(rt; map == map && map != OrderedMap::new(alloc));
 /// ```
 ///
-/// Cost: if the lengths differ, `O(1)`, else `O(n)` for n entries.
+/// Cost: `O(1)` if the lengths differ, else `O(n)` for n entries.
 ///
-/// After std's `Vec`. Maps of indexmap are equal if they have the same entries in any order.
+/// Follows std's `Vec`. Maps of indexmap are equal if they have the same entries in any order.
 impl<K: Eq + Hash, V: PartialEq, S: KeyHasher<K>> PartialEq for OrderedMap<K, V, S> {
     ghost use Rattle.std.specs.Prelude.{◌&&◌};
     ghost use Rattle.std.specs.Cmp.{and_per, on_per};
@@ -39,7 +39,7 @@ impl<K: Eq + Hash, V: Eq, S: KeyHasher<K>> Eq for OrderedMap<K, V, S> {
 /// assert_eq!(rt; format!(in alloc; "{map:?}")?.as_str(), "{1: 11, 2: 20}");
 /// ```
 ///
-/// After std's `HashMap`.
+/// Follows std's `HashMap`.
 impl<K: Eq + Hash + fmt::Debug, V: fmt::Debug, S: KeyHasher<K>> fmt::Debug for OrderedMap<K, V, S> {
     fn fmt<W: fmt::Write>(&self, f: &mut fmt::Formatter<W>) -> fmt::Result {
         let mut shown = f.debug_map();

@@ -9,7 +9,7 @@ use std::hash::Hash;
 use std::iter::FusedIterator;
 use std::marker::Model;
 
-/// A double-ended iterator that takes the entries of an ordered map out, oldest first. A drop of the iterator drops the
+/// A double-ended iterator that takes out the entries of an ordered map, oldest first. Dropping the iterator drops the
 /// remaining entries.
 ///
 /// ```

@@ -32,7 +32,7 @@ impl<K: Eq + Hash, V, S: KeyHasher<K>> OrderedMap<K, V, S> {
     ///
     /// Cost: `O(1)` expected.
     ///
-    /// After linked_hash_map's `LinkedHashMap::get_refresh`, which also lends the value.
+    /// Follows linked_hash_map's `LinkedHashMap::get_refresh`, which also lends the value.
     pub fn move_to_back<Q: LookupKey<K>>(&mut self, key: &Q) -> bool
         ensures there { result ≡ is_some (lookup (Q.names key.now) self.old) }
         ensures entries { self.new ≡ back (Q.names key.now) self.old }
@@ -47,7 +47,7 @@ impl<K: Eq + Hash, V, S: KeyHasher<K>> OrderedMap<K, V, S> {
     /// assert_eq!(rt; map.try_reserve(100), Ok(()));
     /// ```
     ///
-    /// Cost: if there is enough growth left, `O(1)`, else `O(buckets)` of both tables.
+    /// Cost: `O(1)` if there is enough growth left, else `O(buckets)` of both tables.
     ///
     /// # Errors
     ///
@@ -65,7 +65,7 @@ impl<K: Eq + Hash, V, S: KeyHasher<K>> OrderedMap<K, V, S> {
     /// assert_eq!(rt; (map.shrink_to_fit(), map.shrink_to_fit()), (Ok(true), Ok(false)));
     /// ```
     ///
-    /// Cost: if the table stays, `O(1)`, else `O(buckets)`.
+    /// Cost: `O(1)` if the table stays, else `O(buckets)`.
     ///
     /// # Errors
     ///

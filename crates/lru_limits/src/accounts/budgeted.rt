@@ -28,7 +28,7 @@ pub trait Budgeted<K, V>: Summing<K, V> {
     fn budget(&self) -> u64
         ensures { result ≡ budget_of self.now };
 
-    /// Sets the budget. The running total stays, so a map may be over the new limit.
+    /// Sets the budget. The running total stays, so a map may then be over its limit.
     fn set_budget(&mut self, budget: u64)
         ensures { self.new ≡ rebudgeted budget self.old };
 

@@ -6,13 +6,13 @@ use crate::limiter::Limiter;
 
 /// Limits a map by two limiters.
 ///
-/// A map is over the limit if either limiter says so. Its table may grow if both limiters permit it. Both are queried
-/// for each growth. An entry or a new value is accepted if both limiters accept it. If either rejects it, neither
-/// limiter changes. Both limiters are notified of each evicted or removed entry. The second limiter sees what the first
-/// one wrote to the entry.
+/// A map is over the limit if either limiter says so. The table may grow if both limiters permit it. The map queries
+/// both limiters for each growth. An entry or a new value is accepted if both limiters accept it. If either limiter
+/// rejects the entry or the value, neither changes. Both limiters are notified of each evicted or removed entry. The
+/// second limiter sees what the first limiter wrote to the entry.
 ///
-/// `Both` uses the links and the running total of the first limiter. So put a limiter by cost first. `map.limiter().0`
-/// is the first limiter.
+/// Put a limiter by cost first, because `Both` uses the link type and the running total of the first limiter.
+/// `map.limiter().0` is the first limiter.
 ///
 /// ```
 /// let mut limiter = Both(ByCost::new(9), ByLength::new(3));

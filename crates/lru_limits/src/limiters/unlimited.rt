@@ -3,7 +3,7 @@ ghost use Rattle.lru_limits.specs.Limiters.{no_rules, all_terms};
 use crate::admission::Admission;
 use crate::limiter::Limiter;
 
-/// Limits nothing. A map with this limiter is an ordered hash map.
+/// Limits nothing. A map under `Unlimited` is an ordered hash map.
 ///
 /// ```
 /// assert!(rt; !Limiter::<u64, u64>::is_over_the_limit(&Unlimited, usize::MAX));

@@ -11,10 +11,9 @@ ghost use Rattle.lru_model.specs.Theorems.{PaysForMoves, UsesAtMost, IsSummed, o
 use lru_limits::{Budgeted, Insertion, KeyHasher, Limiter, LookupKey};
 use std::hash::Hash;
 
-/// If `IsMap` holds of a map, it holds after any calls, and any writes through the references that they lend. So no two
-/// keys are equal, and inserts moved at most two entries for each entry that they stored, plus one for each entry that
-/// a shrink rehashed. `Run` includes that the table is sound after each call. The clause `map` of each call ensures
-/// this.
+/// If `IsMap` holds of a map, it still holds after any calls, and any writes through the references that they lend.
+/// `IsMap` implies that no two keys are equal, and the clause `paid` of `inserts_pay_for_moves`. In a `Run`, the table
+/// is sound after each call, as the clause `map` of each call ensures.
 pub fn runs_keep_maps<K: Eq + Hash, V, I: LookupKey<K>, L: Insertion<K, V, I>, S: KeyHasher<K>>()
     ensures map { (old new : State K V L S) →
         Run (AnyStep L.rules L.offers I.names S.hash_of) new old →
@@ -31,7 +30,7 @@ pub fn runs_keep_sums<K: Eq + Hash, V, I: LookupKey<K>, L: Insertion<K, V, I>, S
 {}
 
 /// Over any calls, the count of moved entries, plus the potential, rises by at most 2 for each stored entry, plus 1 for
-/// each entry that a shrink rehashed. This holds until the count `placed` or `shrunk` reaches `u64::MAX`.
+/// each entry that a shrink rehashed. The bound holds until the count `placed` or `shrunk` reaches `u64::MAX`.
 pub fn runs_pay_for_moves<
     K: Eq + Hash,
     V,
@@ -44,7 +43,7 @@ pub fn runs_pay_for_moves<
         IsSized old → PaysForMoves old new }
 {}
 
-/// If no call is `pop_newest`, any calls evict only the oldest of the entries whose keys no call names.
+/// A run without `pop_newest` evicts only the oldest of the entries whose keys no call of the run names.
 pub fn runs_evict_the_oldest<
     K: Eq + Hash,
     V,
@@ -99,7 +98,7 @@ pub fn runs_keep_the_budget<K: Eq + Hash, V, L: Budgeted<K, V>, S: KeyHasher<K>>
         Run (StepOrWrite L.rules (offers_of L.terms) K.eq S.hash_of) new old → L.budget_of new.limiter ≡ L.budget_of old.limiter }
 {}
 
-/// A new map, without entries or buckets, satisfies `IsMap`, the premise of `runs_keep_maps`.
+/// A new map, without entries or buckets, satisfies `IsMap`.
 pub fn runs_begin_with_maps<K: Eq + Hash, V, L: Limiter<K, V>, S: KeyHasher<K>>()
     ensures empty { (limiter : L) (hasher : S) (entry_bytes : ℕ) →
         IsMap K.eq (empty_map {K = K} {V = V} limiter hasher entry_bytes (L.LinkType.number L.LinkType.MAX)) }

@@ -10,7 +10,7 @@ use std::marker::Model;
 /// The length in bytes of the longest line with a meaning: `insert` with two numbers of 20 digits.
 const LONGEST: usize = 48;
 
-/// The most bytes of a line that `Line` holds: one more than `LONGEST`, so a longer line is noticed.
+/// The most bytes of a line that `Line` holds: one more than `LONGEST`, so that a longer line is noticed.
 pub const HELD: usize = LONGEST + 1;
 
 #[derive(Drop)]
@@ -85,7 +85,7 @@ impl Line {
     }
 }
 
-/// What one look at the reader's buffer gave.
+/// The result of one read of the reader's buffer.
 #[derive(Clone, Copy)]
 pub enum Piece {
     Part,
@@ -93,7 +93,7 @@ pub enum Piece {
     End,
 }
 
-/// Takes the part of the line that the reader's buffer contains. An interrupted look gives no byte.
+/// Takes the part of the line that the reader's buffer contains. An interrupted read gives no byte.
 fn take_piece<R: BufRead>(reader: &mut R, line: &mut Line) -> Result<Piece, ReplayError>
     requires { length line.old ≤ HELD }
     ensures ok { IfOk result (λ piece. (bytes : List ℕ)
@@ -133,12 +133,11 @@ pub enum Ending {
     Nothing,
 }
 
-/// Reads the next line to its end, and holds its first `HELD` bytes. An interrupted look at the reader's buffer is
-/// repeated.
+/// Reads the next line to its end, and holds its first `HELD` bytes. Repeats a read of the buffer if it is interrupted.
 ///
 /// # Errors
 ///
-/// `ReplayError::Read`: the reader failed, or `u64::MAX` looks found no end.
+/// `ReplayError::Read`: the reader failed, or `u64::MAX` reads found no end.
 pub fn read_line<R: BufRead>(reader: &mut R, line: &mut Line) -> Result<Ending, ReplayError>
     ensures ok { IfOk result (λ ending. (bytes : List ℕ)
         × TakesLine (R.remaining reader.old) (R.remaining reader.new) ending bytes

@@ -50,7 +50,8 @@ impl<
         self.tenants.limiter().limit()
     }
 
-    /// Returns how many bytes the limit and the name of one more tenant may take in the present table.
+    /// Returns how many bytes the limit and the name of one more tenant may take, if the table of tenants does not
+    /// grow.
     ///
     /// ```
     /// assert!(rt; bytes.left() < 3500);

@@ -24,7 +24,8 @@ impl<
 > TenantCache<N, K, V, L, S> {
     ghost use Rattle.lru_tenants.specs.Lending.{ends_so};
 
-    /// If the key is there, does what `get` does. Otherwise puts the value that the closure returns, and returns it.
+    /// If the key is there, does what `get` does. If the key is not there, puts the value that the closure returns, and
+    /// returns this value.
     ///
     /// `None` means that the tenant does not keep the new entry.
     ///
@@ -33,7 +34,7 @@ impl<
     /// assert_eq!(rt; cache.get_or_put(&1, 8, || 1), Ok(Some(&1)));
     /// ```
     ///
-    /// Cost: if the key is there, as `get`, else as `put`.
+    /// Cost: as `get` if the key is there, else as `put`.
     ///
     /// # Errors
     ///

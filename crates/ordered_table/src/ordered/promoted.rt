@@ -1,5 +1,5 @@
-//! The order of a table in which `promoted`, if there is one, is the newest bucket. The links may still have this
-//! bucket elsewhere.
+//! The order of a table whose newest bucket is `promoted`, if this is not `None`. In the links, `promoted` may still be
+//! elsewhere.
 ghost use Rattle.std.specs.Prelude.{◌≡◌, ◌<◌, ℕ, length, Some, None, IfSome};
 ghost use Rattle.group_table.specs.Bucket.{IsFull};
 ghost use Rattle.lru_model.specs.Lists.{first as first_bucket, last as last_bucket};

@@ -1,4 +1,4 @@
--- How the fields of an `LruMap` hold its state. No public clause cites this module.
+-- How the fields of an `LruMap` represent its state. No public clause cites this module.
 use Rattle.std.specs.Prelude.{ℕ, Bool}
 use Rattle.group_table.specs.Bucket.{bucket_states}
 use Rattle.group_table.specs.Change.{insertion_count}
@@ -7,7 +7,7 @@ use Rattle.lru_model.specs.State.{State, TableState, Counts, IsMap}
 use Rattle.schnellru.specs.Inside.Fields.{Fields}
 use Rattle.ordered_table.specs.OrderedTable.{OrderedTable, IsLinked, KeysFit, pairs_of}
 
--- the table counts its insertions, and the fields contain the other counts
+-- the counts of a map: the table counts its insertions, and the fields contain the other counts
 abbrev pub counts_of : {S H : Type 0} → Insertions → Fields S H → Counts
 counts_of insertions fields = record {
   insertions = insertion_count insertions;
@@ -31,7 +31,7 @@ module _ {K V S H : Type 0} where
     max = fields.max;
   }
 
-  -- the buckets are linked, the hashes of the keys fit, and the state satisfies `IsMap`
+  -- the buckets are linked, the hashes of the keys fit the table, and the state satisfies `IsMap`
   pub record Holds (eq : K → K → Bool) (hash_of : H → K → ℕ) (entries : OrderedTable K V) (fields : Fields S H)
       : Type 0 where
     pub linked : IsLinked entries

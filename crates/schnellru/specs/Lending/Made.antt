@@ -1,5 +1,5 @@
--- A get that inserts a key lends the value of the newest pair. `Step` says which map the get leaves, and whether there
--- is a value to lend.
+-- A get that inserts a missing key lends the value of the newest pair. `Step` says which map the get leaves, and
+-- whether the get lends a value.
 use Rattle.std.specs.Prelude.{◌≡◌, Bool, Option, Result}
 use Rattle.std.specs.Borrow.{Fml, RattleType, MutBor, LendsSoOk, follows_so}
 use Rattle.std.specs.HashMap.Lent.{HashMembers}
@@ -19,7 +19,8 @@ module _ (K V L S N H : RattleType) (key : HashMembers K.Denot)
     (hashed : HasherMembers S.Denot K.Denot H.Denot) (hash : hasher.Ghosts H.Denot)
     (m : MutBor (State K.Denot V.Denot L.Denot S.Denot)) {E : Type 0}
     (Step : Result Bool E → State K.Denot V.Denot L.Denot S.Denot → Type 0) where
-  -- The get left the map `made`, and lends its newest value. After w is written there, the map is n.
+  -- The get left the map `made`, and lends the value of its newest pair. If the caller writes w through the loan, the
+  -- map is n afterwards.
   abbrev pub Made : Result (Option (MutBor V.Denot)) E → State K.Denot V.Denot L.Denot S.Denot → V.Denot → Type 0
   Made r n w = (made : State K.Denot V.Denot L.Denot S.Denot) × Step (is_kept r) made
       × (newest_value made.pairs ≡ value_lent r)
@@ -29,12 +30,12 @@ module _ (K V L S N H : RattleType) (key : HashMembers K.Denot)
   abbrev pub LendsNone : Result (Option (MutBor V.Denot)) E → State K.Denot V.Denot L.Denot S.Denot → Type 0
   LendsNone r n = Step (is_kept r) n × IsMap key.eq n
 
-  -- the map after the loan; r is `NotKept` if no value is lent and no error occurred
+  -- What the map is after the loan of the get's result r. If no value is lent and no error occurred, r is `NotKept`.
   abbrev pub lends_or : Result (MutBor V.Denot) (NotLent E) → Fml
   lends_or r = LendsSoOk (map_row K V L S N H key limits links hashed hash) V m r
       (λ n w. Made (lent_or_none r) n w) (λ n. LendsNone (lent_or_none r) n)
 
-  -- the map after the loan; r is `Ok None` if no value is lent and no error occurred
+  -- What the map is after the loan of the get's result r. If no value is lent and no error occurred, r is `Ok None`.
   abbrev pub lends_made : Result (Option (MutBor V.Denot)) E → Fml
   lends_made r = follows_so (map_row K V L S N H key limits links hashed hash) V m.ghost_name
       (name_lent r)

@@ -1,4 +1,4 @@
--- What a map is after a reference into it has ended.
+-- What a map is after a reference into the map has ended.
 use Rattle.std.specs.Prelude.{◌≡◌, ℕ, Bool, List, [], ◌∷◌, Option, Some, OnSome, IfNone, ⊤, if◌then◌else◌, nat_eq}
 use Rattle.std.specs.Option.{option_copied_mut}
 use Rattle.std.specs.Borrow.{Fml, RattleType, Bor, MutBor, follows, follows_so, Lends, LendsIf, LendsSo}
@@ -13,14 +13,15 @@ use Rattle.lru_model.specs.Calls.{written}
 use Rattle.schnellru.specs.contracts.map.LruMap.{the_row}
 use mathlib.Core.Option.{none}
 
--- the pairs with the value w in the pair of bucket b; `places` lists the buckets of the pairs, in their order
+-- The list of pairs after w became the value of the pair in bucket b. `places` lists the buckets of the pairs, in the
+-- order of the pairs.
 abbrev pub set_value_in : {K V : Type 0} → ℕ → V → List (K × V) → List ℕ → List (K × V)
 set_value_in b w [] places = []
 set_value_in b w (pair ∷ pairs) [] = pair ∷ pairs
 set_value_in b w (pair ∷ pairs) (c ∷ places) =
     if nat_eq c b then (pair.0, w) ∷ pairs else pair ∷ set_value_in b w pairs places
 
--- the map with the value w in the pair of bucket b
+-- the map after w became the value of the pair in bucket b
 abbrev pub written_in : {K V S H : Type 0} → ℕ → V → State K V S H → State K V S H
 written_in b w st = record st { pairs = set_value_in b w st.pairs st.table.places }
 
@@ -28,25 +29,25 @@ module _ (K V L S N H : RattleType) (key : HashMembers K.Denot)
     (limits : limiter.Ghosts L.Denot K.Denot V.Denot N.Denot)
     (links : link_type.Ghosts N.Denot)
     (hashed : HasherMembers S.Denot K.Denot H.Denot) (hash : hasher.Ghosts H.Denot) where
-  -- the map's type in the logic
+  -- the type of the map, as a `RattleType`
   abbrev pub map_row : RattleType
   map_row = the_row K V L S N H (record { eq = key.eq })
       (record { hash_input = key.hash_input }) limits links
       (record { hash_of = hashed.hash_of }) (record { build_hasher = hashed.build_hasher }) hash
 
   module _ (m : MutBor (State K.Denot V.Denot L.Denot S.Denot)) where
-    -- After the loan the map is `base`, with the last value written through r for the named key. If r is `None`, the
-    -- map does not change.
+    -- After the loan, the map is `base`, in which the named key has the value that was written last through r. If r is
+    -- `None`, the map does not change.
     abbrev pub lends_value : (K.Denot → Bool) → State K.Denot V.Denot L.Denot S.Denot → Option (MutBor V.Denot) → Fml
     lends_value names base r = LendsIf map_row V m r (λ last. written names last base) m.now
 
-    -- a part of the map was lent for reading, and the map is `last` after the loan
+    -- a part of the map was lent for reading, and after the loan the map is `last`
     abbrev pub ends_as : State K.Denot V.Denot L.Denot S.Denot → Fml
     ends_as last = follows_so map_row map_row m.ghost_name none (λ _ _. ⊤) (λ n. n ≡ last)
 
-    -- If r is `Some`, r lends the value of a pair that satisfies `gives`. After the loan the map is the result of
-    -- `turned` for this pair's key, with the last value written through r for this key. If r is `None`, the map does
-    -- not change.
+    -- If r is `Some`, r lends the value of a pair that satisfies `gives`. After the loan, the map is what `turned`
+    -- makes of it for the key of this pair, and this key has the value that was written last through r. If r is `None`,
+    -- the map does not change.
     abbrev pub lends_given : (K.Denot × V.Denot → Type 0)
         → ((K.Denot → Bool) → State K.Denot V.Denot L.Denot S.Denot → State K.Denot V.Denot L.Denot S.Denot)
         → Option (MutBor V.Denot) → Fml
@@ -55,23 +56,24 @@ module _ (K V L S N H : RattleType) (key : HashMembers K.Denot)
         × (n ≡ written (key.eq pair.0) last (turned (key.eq pair.0) m.now))))
         (λ n. IfNone r (n ≡ m.now))
 
-    -- After the loan the newest pair has the last value written through r. If r is `None`, the map does not change.
+    -- After the loan, the newest pair has the value that was written last through r. If r is `None`, the map does not
+    -- change.
     abbrev pub lends_newest : Option (MutBor V.Denot) → Fml
     lends_newest r = LendsIf map_row V m r (λ last. record m.now { pairs = set_newest m.now.pairs last }) m.now
 
-    -- `lends_newest` for a result that is always a reference
+    -- what `lends_newest` says, for a result that is always a reference
     abbrev pub lends_newest_value : MutBor V.Denot → Fml
     lends_newest_value r = Lends map_row V m r (λ last. record m.now { pairs = set_newest m.now.pairs last })
 
-    -- after the loan the pair in bucket b has the last value written through r
+    -- after the loan, the pair in bucket b has the value that was written last through r
     abbrev pub lends_value_in : ℕ → MutBor V.Denot → Fml
     lends_value_in b r = Lends map_row V m r (λ last. written_in b last m.now)
 
-    -- after the loan the pair at position i has the last value written through r
+    -- after the loan, the pair at position i has the value that was written last through r
     abbrev pub lends_value_at : ℕ → Bor K.Denot × MutBor V.Denot → Fml
     lends_value_at i r = follows map_row V m.ghost_name r.1.ghost_name
         (λ last. record m.now { pairs = set_value_at m.now.pairs i last })
 
-    -- after the loan the map has the last limiter written through r
+    -- after the loan, the map's limiter is the limiter that was written last through r
     abbrev pub lends_limiter : MutBor L.Denot → Fml
     lends_limiter r = Lends map_row L m r (λ last. record m.now { limiter = last })

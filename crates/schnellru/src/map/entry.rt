@@ -1,4 +1,4 @@
-//! A handle on an entry that was searched for once.
+//! A handle on an entry that one search found.
 ghost use Rattle.std.specs.Prelude.{◌≡◌, Bool, None, Some, true, nat_eq, IfSome, IfNone};
 ghost use Rattle.std.specs.List.{list_any};
 ghost use Rattle.std.specs.Borrow.{sem};
@@ -11,7 +11,7 @@ use crate::map::LruMap;
 use lru_limits::{KeyHasher, Limiter, LookupKey};
 use std::hash::Hash;
 
-/// A handle on an entry of a map, which `LruMap::find_entry` has found. No call of the handle searches again.
+/// A handle on an entry of a map, which `LruMap::find_entry` has found. No call on the handle searches again.
 ///
 /// ```
 /// if let Some(mut entry) = map.find_entry(&1) {

@@ -2,7 +2,7 @@ use crate::map::LruMap;
 use lru_limits::{KeyHasher, Limiter};
 use std::hash::Hash;
 
-/// Maps are equal if they have equal entries in the same order of use. Their limiters, hashers and tables may differ.
+/// Maps are equal if they have equal entries in the same order of use. The limiters, hashers and tables may differ.
 ///
 /// ```
 /// let other = map.clone()?;

@@ -18,13 +18,13 @@ impl<K: Eq + Hash + Drop, V: Drop, L: Limiter<K, V>, S: KeyHasher<K>> LruMap<K, 
     /// Inserts a key with a value, as the newest entry. Returns whether the key is in the map afterwards.
     ///
     /// If the key is there, the stored key gets the new value. If the limiter rejects the new value, the entry is
-    /// removed. If the key is new, the limiter returns the entry to store. If it returns `None`, nothing is stored. If
-    /// the limiter would be over its limit with one more entry, the oldest entry is evicted first.
+    /// removed. If the key is new, the limiter returns the entry to store, or `None` to reject it. If the limiter would
+    /// be over its limit with one more entry, the oldest entry is evicted first.
     ///
-    /// If no bucket can take the new entry, the table grows. A table with fewer than half of the entries that it may
-    /// hold is rehashed instead. If no larger table exists, or if the limiter refuses it, the oldest entries are
-    /// evicted until a bucket can take the new entry. If the evictions leave fewer than half of what the table may
-    /// hold, the table is rehashed. If there is no entry to evict, the new entry is not stored.
+    /// If no bucket can take the new entry, the table grows, or is rehashed if it has fewer than half of the entries
+    /// that it may hold. If no larger table exists, or if the limiter refuses it, the oldest entries are evicted until
+    /// a bucket can take the new entry. If the evictions leave fewer than half of the entries that the table may hold,
+    /// the table is rehashed. If there is no entry to evict, the new entry is not stored.
     ///
     /// At the end, if the key is in the map, the oldest entries are evicted while the limiter is over its limit. A
     /// replaced value is dropped before anything is evicted.
@@ -42,9 +42,8 @@ impl<K: Eq + Hash + Drop, V: Drop, L: Limiter<K, V>, S: KeyHasher<K>> LruMap<K, 
     /// # Errors
     ///
     /// The insert of a new key ran out of memory. The key is not in the map. If `on_insert` ran out of memory, nothing
-    /// has changed. Otherwise the table had no growth left, and the allocation for a rehash or a larger table failed.
-    /// Then some of the oldest entries may have been evicted. The limiter was notified of each evicted entry, and of
-    /// the new entry.
+    /// has changed. If the allocation for a rehash or a larger table failed, some of the oldest entries may have been
+    /// evicted. The limiter was notified of each evicted entry, and of the new entry.
     ///
     /// If growth is left, only `on_insert` allocates memory.
     ///
@@ -62,12 +61,12 @@ impl<K: Eq + Hash + Drop, V: Drop, L: Limiter<K, V>, S: KeyHasher<K>> LruMap<K, 
 }
 
 impl<K: Eq + Hash, V: Drop, L: Limiter<K, V>, S: KeyHasher<K>> LruMap<K, V, L, S> {
-    /// Does what `insert` does, and passes entries to the callback: the evicted entries, oldest first, an entry that is
-    /// removed because its new value is rejected, and an entry that `on_insert` returned but the map could not store.
-    /// `on_removed` may write to each of them first.
+    /// Does what `insert` does, and passes entries to the callback: evicted entries, oldest first; an entry that is
+    /// removed because its new value is rejected; and a new entry that the limiter accepted but the map could not
+    /// store. `on_removed` may write to an entry before the callback gets it.
     ///
-    /// The callback gets each of these entries once, even if the result is an `Err`. Only tests show that the callback
-    /// gets an entry before the limiter is called again. The callback does not get a replaced value.
+    /// The callback gets each such entry once, even if the result is an `Err`. Only tests show that the callback gets
+    /// an entry before the limiter is called again. The callback does not get a replaced value.
     ///
     /// ```
     /// let mut left = None;
@@ -136,8 +135,8 @@ impl<K: Eq + Hash, V: Drop, L: Limiter<K, V>, S: KeyHasher<K>> LruMap<K, V, L, S
 }
 
 impl<K: Eq + Hash, V, L: Limiter<K, V>, S: KeyHasher<K>> LruMap<K, V, L, S> {
-    /// Does what `insert_with` does. If the key is there, also returns the value that the map does not keep: the old
-    /// value, or the new value if the limiter rejects it. `on_replace` may have written to the returned value.
+    /// Does what `insert_with` does. If the key is there, also returns the replaced or rejected value (see `Inserted`).
+    /// `on_replace` may have written to the returned value.
     ///
     /// If the key is there, the limiter consumes the offered key. If `on_insert` rejects the entry or runs out of
     /// memory, the limiter consumes the key and the value.
@@ -224,8 +223,7 @@ impl<K: Eq + Hash, V, L: Limiter<K, V>, S: KeyHasher<K>> LruMap<K, V, L, S> {
     /// Inserts a key that is not in the map, without a search. Takes what `insert_hashed` takes, and returns what
     /// `insert` returns. The callback gets what `insert_with` passes.
     ///
-    /// The prover checks that the key is absent. In Rust nothing does: if the key is there, the map then contains it
-    /// twice.
+    /// The prover checks that the key is absent. Rust does not, so a map may contain a key twice.
     ///
     /// ```
     /// let hash = map.hasher().hash_named(&5);

@@ -11,7 +11,7 @@ use std::alloc::AllocError;
 use std::hash::Hash;
 
 impl<K: Eq + Hash + Drop, V: Drop, L: Limiter<K, V>, S: KeyHasher<K>> LruMap<K, V, L, S> {
-    /// Calls `insert_with`. Returns its result, and the entries that it passes to its callback.
+    /// Returns the result of `insert_with`, and the entries that it passes to its callback.
     ///
     /// ```
     /// let (done, left) = map.insert_and_keep(4, 40)?;

@@ -9,8 +9,8 @@ use lru_limits::{KeyHasher, Limiter};
 use std::hash::Hash;
 
 impl<K: Eq + Hash, V, L: Limiter<K, V>, S: KeyHasher<K>> LruMap<K, V, L, S> {
-    /// Removes and returns the oldest entry if the closure returns true for it. Otherwise returns `None` and changes
-    /// nothing.
+    /// Removes and returns the oldest entry if the closure returns true for it. In any other case, returns `None` and
+    /// changes nothing.
     ///
     /// If each use writes the time into the value, `while map.pop_oldest_if(..).is_some() {}` removes the entries that
     /// were not used since a given time.
@@ -49,7 +49,7 @@ impl<K: Eq + Hash, V, L: Limiter<K, V>, S: KeyHasher<K>> LruMap<K, V, L, S> {
     ///
     /// # Errors
     ///
-    /// Returns the error of the closure. Then nothing has changed.
+    /// Returns the error of the closure, and changes nothing.
     pub fn try_pop_oldest<E, F: FnOnce(&K, &V) -> Result<(), E>>(
         &mut self,
         release: F,

@@ -1,4 +1,4 @@
-//! Removals, pops, a clear and evictions. The limiter is notified of each.
+//! Removals, pops, a clear and evictions. Each notifies the limiter.
 ghost use Rattle.std.specs.Prelude.{◌≡◌, ℕ, ◌<◌, true, not, ◌∷◌, length, Some, IfSome};
 ghost use Rattle.group_table.specs.Bucket.{IsFull};
 ghost use Rattle.lru_model.specs.Lists.{is_empty, first, last};

@@ -12,9 +12,9 @@ use std::hash::Hash;
 impl<K: Eq + Hash, V, L: Limiter<K, V>, S: KeyHasher<K>> LruMap<K, V, L, S> {
     /// Reserves growth for n more entries: afterwards `guaranteed_capacity` is at least `len` + n.
     ///
-    /// The entries and the counts of moves stay. If enough growth is left, nothing happens. Otherwise, if `len` + n is
-    /// at most half of the entries that the table may hold, the table is rehashed at its size. If `len` + n is more,
-    /// the limiter is queried for a larger table.
+    /// The entries and the counts of moves stay. If enough growth is left, nothing happens. If too little is left, and
+    /// `len` + n is at most half of the entries that the table may hold, the table is rehashed at its size. If `len` +
+    /// n is more than half, the limiter is queried for a larger table.
     ///
     /// ```
     /// let mut map: LruMap<u64, u64, UnlimitedCompact> = LruMap::default(alloc);
@@ -29,11 +29,14 @@ impl<K: Eq + Hash, V, L: Limiter<K, V>, S: KeyHasher<K>> LruMap<K, V, L, S> {
     /// After an error, the entries and the table are unchanged.
     ///
     /// - `TooLarge`: `len` + n overflows, or the table would need more buckets than the links can number, or more than
-    ///   `isize::MAX - 15` bytes. The map does not rehash its table instead, even if the entries would then fit.
+    ///   `isize::MAX - 15` bytes. The map does not rehash its table instead, even if the entries would fit after a
+    ///   rehash.
+    ///
     /// - `Refused`: the limiter refused the larger table.
+    ///
     /// - `Memory`: out of memory.
     ///
-    /// Before `Refused` or `Memory`, `on_grow` may have changed the limiter. The change stays.
+    /// After `Refused` and `Memory`, the limiter stays as `on_grow` left it.
     ///
     /// Follows schnellru's `LruMap::try_reserve`.
     pub fn try_reserve(&mut self, n: usize) -> Result<(), ReserveError>

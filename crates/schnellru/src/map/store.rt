@@ -1,5 +1,5 @@
-//! Stores a new entry in a free bucket. If no bucket can take it, first rehashes or grows the table, or evicts the
-//! oldest entries.
+//! Stores a new entry in a free bucket. If no bucket can take the entry, first rehashes or grows the table, or evicts
+//! the oldest entries.
 ghost use Rattle.std.specs.Prelude.{◌≡◌, ℕ, ◌+◌, ◌-◌, ◌*◌, ◌/◌, ◌<◌, ◌≤◌, [], ◌∷◌, length, true, None, Some, List};
 ghost use Rattle.std.specs.Prelude.{Ok, OnOk, OnErr, IfErr, IsOk};
 ghost use Rattle.group_table.specs.Sizes.{IsPowerFromFour, full_capacity};

@@ -23,11 +23,11 @@ impl<K: Eq + Hash + Drop, V: Drop, L: Admission<K, V> + Copy, S: KeyHasher<K>> L
     /// ```
     ///
     /// Cost: `O(1)` expected, amortised over the inserts, with one search for the key. If no growth is left, add the
-    /// cost of `try_reserve(1)`. `move_report` does not count the entries that this reservation moves.
+    /// cost of `try_reserve(1)`. `move_report` does not count the entries that the reservation moves.
     ///
     /// # Errors
     ///
-    /// Returns the key and the value, for one of five reasons. Only the first can be recognised, by `contains`:
+    /// Returns the key and the value, for one of five reasons. A caller can recognise only the first, by `contains`:
     ///
     /// - The key is there.
     /// - The limiter rejects the entry, before or after the table grew.
@@ -35,8 +35,8 @@ impl<K: Eq + Hash + Drop, V: Drop, L: Admission<K, V> + Copy, S: KeyHasher<K>> L
     /// - No growth is left, and either there is no larger table, or the limiter refuses it.
     /// - No growth is left, and the allocation of the table fails.
     ///
-    /// If growth was left, nothing has changed. Otherwise the table may be larger or rehashed, and `on_grow` may have
-    /// changed the limiter.
+    /// If growth was left, nothing has changed. If no growth was left, the table may be larger or rehashed, and
+    /// `on_grow` may have changed the limiter.
     ///
     /// Follows std's `HashMap::try_insert`.
     pub fn try_insert(&mut self, key: K, value: V) -> Result<(), (K, V)>

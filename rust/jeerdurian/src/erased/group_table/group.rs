@@ -1,5 +1,5 @@
 // Erased from crates/group_table/src/group.rt: do not edit.
-//! Groups of sixteen control bytes, and masks of their lanes. Bit i of a mask is lane i.
+//! Groups of sixteen control bytes. Each byte is a lane, and a mask has a bit for each lane.
 
 #[allow(unused_imports)]
 use crate::rattle_std::prelude::*;
@@ -19,7 +19,7 @@ pub fn match_tag(bytes: &[u8; 16], tag: u8) -> u16 {
     u8x16::from_array(*bytes).simd_eq(u8x16::splat(tag)).to_bitmask() as u16
 }
 
-/// Returns the lanes of empty buckets, whose byte is 255.
+/// Returns which of the bytes are 255, the byte of an empty bucket.
 ///
 /// ```text
 /// let bytes: [u8; 16] = [0, 255, 128, 5, 255, 255, 255, 255, 255, 255, 255, 255, 255, 255, 255, 255];
@@ -30,7 +30,7 @@ pub fn match_empty(bytes: &[u8; 16]) -> u16 {
     match_tag(bytes, EMPTY)
 }
 
-/// Returns the lanes of free buckets, whose byte has the top bit set: 255 if empty, 128 if deleted.
+/// Returns which of the bytes have the top bit set: 255 for an empty bucket, and 128 for a deleted bucket.
 ///
 /// ```text
 /// let bytes: [u8; 16] = [0, 255, 128, 5, 255, 255, 255, 255, 255, 255, 255, 255, 255, 255, 255, 255];

@@ -1,5 +1,5 @@
 // Erased from crates/group_table/src/link.rt: do not edit.
-//! `LinkType`: the widths of links, which are numbers of buckets.
+//! `LinkType`: the integer types of links.
 
 #[allow(unused_imports)]
 use crate::rattle_std::prelude::*;
@@ -9,7 +9,7 @@ use crate::rattle_std::prelude::*;
 /// A table with links of type `N` has fewer than `N::MAX` buckets, so the width of the links limits the size of the
 /// table. The trait is implemented for `u8`, `u16`, `u32` and `usize`.
 pub trait LinkType: Copy {
-    /// The link that means no bucket. Its number is greater than the number of every bucket.
+    /// The link that means no bucket: its number is greater than the number of every bucket.
     const MAX: Self;
 
     /// Returns the link with this number. No bits are lost.

@@ -1,5 +1,5 @@
 // Erased from crates/group_table/src/neighbours.rt: do not edit.
-//! Tests whether each run of 16 neighbouring buckets around a bucket contains an empty bucket.
+//! Tests whether each run of 16 neighbouring buckets that includes bucket b contains an empty bucket.
 
 #[allow(unused_imports)]
 use crate::rattle_std::prelude::*;

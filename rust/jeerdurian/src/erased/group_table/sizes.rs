@@ -1,11 +1,11 @@
 // Erased from crates/group_table/src/sizes.rt: do not edit.
-//! How many entries a number of buckets holds, and how many buckets a number of entries needs.
+//! How many entries n buckets hold, and how many buckets n entries need.
 
 #[allow(unused_imports)]
 use crate::rattle_std::prelude::*;
 
-/// Returns how many entries a table of `buckets` buckets may hold: 0 if `buckets` is 0, `buckets` - 1 if it is at most
-/// 8, and otherwise seven eighths of `buckets`.
+/// Returns how many entries a table may hold: 0 without buckets, `buckets` - 1 for up to 8 buckets, and otherwise seven
+/// eighths of `buckets`.
 #[inline]
 
 pub fn full_capacity(buckets: usize) -> usize {

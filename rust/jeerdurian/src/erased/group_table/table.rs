@@ -82,8 +82,9 @@ impl<T> Table<T> {
 
     /// Returns the bucket of the first entry that `f` accepts.
     ///
-    /// `f` is called with entries whose tag is the hash's top 7 bits, in the order of the search. Only tests show that
-    /// `f` is called at most once with each entry. If the result is `None`, `f` rejected each entry with this hash.
+    /// `f` is called with entries whose hashes agree with `hash` in the top 7 bits, in the order of the search. Only
+    /// tests show that `f` is called at most once with each entry. If the result is `None`, `f` rejected each entry
+    /// with this hash.
     #[inline]
     pub fn find<F: FnMut(&T) -> bool>(&self, hash: u64, f: F) -> Option<usize> {
         if self.control.is_empty_at(hash) {
@@ -110,8 +111,8 @@ impl<T> Table<T> {
     /// Takes the entry out of a full bucket.
     ///
     /// If each run of 16 neighbouring buckets that includes this bucket contains an empty bucket, this bucket becomes
-    /// empty, and the growth left rises by one. Otherwise this bucket becomes deleted, so that searches still go past
-    /// it. In a table of up to 16 buckets, each run contains an empty bucket.
+    /// empty, and the growth left rises by one. If a run contains no empty bucket, this bucket becomes deleted, so that
+    /// searches still go past it. In a table of up to 16 buckets, each run contains an empty bucket.
     #[inline(always)]
     pub fn take(&mut self, b: usize) -> T {
         full!(self.control.byte(b));
@@ -126,7 +127,7 @@ impl<T> Table<T> {
     /// Puts an entry with this hash into the first free bucket in the order of a search, and returns the bucket. There
     /// must be growth left.
     ///
-    /// If the bucket was empty, the growth left falls by one. If it was deleted, the growth left stays. `place`
+    /// If the bucket was empty, the growth left falls by one. If the bucket was deleted, the growth left stays. `place`
     /// allocates nothing, and moves no other entry.
     ///
     /// ```text
@@ -147,8 +148,8 @@ impl<T> Table<T> {
     ///
     /// # Errors
     ///
-    /// Returns the entry, and changes nothing, in two cases: there are no buckets; or no growth is left, and the first
-    /// free bucket is empty.
+    /// Returns the entry, and changes nothing, if there are no buckets, or if no growth is left and the first free
+    /// bucket is empty.
     #[inline(always)]
     pub fn try_place(&mut self, hash: u64, entry: T) -> Result<usize, T> {
         if is_without_buckets(&self.control, self.growth_left) {

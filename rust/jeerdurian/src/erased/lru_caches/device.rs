@@ -4,9 +4,9 @@ use crate::rattle_std::prelude::*;
 
 /// A device of numbered blocks, such as a disk or a file. Any call may fail.
 ///
-/// A crash may leave each block as it was at the last `sync`, as it was written later, or torn. A write changes only
-/// its own block, even if it fails or the machine stops in the middle. After a failed `sync`, no clause says what the
-/// blocks are, and no `read`, `write` or `sync` may be called.
+/// After a crash, each block may be as it was at the last `sync`, as it was written later, or torn. A write changes
+/// only its own block, even if the write fails or the machine stops in the middle. After a failed `sync`, no clause
+/// says what the blocks are, and no `read`, `write` or `sync` may be called.
 ///
 /// For most devices a contract sees the block itself: `ghost seen = { λ block. block };`.
 ///
@@ -22,13 +22,13 @@ pub trait BlockDevice<B> {
     /// Why a call fails.
     type Error;
 
-    /// The type of what contracts see of a block.
+    /// The type of a block, as contracts see it.
     type Seen;
 
     /// Returns whether the device has a block of this number.
     fn has(&self, n: u64) -> bool;
 
-    /// Returns whether no `sync` has failed.
+    /// Returns true unless a `sync` has failed.
     fn is_usable(&self) -> bool;
 
     /// Returns a block. A block that was not known may become known.
@@ -42,7 +42,7 @@ pub trait BlockDevice<B> {
     ///
     /// # Errors
     ///
-    /// The device failed. This block may be anything now, and no other block has changed.
+    /// The device failed. The block of this number may be anything now, and no other block has changed.
     fn write(&mut self, n: u64, block: &B) -> Result<(), Self::Error>;
 
     /// Makes the blocks durable. After an `Ok`, a crash leaves each known block as it is.

@@ -22,7 +22,7 @@ pub(crate) mod recorded;
 pub enum FileError {
     /// A seek, a read, a write or a sync of the file failed.
     File,
-    /// The block does not have its checksum.
+    /// The checksum of the block is wrong.
     Damaged,
 }
 
@@ -35,10 +35,10 @@ impl ::core::fmt::Display for FileError {
     }
 }
 
-/// A device of the blocks of a file, of `N` bytes each.
+/// A device whose blocks are parts of a file. Each block has `N` bytes.
 ///
-/// Nothing is proved about the bytes that an operating system returns or keeps. So contracts see a record of the calls
-/// on the file (`specs/Files`). The record takes no memory.
+/// Contracts see a record of the calls on the file (`specs/Files`), because nothing is proved about the bytes that an
+/// operating system returns or keeps. The record takes no memory.
 ///
 /// [`HashedFileDevice`] also detects torn and damaged blocks.
 ///
@@ -70,7 +70,7 @@ impl<F: Read + Write + Seek, const N: usize> FileDevice<F, N> {
         FileDevice { file: RecordedFile::new(file), count, is_usable: true }
     }
 
-    /// Makes a device of all whole blocks of the file. Nothing is proved about their number.
+    /// Makes a device of all whole blocks of the file. Nothing is proved about the number of blocks.
     ///
     /// ```text
     /// assert_eq!(rt; FileDevice::<_, 4>::open(Cursor::new(*b"zeroone.two.thr"))?.len(), 3);

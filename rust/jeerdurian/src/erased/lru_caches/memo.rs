@@ -77,13 +77,13 @@ impl<K: Eq + Hash, V: Copy, F: Fn(&K) -> V, L: Insertion<K, V, K>, S: KeyHasher<
     /// Returns a result of the function at a key or at an equal key. If no result is stored, calls the function and
     /// stores the result.
     ///
-    /// If memory runs out, or a limit prevents storing the result, returns it anyway.
+    /// Returns the result even if memory runs out, or if a limit prevents storing it.
     ///
     /// ```text
     /// assert_eq!(rt; (squares.answer(3), squares.len()), (9, 1));
     /// ```
     ///
-    /// Cost: a get. If no result is stored, also a call of the function and an insert.
+    /// Cost: a get, and if no result is stored, a call of the function and an insert.
     pub fn answer(&mut self, key: K) -> V {
         self.answer_full(key).0
     }
@@ -128,8 +128,8 @@ impl<K: Eq + Hash, V, F: Fn(&K) -> V, L: Insertion<K, V, K>, S: KeyHasher<K>> Me
         result
     }
 
-    /// Returns the stored result of a key, and makes it the newest. Does not call the function. So a caller who has a
-    /// `&str` copies it into a `String` only if nothing is stored.
+    /// Returns the stored result of a key, and makes it the newest. Does not call the function. A caller with a `&str`
+    /// can try `get`, and make a `String` for `answer` only if nothing is stored.
     ///
     /// ```text
     /// let mut lengths = Memo::new(alloc, ByLength::new(9), |text: &String| text.as_bytes().len());

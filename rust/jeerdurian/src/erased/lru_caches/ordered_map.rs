@@ -147,7 +147,7 @@ impl<K: Eq + Hash, V, S: KeyHasher<K>> OrderedMap<K, V, S> {
     ///
     /// Cost: `O(1)`.
     ///
-    /// After std's `BTreeMap::pop_first`.
+    /// Follows std's `BTreeMap::pop_first`.
     pub fn pop_first(&mut self) -> Option<(K, V)> {
         self.map.pop_oldest()
     }
@@ -160,7 +160,7 @@ impl<K: Eq + Hash, V, S: KeyHasher<K>> OrderedMap<K, V, S> {
     ///
     /// Cost: `O(1)`.
     ///
-    /// After std's `BTreeMap::pop_last`.
+    /// Follows std's `BTreeMap::pop_last`.
     pub fn pop_last(&mut self) -> Option<(K, V)> {
         self.map.pop_newest()
     }
@@ -173,7 +173,7 @@ impl<K: Eq + Hash, V, S: KeyHasher<K>> OrderedMap<K, V, S> {
     ///
     /// Cost: `O(1)` expected.
     ///
-    /// After std's `HashMap::remove_entry`.
+    /// Follows std's `HashMap::remove_entry`.
     pub fn remove_entry<Q: LookupKey<K>>(&mut self, key: &Q) -> Option<(K, V)> {
         distinct(&self.map);
         self.map.remove_entry(key)
@@ -185,7 +185,7 @@ impl<K: Eq + Hash, V, S: KeyHasher<K>> OrderedMap<K, V, S> {
     /// assert!(rt; map.keys().next() == Some(&1) && map.values().next_back() == Some(&20));
     /// ```
     ///
-    /// Cost: `O(1)`, and so is each step from either end.
+    /// Cost: `O(1)`, and `O(1)` for each step from either end.
     pub fn keys(&self) -> Keys<'_, K, V> {
         Keys::new(self.iter())
     }
@@ -196,7 +196,7 @@ impl<K: Eq + Hash, V, S: KeyHasher<K>> OrderedMap<K, V, S> {
     /// assert!(rt; map.keys().next() == Some(&1) && map.values().next_back() == Some(&20));
     /// ```
     ///
-    /// Cost: `O(1)`, and so is each step from either end.
+    /// Cost: `O(1)`, and `O(1)` for each step from either end.
     pub fn values(&self) -> Values<'_, K, V> {
         Values::new(self.iter())
     }
@@ -211,7 +211,7 @@ impl<K: Eq + Hash, V, S: KeyHasher<K>> OrderedMap<K, V, S> {
     /// assert_eq!(rt; total, 51);
     /// ```
     ///
-    /// Cost: `O(1)`, and so is each step from either end.
+    /// Cost: `O(1)`, and `O(1)` for each step from either end.
     pub fn iter(&self) -> Entries<'_, K, V> {
         Entries::new(self.map.iter())
     }
@@ -226,7 +226,7 @@ impl<K: Eq + Hash, V, S: KeyHasher<K>> OrderedMap<K, V, S> {
     ///
     /// Cost: `O(1)` expected.
     ///
-    /// After indexmap's `IndexMap::shift_remove`, which takes `O(len)`.
+    /// Follows indexmap's `IndexMap::shift_remove`, which takes `O(len)`.
     pub fn remove<Q: LookupKey<K>>(&mut self, key: &Q) -> Option<V> {
         distinct(&self.map);
         self.map.remove(key)
@@ -234,8 +234,8 @@ impl<K: Eq + Hash, V, S: KeyHasher<K>> OrderedMap<K, V, S> {
 }
 
 impl<K: Eq + Hash, V, S: KeyHasher<K>> OrderedMap<K, V, S> {
-    /// Inserts a key with a value as the newest entry. If the key is in the map, replaces and returns the old value.
-    /// The entry then keeps its key and its place.
+    /// Inserts a key with a value as the newest entry. If the key is in the map, replaces and returns the old value,
+    /// and the entry keeps its key and its place.
     ///
     /// ```text
     /// let mut map: OrderedMap<u64, u64> = OrderedMap::new(alloc);
@@ -270,7 +270,7 @@ impl<K: Eq + Hash, V, S: KeyHasher<K>> OrderedMap<K, V, S> {
     ///
     /// Cost: `O(len)`.
     ///
-    /// After std's `HashMap::retain`, whose closure may write the value.
+    /// Follows std's `HashMap::retain`, whose closure may write the value.
     pub fn retain<F: FnMut(&K, &V) -> bool>(&mut self, keep: F) {
         self.map.retain(keep);
     }

@@ -20,8 +20,8 @@ pub use owned_bytes::OwnedBytes;
 /// A value with a cost. An unsigned number of up to 64 bits costs itself. A text costs the number of its bytes, and a
 /// vector the number of its items.
 ///
-/// The limiter reads the cost again when the entry is evicted or removed, or when the value is replaced. So if the cost
-/// of a stored value changes, the running total is no longer the sum of the costs.
+/// The limiter reads the cost of a value again when its entry is evicted or removed, or when the value is replaced. If
+/// the cost of a stored value changes, the running total is no longer the sum of the costs.
 ///
 /// ```text
 /// struct Page {
@@ -92,11 +92,11 @@ impl<T> Costed for Vec<T> {
     }
 }
 
-/// A limiter with a running total. It adds the cost of each accepted entry, and subtracts the cost of each evicted or
-/// removed entry.
+/// A limiter with a running total, which adds the cost of each accepted entry, and subtracts the cost of each evicted
+/// or removed entry.
 ///
-/// The total after each call is the sum of the costs of the map's entries. This holds until a caller writes to a stored
-/// value, or writes or sets the limiter.
+/// The total after each call is the sum of the costs of the map's entries, until a caller writes to a stored value, or
+/// writes or sets the limiter.
 ///
 /// ```text
 /// let limiter = ByCost::new(3);

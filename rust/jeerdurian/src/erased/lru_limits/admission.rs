@@ -11,8 +11,8 @@ use crate::rattle_std::hash::Hash;
 
 /// Accepts or rejects entries, and changes no accepted entry.
 ///
-/// Every `Admission` is an [`Insertion`], and can be in [`crate::Both`]. If it is `Copy`, it permits `try_insert`.
-/// `never_changes` of `specs/Admissions.antt` makes the terms of a limiter that never changes.
+/// Every `Admission` is an [`Insertion`], and can be in [`crate::Both`]. If an `Admission` is `Copy`, a map with it has
+/// `try_insert`. `never_changes` of `specs/Admissions.antt` defines the terms of a limiter that never changes.
 ///
 /// ```text
 /// let mut limiter = ByLength::new(0);
@@ -23,16 +23,16 @@ pub trait Admission<K, V>: Limiter<K, V> {
     /// Returns whether `admit` would accept this entry.
     fn accepts(&self, length: usize, key: &K, value: &V) -> bool;
 
-    /// Called by an insert with a new key and its value, before the insert evicts anything. `try_insert` also calls it
-    /// on copies of the limiter. The map has `length` entries. Returns whether the entry is accepted. If not, the map's
-    /// entries do not change.
+    /// Called by an insert with a new key and its value, before the insert evicts anything. `try_insert` also calls
+    /// `admit` on copies of the limiter. The map has `length` entries. Returns whether the entry is accepted. If the
+    /// entry is rejected, the map's entries do not change.
     fn admit(&mut self, length: usize, key: &K, value: &V) -> bool;
 
     /// Returns whether `admit_in_place` would accept this value.
     fn accepts_in_place(&self, length: usize, key: &K, old_value: &V, new_value: &V) -> bool;
 
     /// Called by an insert or an update before `new_value` replaces `old_value` of a stored key. The map has `length`
-    /// entries. Returns whether the new value is accepted. If not, the map removes the entry.
+    /// entries. Returns whether the new value is accepted. If it is rejected, the map removes the entry.
     fn admit_in_place(&mut self, length: usize, key: &K, old_value: &V, new_value: &V) -> bool;
 }
 

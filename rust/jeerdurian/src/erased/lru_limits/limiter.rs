@@ -9,8 +9,8 @@ use crate::erased::lru_limits::keys::LookupKey;
 use crate::rattle_std::alloc::{AllocError, Global};
 use crate::rattle_std::hash::Hash;
 
-/// Decides when a map is over its limit, and whether its table may grow. The limiter is notified of each entry that is
-/// evicted or removed.
+/// Decides when a map is over its limit, and whether its table may grow. The map notifies its limiter of each entry
+/// that it evicts or removes.
 ///
 /// A callback may be called with any state, length, key and value. In `rules`, the impl defines the result and the
 /// effect of each callback as functions of its arguments.
@@ -21,25 +21,26 @@ use crate::rattle_std::hash::Hash;
 /// assert!(rt; Limiter::<u64, u64>::is_over_the_limit(&limiter, 4));
 /// ```
 pub trait Limiter<K, V> {
-    /// The type of the map's links. It limits the number of entries.
+    /// The type of the map's links, which limits the number of entries.
     type LinkType: LinkType;
 
-    /// Returns whether a map of `length` entries is over the limit. If so, the map evicts its oldest entry.
+    /// Returns whether a map of `length` entries is over the limit. A map over its limit evicts its oldest entry.
     ///
     /// Called in two cases:
     ///
-    /// - Before an insert stores a new entry in a map that is not empty, with the map's length plus 1. `try_insert`
-    ///   calls it on a copy of the limiter, even if the map is empty, and then evicts nothing.
-    /// - In `trim` and `set_limiter`, and after an insert or an update that stored an entry or replaced a value, with
-    ///   the map's length. Called again after each eviction, but not for an empty map.
+    /// - Before an insert stores a new entry in a map that is not empty, the map passes its length plus 1. `try_insert`
+    ///   calls `is_over_the_limit` on a copy of the limiter, even if the map is empty, and evicts nothing.
+    ///
+    /// - In `trim` and `set_limiter`, and after an insert or an update stored an entry or replaced a value, the map
+    ///   passes its length. The map repeats the call after each eviction, until it is empty.
     fn is_over_the_limit(&self, length: usize) -> bool;
 
     /// Called with each entry that is evicted, removed, popped or taken by an iterator, as soon as the entry is out of
     /// the map. The limiter may write to the key and the value before the caller of the map gets them.
     ///
-    /// Also called with an entry that `on_insert` returned but the map cannot store. Not called for entries that a
-    /// clear or a `Drain` drops. Entries that are dropped with the map or with an `IntoIter` cause no call, either, but
-    /// no contract says so.
+    /// Also called with an entry that `on_insert` returned but the map cannot store. If a clear or a `Drain` drops an
+    /// entry, the map does not call `on_removed`. The same holds if an entry is dropped with the map or an `IntoIter`,
+    /// but no contract says so.
     fn on_removed(&mut self, key: &mut K, value: &mut V);
 
     /// Called once by each clear of the map, even if the map is empty. The drop of a `Drain` is a clear.
@@ -48,17 +49,17 @@ pub trait Limiter<K, V> {
     /// Returns whether the map may have a larger table, of `new_memory_usage` bytes.
     ///
     /// Called by an insert that finds no bucket for a new entry, and by `try_reserve` and `try_insert` if too little
-    /// growth is left. Not called if no larger table exists, or if the table is rehashed without growing. After `false`
-    /// the insert evicts the oldest entries to store the new entry, and `try_reserve` and `try_insert` fail. After
-    /// `true` the allocation of the table may still fail. The limiter is not notified of this failure.
+    /// growth is left. Not called if no larger table exists, or if the table is rehashed without growing. If the result
+    /// is `false`, the insert evicts the oldest entries to store the new entry, and `try_reserve` and `try_insert`
+    /// fail. If it is `true`, the allocation of the table may still fail, without a notice to the limiter.
     fn on_grow(&mut self, new_memory_usage: usize) -> bool;
 }
 
-/// Accepts or rejects entries whose key is given as an `I`.
+/// Accepts or rejects entries. The key of an offered entry is given as an `I`.
 ///
-/// `I` is the type of the key, or of a name of the key. For example, a `&str` becomes a `String` only if the limiter
-/// accepts the entry. The impl defines `offers`: what may be stored for an offered entry, when an offer may run out of
-/// memory, and what a replacement does. Each [`crate::Admission`] is an `Insertion`.
+/// `I` is the type of the key, or of a value that names the key. For example, a `&str` becomes a `String` only if the
+/// limiter accepts the entry. The impl defines `offers`: what may be stored for an offered entry, when an offer may run
+/// out of memory, and what a replacement does. Each [`crate::Admission`] is an `Insertion`.
 ///
 /// ```text
 /// let mut limiter = ByCost::new(3);
@@ -67,16 +68,17 @@ pub trait Limiter<K, V> {
 /// ```
 pub trait Insertion<K: Eq + Hash, V, I: LookupKey<K>>: Limiter<K, V> {
     /// Called by an insert with a new key and its value, before the insert evicts anything. The map has `length`
-    /// entries. Returns the entry to store, or `None` if it is rejected. After `None` the map's entries do not change.
+    /// entries. Returns the entry to store, or `None` if the limiter rejects it. If it is rejected, the map's entries
+    /// do not change.
     ///
     /// # Errors
     ///
-    /// The limiter could not allocate the key. This happens only if `offers.may_run_out` permits it. The limiter is
-    /// then unchanged.
+    /// The limiter could not allocate the key, and has not changed. `offers.may_run_out` says when the limiter may run
+    /// out of memory.
     fn on_insert(&mut self, alloc: Global, length: usize, key: I, value: V) -> Result<Option<(K, V)>, AllocError>;
 
     /// Called by an insert or an update before `new_value` replaces `old_value`. The map has `length` entries, and
     /// `new_key` names the stored `old_key`. The limiter may change `old_key` only to an equal key. Returns whether the
-    /// new value is accepted. If not, the map removes the entry.
+    /// new value is accepted. If it is rejected, the map removes the entry.
     fn on_replace(&mut self, length: usize, old_key: &mut K, new_key: I, old_value: &mut V, new_value: &mut V) -> bool;
 }

@@ -3,8 +3,8 @@
 //! definitions, and the theorems follow from the contracts.
 //!
 //! The definitions are in `specs/`: `State` is what a contract sees of a map, and `Step` in `specs/Runs` says how one
-//! call changes a map. The theorems are the contracts of the functions of [`laws`]. They hold for every map whose calls
-//! satisfy the contracts. The crate has no map: its only code is the types that calls return, and [`sizes`].
+//! call changes a map. The theorems are the contracts of the functions of [`laws`]. The crate has no map: its only code
+//! is the types that calls return, and [`sizes`].
 
 #[allow(unused_imports)]
 use crate::rattle_std::prelude::*;

@@ -8,10 +8,12 @@ use crate::rattle_std::fmt::Display;
 
 /// What an insert did, with the value that the map does not keep.
 ///
-/// - If the key was new, `unkept` is `None`. `kept` is false if the limiter rejected the entry, if the map could not
-///   store the entry, or if the map stored and then evicted it.
+/// - If the key was new, `unkept` is `None`. `kept` is false if the limiter rejected the new entry, if the map could
+///   not store it, or if the map stored and then evicted it.
+///
 /// - If the limiter accepted a new value for a key that was there, `unkept` is the old value. `kept` is false if the
-///   entry was then evicted, because the limiter was still over its limit.
+///   entry was evicted afterwards, because the limiter was still over its limit.
+///
 /// - If the limiter rejected a new value for a key that was there, the entry was removed. `unkept` is the new value,
 ///   and `kept` is false.
 ///
@@ -36,12 +38,12 @@ pub struct Inserted<V> {
 /// ```
 #[derive(Clone, Copy, Debug, PartialEq, Eq)]
 pub enum Updated<V> {
-    /// The old value: the limiter accepted the new value in its place. If the limiter was over its limit, the entry may
-    /// then have been evicted.
+    /// The old value, because the limiter accepted the new value. The entry may have been evicted afterwards, if the
+    /// limiter was over its limit.
     Replaced(V),
-    /// The new value: the limiter rejected it, and the entry was removed.
+    /// The new value, because the limiter rejected it. The entry was removed.
     Rejected(V),
-    /// The new value: the key is not in the map.
+    /// The new value, because the key is not in the map.
     Absent(V),
 }
 

@@ -20,14 +20,14 @@ pub fn usage(entry_bytes: usize, buckets: usize) -> Option<usize> {
     if bytes <= MOST_BYTES { Some(bytes) } else { None }
 }
 
-/// Returns how many bytes a table with one or more buckets takes. These bytes must be at most `isize::MAX - 15`.
+/// Returns how many bytes a table with one or more buckets takes. The result must be at most `isize::MAX - 15`.
 pub fn bytes_of(entry_bytes: usize, buckets: usize) -> usize {
     (entry_bytes * buckets + 15) / 16 * 16 + buckets + 16
 }
 
-/// Returns the number of buckets and the bytes of the larger table into which a table of `buckets` buckets grows for
-/// `pairs` entries. `pairs` must be more than half of the capacity of the old table. Returns `None` if the larger table
-/// would have `max` buckets or more, which links cannot number, or would take more than `isize::MAX - 15` bytes.
+/// Returns the number of buckets and the bytes of the next table, if a table of `buckets` buckets grows to hold `pairs`
+/// entries. `pairs` must be more than half of the capacity of the old table. Returns `None` if the larger table would
+/// have `max` buckets or more, which links cannot number, or would take more than `isize::MAX - 15` bytes.
 
 pub fn larger_table(max: usize, entry_bytes: usize, buckets: usize, pairs: usize) -> Option<(usize, usize)> {
     let need = buckets_for_capacity(pairs, max)?;
@@ -37,7 +37,7 @@ pub fn larger_table(max: usize, entry_bytes: usize, buckets: usize, pairs: usize
 }
 
 /// Returns the bytes of the largest table that has fewer than `max` buckets and takes at most `budget` bytes. A table
-/// has 4, 8, 16 or a greater power of 2 buckets. Returns 0 if there is no such table.
+/// has 4, 8, 16 or a greater power of 2 buckets. Returns 0 if no table fits.
 pub fn usage_within(max: usize, entry_bytes: usize, budget: usize) -> usize {
     let mut best = 0;
     for k in 0..62u32 {

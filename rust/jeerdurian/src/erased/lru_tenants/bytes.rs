@@ -1,5 +1,5 @@
 // Erased from crates/lru_tenants/src/bytes.rt: do not edit.
-//! One limit for the bytes of all tenants.
+//! `ByteTenants`.
 
 #[allow(unused_imports)]
 use crate::rattle_std::prelude::*;
@@ -82,8 +82,8 @@ impl<N: Eq + Hash + OwnedBytes, K: Eq + Hash + OwnedBytes, V: OwnedBytes, S: Key
     /// # Errors
     ///
     /// The tenants are unchanged. `AlreadyOpen`, or `OverTotal`: the limit and the bytes of the name are above `left`.
-    /// `Memory`: a larger table of tenants is needed, and memory or the limit does not permit it, or permits it but not
-    /// this tenant in it. After `Memory` the table may be larger, so `left` may be lower.
+    /// `Memory`: the table of tenants has to grow, but memory runs out, or the limit does not permit a larger table
+    /// with this tenant in it. After `Memory` the table may be larger, so `left` may be lower.
     pub fn open(&mut self, name: N, limit: u64) -> Result<(), TenantError> {
         laws::runs_keep_the_bytes::<N, ByteTenant<K, V, S>, S>();
         let _len = self.tenants.len();

@@ -13,8 +13,8 @@ use crate::rattle_std::hash::Hash;
 
 /// Carries out the calls in order, and returns one answer for each.
 ///
-/// The answers to a tenant's calls depend only on these calls, with two exceptions. Memory may run out. If the cache
-/// has a total limit, `open` may return `OverTotal`.
+/// The answers to a tenant's calls depend only on these calls, with two exceptions: memory may run out, and `open` may
+/// return `OverTotal` if the cache has a total limit.
 ///
 /// ```text
 /// let mut cache: TenantCache<u64, u64, u64> = TenantCache::new(alloc, [1, 2, 3, 4]);

@@ -7,19 +7,21 @@
 use crate::rattle_std::prelude::*;
 
 /// If an LRU cache of n places contains the n keys that were referenced last, it still does after any trace (`keys`).
-/// It misses exactly at the references whose reuse distance is at least n, and at the first reference to each key
-/// (`misses`).
+/// The cache misses exactly at the references whose reuse distance is at least n, and at the first reference to each
+/// key (`misses`).
 pub fn a_cache_is_the_newest<K: Eq>() {}
 
 /// More places never mean more misses.
 pub fn more_places_never_miss_more<K: Eq>() {}
 
-/// LRU is competitive, whatever both caches contain at first. Take any policy with h places, which may know the whole
-/// trace, and an LRU cache of k ≥ h places. The policy begins with the keys `first`, and pays `paid` times.
+/// LRU is competitive, whatever both caches contain at first. Take an LRU cache of k ≥ h places, and any policy with h
+/// places, which may know the whole trace. The policy begins with the keys `first`, and pays `paid` times.
 ///
 /// - If the policy stores each referenced key, and may load keys ahead, LRU misses at most
 ///   `k / (k + 1 - h) * paid + length first` times (`loads`).
+///
 /// - The same bound holds for a demand policy that begins with at most h keys (`demands`).
+///
 /// - If the policy need not store referenced keys, and k > h, LRU misses at most `k / (k - h) * paid + length first`
 ///   times (`bypasses`).
 pub fn lru_is_competitive<K: Eq>() {}
@@ -28,29 +30,29 @@ pub fn lru_is_competitive<K: Eq>() {}
 /// `paid` times, some demand policy with h places and the same first keys misses at most `paid` times.
 pub fn loading_ahead_gains_nothing<K: Eq>() {}
 
-/// A cache of n places is *included* in a cache of m places if its keys are keys of the larger cache, in the same
-/// order, and the larger cache contains at most m - n more keys. If the smaller cache is included before some calls, it
-/// is included after them (`included`). So the larger cache finds each key that the smaller cache finds (`finds`), and
-/// misses no more often in a trace (`misses`). `KeyCall` lists the calls.
+/// A cache of n places is *included* in a cache of m places if the larger cache contains its keys, in the same order,
+/// and at most m - n more keys. If the smaller cache is included, it is still included after any calls (`included`). So
+/// the larger cache finds each key that the smaller cache finds (`finds`), and misses no more often in a trace
+/// (`misses`). `KeyCall` lists the calls.
 pub fn a_smaller_cache_is_included<K: Eq>() {}
 
 /// A larger budget never means more misses. If the cache with the smaller budget contains the newest keys of the other
 /// cache, it still does after any trace (`front`), and misses at least as often (`misses`).
 pub fn a_larger_budget_never_misses_more<K: Eq>() {}
 
-/// Suppose that equal keys cost the same. If a cache with the limit n contains the longest beginning of the recency list
-/// that costs at most n, it still does after any trace, even if a key alone costs more than n (`keys`). It misses
+/// Suppose that equal keys cost the same. If a cache with the limit n contains the first keys of the recency list, up
+/// to a cost of n, it still does after any trace, even if a key alone costs more than n (`keys`). The cache misses
 /// exactly at the references that need more than n, and at the first reference to each key (`misses`).
 pub fn a_budget_keeps_the_newest<K: Eq>() {}
 
 /// A policy that stores each referenced key pays at least as often as MIN misses, whether it loads keys ahead (`loads`)
-/// or only on demand (`demands`). A policy that need not store referenced keys pays at least as often as MIN with
-/// bypass misses (`bypasses`). All these policies have n places, and begin with no keys. If MIN has a place, it is
-/// itself a policy of the first kind (`min`). MIN with bypass is a policy of the second kind (`bypass`).
+/// or only on demand (`demands`). MIN with bypass misses at most as often as any policy pays that need not store
+/// referenced keys (`bypasses`). All these policies have n places, and begin with no keys. If MIN has a place, it
+/// stores each referenced key (`min`). MIN with bypass is a policy that need not store referenced keys (`bypass`).
 pub fn min_is_best<K: Eq>() {}
 
 /// LRU is near MIN. MIN has h ≥ 1 places, and begins with no keys. LRU has k ≥ h places, and begins with any keys. LRU
 /// misses at most `k / (k + 1 - h)` times as often as MIN (`min`). If k > h, LRU misses at most `k / (k - h)` times as
-/// often as MIN with bypass (`bypass`). If LRU begins with no keys, and has as many places as MIN, it misses at least
-/// as often (`least`).
+/// often as MIN with bypass (`bypass`). If LRU begins with no keys, and has h places, it misses at least as often as
+/// MIN (`least`).
 pub fn lru_is_near_min<K: Eq>() {}

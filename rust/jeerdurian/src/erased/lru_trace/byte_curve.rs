@@ -1,5 +1,5 @@
 // Erased from crates/lru_trace/src/byte_curve.rt: do not edit.
-//! The misses of a trace in LRU caches with limits of bytes.
+//! `ByteCurve`.
 
 #[allow(unused_imports)]
 use crate::rattle_std::prelude::*;
@@ -33,9 +33,9 @@ impl From<AllocError> for SizeError {
 
 /// The misses of a trace in LRU caches with limits of bytes, counted in one pass.
 ///
-/// A reference needs the sizes of its key and of the other keys that were referenced after the last reference to this
-/// key. It misses if it is the first reference to its key, or if it needs more than the limit. The size of a key is
-/// what its first reference says. The memory is in proportion to the number of keys and of limits.
+/// A reference needs the size of its key, plus the sizes of the other keys that were referenced since the last
+/// reference to its key. A reference misses if it is the first to its key, or if it needs more than the limit. The
+/// first reference to a key says its size. The memory is in proportion to the number of keys and of limits.
 ///
 /// ```text
 /// let mut curve = ByteCurve::new(alloc, vec![in alloc; 10, 30]?)?;
@@ -127,7 +127,7 @@ impl ByteCurve {
         self.references += 1;
     }
 
-    /// References a key without counting the reference. Call this before the first `refer`.
+    /// References a key without counting the reference. Call `warm_up` before the first `refer`.
     ///
     /// Cost: as `refer`.
     ///
@@ -146,8 +146,7 @@ impl ByteCurve {
     ///
     /// # Errors
     ///
-    /// `Memory`: out of memory. `TooLarge`: the sizes of all keys would sum to 2 ^ 64 or more. In both cases the
-    /// reference is not counted.
+    /// After an error, the reference is not counted.
     pub fn refer(&mut self, key: &str, bytes: u64) -> Result<(), SizeError> {
         let _names = &self.numbers;
         let need = self.make(key, bytes)?;
@@ -160,12 +159,12 @@ impl ByteCurve {
         self.references
     }
 
-    /// Returns how many different keys were referenced, also in the warm-up.
+    /// Returns how many different keys were referenced, including in the warm-up.
     pub fn keys(&self) -> usize {
         self.distances.referenced()
     }
 
-    /// Returns how many bytes all referenced keys take together, also those of the warm-up.
+    /// Returns the sum of the sizes of all referenced keys, including the keys of the warm-up.
     pub fn bytes(&self) -> u64 {
         let _names = &self.numbers;
         self.total

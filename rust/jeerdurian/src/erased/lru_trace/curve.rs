@@ -1,5 +1,5 @@
 // Erased from crates/lru_trace/src/curve.rt: do not edit.
-//! The misses of a trace in LRU caches of every size.
+//! `Curve`.
 
 #[allow(unused_imports)]
 use crate::rattle_std::prelude::*;
@@ -40,7 +40,7 @@ impl Curve {
         Curve::make(alloc, None)
     }
 
-    /// Makes a curve that also keeps the references, for `best`, with 8 bytes for each.
+    /// Makes a curve that also keeps the references, for `best`. Each reference takes 8 bytes.
     ///
     /// ```text
     /// let mut curve = Curve::keeping_references(alloc)?;
@@ -118,7 +118,7 @@ impl Curve {
         Ok(())
     }
 
-    /// References a key without counting the reference. Call this before the first `refer`.
+    /// References a key without counting the reference. Call `warm_up` before the first `refer`.
     ///
     /// Cost: as `refer`.
     ///
@@ -163,7 +163,7 @@ impl Curve {
         }
     }
 
-    /// Returns the times of the next references. If the curve does not keep the references, returns `None`.
+    /// Returns the `Best` of the trace. If the curve does not keep the references, returns `None`.
     ///
     /// Cost: in proportion to the number of references.
     ///
@@ -182,7 +182,7 @@ impl Curve {
         self.references
     }
 
-    /// Returns how many different keys were referenced, also in the warm-up.
+    /// Returns how many different keys were referenced, including in the warm-up.
     pub fn keys(&self) -> usize {
         self.firsts
     }

@@ -1,5 +1,5 @@
 // Erased from crates/lru_trace/src/curves.rt: do not edit.
-//! A curve in either measure.
+//! A curve of entries or of bytes.
 
 #[allow(unused_imports)]
 use crate::rattle_std::prelude::*;
@@ -32,7 +32,7 @@ impl AnyCurve {
         }
     }
 
-    /// References a key, and counts the reference unless `warm`.
+    /// References a key, and counts the reference unless `warm` is true.
     pub(crate) fn refer(&mut self, warm: bool, key: &str, size: u64) -> Result<(), SizeError> {
         if warm {
             return self.warm_up(key, size);
@@ -61,7 +61,7 @@ impl AnyCurve {
         }
     }
 
-    /// Returns the size of a cache for all keys.
+    /// Returns the size of a cache that can contain all keys.
     pub(crate) fn needed(&self) -> usize {
         match self {
             AnyCurve::Places(curve) => curve.keys(),

@@ -14,12 +14,12 @@ const MOST_LEVELS: u32 = 59;
 
 /// The keys of a trace, by the time of their last reference.
 ///
-/// Keys are the numbers that `add_key` or `add_weighed_key` returned. A key has the weight with which it was added, or
-/// 1.
+/// A key is a number that `add_key` or `add_weighed_key` returned. Its weight is 1, or the weight that
+/// `add_weighed_key` got.
 ///
 /// Each reference takes the next slot of a log, and the slot that its key had before becomes free. If the log is full,
 /// the keys move to the front of a new log. If about half of the slots or more contain keys, the new log has twice as
-/// many slots. So the memory is in proportion to the number of keys.
+/// many slots. The memory is in proportion to the number of keys.
 
 pub struct Distances {
     log: Vec<Option<usize>>,
@@ -124,7 +124,7 @@ impl Distances {
     }
 
     /// References a key, and returns the sum of the weights of the other keys that were referenced after its last
-    /// reference. If all weights are 1, this is the reuse distance. If the key was not referenced before, returns
+    /// reference. If all weights are 1, this sum is the reuse distance. If the key was not referenced before, returns
     /// `None`.
     ///
     /// Cost: `O(log n)` for n keys, amortised over the references.

@@ -20,12 +20,12 @@ pub struct Column {
     pub separator: u8,
 }
 
-/// What the size of a cache is.
+/// What the size of a cache counts: entries or bytes.
 #[derive(Clone, Copy, Debug, PartialEq, Eq)]
 pub enum Measure {
     /// How many entries the cache can contain.
     Places,
-    /// How many bytes its entries can take together.
+    /// How many bytes the entries can take together.
     Bytes,
 }
 
@@ -34,7 +34,7 @@ pub enum Measure {
 pub enum Policies {
     /// LRU. The first `warm_up` keys fill the caches, and their references are not counted.
     Lru { warm_up: u64 },
-    /// LRU and the best possible policies. All begin with no keys.
+    /// LRU and the best possible policies, which all begin with no keys.
     Best,
     /// LRU with limits of bytes, after a warm-up. The column `size` says how many bytes an entry takes.
     Sized { warm_up: u64, size: Column },

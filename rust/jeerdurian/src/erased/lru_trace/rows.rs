@@ -76,7 +76,7 @@ pub fn rows_of(
     Ok(rows)
 }
 
-/// The axis of sizes ends at the first power of two that is at least this number.
+/// Returns n. The axis of sizes ends at the first power of two that is at least n.
 pub fn end_of(needed: usize, bits: u32) -> u128 {
     (needed.max(1) as u128) << bits
 }

@@ -1,5 +1,5 @@
 // Erased from crates/lru_trace/src/svg.rt: do not edit.
-//! The picture of the curves. Its lengths are tenths of a pixel.
+//! The picture of the curves, in tenths of a pixel.
 
 #[allow(unused_imports)]
 use crate::rattle_std::prelude::*;

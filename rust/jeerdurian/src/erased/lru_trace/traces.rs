@@ -1,5 +1,5 @@
 // Erased from crates/lru_trace/src/traces.rt: do not edit.
-//! Reads a trace from lines, and writes its report.
+//! `trace`.
 
 #[allow(unused_imports)]
 use crate::rattle_std::prelude::*;
@@ -31,7 +31,7 @@ fn add_limits(limits: &mut Vec<u64>, sizes: &[usize], bits: u32) -> Result<(), A
     Ok(())
 }
 
-/// Returns what the named sizes and all powers of two stand for.
+/// Returns the limits in the sample for the named sizes and for all powers of two.
 fn limits_of(alloc: Global, sizes: &[usize], bits: u32) -> Result<Vec<u64>, AllocError> {
     let mut limits = Vec::new(alloc);
     add_limits(&mut limits, sizes, bits)?;
@@ -72,10 +72,10 @@ fn read_trace<R: BufRead, P: Write>(
 
 /// Reads a trace, and writes how often LRU caches of each size miss. `docs/TRACE.md` describes the output.
 ///
-/// The first line names sizes. A later line spells a key if the line, or a column of it, is text of 1 to 64 bytes.
-/// With `Policies::Sized` the line must also spell a size. Otherwise it counts as malformed. `Policies::Best` also
-/// writes the misses of the best possible policies: in the text form for each named size, and in the other forms also
-/// for each power of two.
+/// The first line names sizes. A later line spells a key if the line, or a column of it, is text of 1 to 64 bytes. With
+/// `Policies::Sized` the line must also spell a size. Any other line counts as malformed. `Policies::Best` also writes
+/// the misses of the best possible policies: in the text form for each named size, and in the other forms also for each
+/// power of two.
 ///
 /// Cost: `O(log n)` expected for each line and n keys. The memory is in proportion to the number of keys and the
 /// longest line. With `Policies::Best` the memory is also in proportion to the number of lines, and each size costs
@@ -83,9 +83,9 @@ fn read_trace<R: BufRead, P: Write>(
 ///
 /// # Errors
 ///
-/// `Read`: a read failed, or there were 2 ^ 64 - 2 lines. `Memory`: out of memory. `TooLarge`: the sizes of all keys sum
-/// to 2 ^ 64 or more. In these cases nothing of the report was written. `Write`: a write or the flush failed; a
-/// beginning of the report was written.
+/// `Read`: a read failed, or there were 2 ^ 64 - 2 lines. `Memory`: out of memory. `TooLarge`: the sizes of all keys
+/// sum to 2 ^ 64 or more. After `Read`, `Memory` or `TooLarge`, nothing of the report was written. `Write`: a write or
+/// the flush failed; a part of the report was written.
 pub fn trace<R: BufRead, W: Write, P: Write>(
     alloc: Global,
     options: Options,

@@ -1,9 +1,9 @@
 // Erased from crates/lru_trace/src/warm_ups.rt: do not edit.
-//! What the misses after a warm-up are.
+//! A law on the misses after a warm-up.
 
 #[allow(unused_imports)]
 use crate::rattle_std::prelude::*;
 
-/// The misses after a warm-up are the misses of the whole trace, minus the misses of the warm-up (`minus`). They are
-/// also the misses of an LRU cache that begins with the keys left by the warm-up (`faults`).
+/// The misses after a warm-up are the misses of the whole trace, minus the misses of the warm-up (`minus`). An LRU
+/// cache that begins with the keys left by the warm-up misses equally often (`faults`).
 pub fn a_warm_up_is_left_out<K: Eq>() {}

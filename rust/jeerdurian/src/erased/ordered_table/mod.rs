@@ -1,8 +1,8 @@
 // Erased from crates/ordered_table/src/lib.rt: do not edit.
 //! The table of an LRU map: a bucket table whose entries are in an order, newest first.
 //!
-//! [`OrderedTable`] moves an entry to either end of the order, or takes it out, in constant time. It has no limiter.
-//! `LruMap` of `schnellru` adds one.
+//! [`OrderedTable`] moves an entry to either end of the order, or takes it out, in constant time. `LruMap` of
+//! `schnellru` adds a limiter.
 
 #[allow(unused_imports)]
 use crate::rattle_std::prelude::*;

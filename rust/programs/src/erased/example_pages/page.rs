@@ -24,7 +24,7 @@ pub struct Header {
     pub number: u64,
     /// The place of the page among the pages of its transaction.
     pub place: u64,
-    /// The number of pages of its transaction.
+    /// The number of pages of the transaction.
     pub count: u64,
 }
 

@@ -9,17 +9,17 @@ use crate::programs::example_pages::store::{Sizes, Store, StoreError};
 use crate::programs::test_helpers::Random;
 use crate::rattle_std::alloc::Global;
 
-/// With these sizes the cache evicts, and the log is full after a few transactions.
+/// Sizes so small that the cache evicts, and that the log is full after a few transactions.
 const SIZES: Sizes = Sizes { pages: 4, log: 8, cache: 2 };
 
-/// How many records the trial changes: three of each page, one of which lies across two sectors.
+/// How many records the trial changes: three of each page, including one that lies across two sectors.
 const USED: u64 = 12;
 
 fn id_of(n: u64) -> u64 {
     (n / 3).wrapping_mul(RECORDS).wrapping_add((n % 3).wrapping_mul(31))
 }
 
-/// More calls than the work between two crashes makes.
+/// A number greater than the number of calls between two crashes.
 const CALLS: u64 = 150;
 
 type Files<'a> = (Disk<'a>, Disk<'a>);

@@ -12,7 +12,7 @@ use crate::rattle_std::alloc::{AllocError, Global};
 /// What an entry costs in addition to the bytes of its path and of its response.
 const OVERHEAD: u64 = 64;
 
-/// A response. It is stale from the time `expires` on.
+/// A response, which is stale from the time `expires` on.
 
 pub struct Response {
     pub body: Vec<u8>,
@@ -123,7 +123,8 @@ impl ResponseCache {
         }
     }
 
-    /// Stores a response. Returns whether the host has it afterwards, and how many other responses were evicted.
+    /// Stores a response. Returns whether the host has the response afterwards, and how many other responses were
+    /// evicted.
     pub fn put(&mut self, host: &str, path: &str, response: Response) -> (Result<bool, TenantError>, u64) {
         let before = self.others(host, path);
         let stored = put_path(self.alloc, &mut self.entries, host, path, response);
@@ -131,8 +132,8 @@ impl ResponseCache {
         (stored, evicted)
     }
 
-    /// Returns a copy of the path's response if it is fresh, and counts a hit. Otherwise counts a miss, and removes a
-    /// stale response.
+    /// If the path's response is fresh, returns a copy, and counts a hit. If there is no fresh response, counts a miss,
+    /// and removes a stale response.
     pub fn get(&mut self, host: &str, path: &str, now: u64) -> Result<Option<Response>, TenantError> {
         drop_stale(&mut self.entries, host, path, now)?;
         match self.entries.get_counted(&host, &path)? {

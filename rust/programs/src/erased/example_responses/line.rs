@@ -5,7 +5,7 @@ use crate::rattle_std::prelude::*;
 #[derive(Clone, Copy)]
 pub enum Expiry {
     At(u64),
-    /// After this time, as `max-age` of HTTP's `Cache-Control` says.
+    /// The response expires after this time, as with `max-age` of HTTP's `Cache-Control`.
     MaxAge(u64),
 }
 

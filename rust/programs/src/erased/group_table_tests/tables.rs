@@ -1,5 +1,5 @@
 // Erased from crates/group_table_tests/src/tables.rt: do not edit.
-//! Tables for tests, and the rules of docs/TABLE.md over a list with the key of each bucket.
+//! Tables for tests, and the rules of docs/TABLE.md for a list with the key of each bucket.
 #[allow(unused_imports)]
 use crate::rattle_std::prelude::*;
 
@@ -98,8 +98,8 @@ pub(super) fn exchange(keys: &mut [Option<u64>], b: usize, key: Option<u64>) -> 
 }
 
 /// Moves the keys of `old` in order, each into the first free bucket. In a rehash, a key stays if its bucket is among
-/// the first 16 that a search for it visits. A bucket whose key has not moved yet counts as free, and this key moves
-/// next.
+/// the first 16 that a search for it visits. If a key takes the bucket of a key that has not moved yet, this other key
+/// moves next.
 pub(super) fn keys_after(
     alloc: Global,
     old: &[Option<u64>],

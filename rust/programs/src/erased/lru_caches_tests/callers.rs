@@ -28,7 +28,7 @@ pub fn write_durably<D: BlockDevice<u64>>(
     cache.flush()
 }
 
-/// Returns whether the key is in the map. If it is, writes the value under it.
+/// Returns whether the key is in the map. If the key is there, writes the value under it.
 pub fn overwrite(map: &mut OrderedMap<u64, u64>, key: u64, value: u64) -> bool {
     match map.get_mut(&key) {
         Some(place) => {
@@ -39,7 +39,7 @@ pub fn overwrite(map: &mut OrderedMap<u64, u64>, key: u64, value: u64) -> bool {
     }
 }
 
-/// Looks a path up, or else stores how many bytes its page has. Returns whether the path was there.
+/// Looks a path up. If the path is not there, stores how many bytes its page has. Returns whether the path was there.
 pub fn visit(pages: &mut CountedMap<String, u64, ByLength>, path: String, bytes: u64) -> Result<bool, AllocError> {
     if pages.promote(&path) {
         return Ok(true);

@@ -13,7 +13,7 @@ pub struct DiskError;
 /// What a failed write leaves in its block.
 pub const TORN: u64 = 99;
 
-/// A disk of four blocks. What is written stays in a volatile cache until a sync.
+/// A disk of four blocks. A written block stays in a volatile cache until a sync.
 ///
 /// After `calls_left` calls, the next call fails. A failed write leaves its block torn. A crash or a failed `sync`
 /// loses what was written to the blocks of `dropped` since the last sync, and keeps what was written to the other

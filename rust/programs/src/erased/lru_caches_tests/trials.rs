@@ -1,5 +1,5 @@
 // Erased from crates/lru_caches_tests/src/trials.rt: do not edit.
-//! What no contract says: how often functions and devices are called, and that inserts find memory.
+//! Tests what no contract says: how often functions and devices are called, and that inserts find memory.
 #[allow(unused_imports)]
 use crate::rattle_std::prelude::*;
 
@@ -30,7 +30,8 @@ fn an_ordered_map_of_many_keys() {
     run(HostRuntime).passes();
 }
 
-/// A disk that fails at each of its calls in turn. It then fails again after the same number of calls, or stays broken.
+/// A disk that fails at each of its calls in turn, and then fails again after the same number of calls, or stays
+/// broken.
 #[test]
 fn a_disk_that_fails() {
     let run = |rt: HostRuntime| -> () {

@@ -7,7 +7,7 @@ use crate::rattle_std::prelude::*;
 
 use crate::erased::lru_limits::{Admission, Limiter, Summing};
 
-/// Limits the bytes of all texts together. It rejects a text that is longer than the limit.
+/// Limits the bytes of all texts together. Rejects a text that is longer than the limit.
 #[derive(Clone, Copy, Debug)]
 pub struct ByTextLength {
     pub limit: u64,

@@ -1,5 +1,5 @@
 // Erased from crates/lru_limits_tests/src/limiters.rt: do not edit.
-//! The texts of the limiters.
+//! The debug texts of limiters.
 #[allow(unused_imports)]
 use crate::rattle_std::prelude::*;
 

@@ -8,14 +8,14 @@ use crate::rattle_std::prelude::*;
 use crate::erased::lru_limits::KeyHasher;
 use crate::rattle_std::hash::Hash;
 
-/// A new map keeps to its cost (`KeepsToCost`) under these premises. Its limit is below 2 ^ 63. For each key, the limit
-/// is below 234,881,023 times the cost of the key. An entry takes fewer than 2 ^ 32 - 1 bytes, and the link type can
-/// number 2 ^ 31 buckets.
+/// A new map keeps to its cost (`KeepsToCost`) under these premises. The limit is below 2 ^ 63, and for each key below
+/// 234,881,023 times the cost of the key. An entry takes fewer than 2 ^ 32 - 1 bytes, and the link type can number 2 ^
+/// 31 buckets.
 pub fn maps_keep_to_their_cost<K: Eq + Hash, V, S: KeyHasher<K>>() {}
 
-/// These calls make a reference if they return `Ok`: an insert, a `try_insert`, and a call of a memo. The inserted
-/// entry must cost what its key costs, and at most the limit. A get and a promotion make a reference if the map
-/// contains the key. A value that is written through the get must cost as much as the old value.
+/// These calls make a reference if they return `Ok`: an insert, a `try_insert`, and a call of a memo. The weight of the
+/// inserted entry must be the cost of its key, and at most the limit. A get and a promotion make a reference if the map
+/// contains the key. A value that is written through a get must cost as much as the old value.
 pub fn calls_make_references<K: Eq + Hash, V, S: KeyHasher<K>>() {}
 
 /// Like inserts (see `calls_make_references`), `ensure_newest` and `get_or_insert` make a reference if they return
@@ -31,7 +31,7 @@ pub fn gets_that_insert_if_made_make_references<K: Eq + Hash, V, E, F: FnOnce() 
 /// (`stored`). Equal keys must cost the same.
 pub fn references_keep_the_newest<K: Eq + Hash, V, S: KeyHasher<K>>() {}
 
-/// More capacity never means more misses. Suppose that the references of one trace are made on two maps, by any calls.
-/// If the keys of the map with the smaller limit were the newest keys of the other map, they still are after the trace
-/// (`front`), and the map with the smaller limit misses at least as often (`misses`).
+/// More capacity never means more misses. Suppose that the references of one trace are made on two maps, by any calls,
+/// and that the keys of the map with the smaller limit were the newest keys of the other map. After the trace they
+/// still are (`front`), and the map with the smaller limit missed at least as often (`misses`).
 pub fn more_capacity_never_misses_more<K: Eq + Hash, V, S: KeyHasher<K>>() {}

@@ -1,5 +1,5 @@
 // Erased from crates/lru_replay_tests/src/costs.rt: do not edit.
-//! Programs with `String` keys under a limit of cost. Their contracts say how often they load a value.
+//! Programs with `String` keys under a limit of cost, whose contracts say how often they load a value.
 
 #[allow(unused_imports)]
 use crate::rattle_std::prelude::*;
@@ -98,8 +98,8 @@ fn try_to_remember<F: FnOnce() -> Result<Vec<u8>, u64>>(
     Ok(kept)
 }
 
-/// Inserts a text under a number, with a limit of weight. If the entry costs what its key costs, and at most the limit,
-/// a successful call is a reference.
+/// Inserts a text under a number, with a limit of weight. If the weight of the entry is the cost of its key, and at
+/// most the limit, a successful call is a reference.
 fn insert_weighed(map: &mut LruMap<u64, String, ByWeight<16>>, key: u64, text: String) -> Result<bool, AllocError> {
     calls_make_references::<u64, String, RandomState>();
     let kept = map.insert(key, text)?;

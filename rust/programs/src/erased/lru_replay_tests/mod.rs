@@ -1,5 +1,5 @@
 // Erased from crates/lru_replay_tests/src/lib.rt: do not edit.
-//! Callers of the laws of `lru_replay`, and tests of what none of its contracts says.
+//! Callers of the laws of `lru_replay`, and tests of what no contract says.
 
 #[allow(unused_imports)]
 use crate::rattle_std::prelude::*;

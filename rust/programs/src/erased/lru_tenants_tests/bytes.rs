@@ -1,5 +1,5 @@
 // Erased from crates/lru_tenants_tests/src/bytes.rt: do not edit.
-//! A cache of pages for many hosts. All of it takes at most its limit.
+//! A cache of pages for many hosts. The whole cache takes at most its limit.
 
 #[allow(unused_imports)]
 use crate::rattle_std::prelude::*;
@@ -11,7 +11,7 @@ use crate::rattle_std::test::Fail;
 
 type Pages = ByteTenants<String, String, String>;
 
-/// Gets the page of each path of a host, or else puts it. Returns how many pages were there.
+/// Gets the page of each path of a host, or puts the page if it is not there. Returns how many pages were there.
 fn serve(pages: &mut Pages, host: &str, paths: Vec<String>) -> Result<u64, TenantError> {
     let mut hits = 0u64;
     for path in paths {
@@ -29,7 +29,7 @@ fn serve(pages: &mut Pages, host: &str, paths: Vec<String>) -> Result<u64, Tenan
 /// limit.
 fn serve_within(pages: &mut Pages, host: &str, paths: Vec<String>) -> Result<u64, TenantError> {
     let served = serve(pages, host, paths);
-    // The clause `within` of `len`.
+    // Shows the prover the clause `within` of `len`.
     let _len = pages.len();
     served
 }

@@ -21,7 +21,7 @@ pub fn page_of(path: &String) -> Result<String, TenantError> {
     }
 }
 
-/// Gets the page of each path of a host, or else puts it. Returns how many pages were there.
+/// Gets the page of each path of a host, or puts the page if it is not there. Returns how many pages were there.
 fn serve(pool: &mut TenantPool<String, String, String>, host: &str, paths: Vec<String>) -> Result<u64, TenantError> {
     calls_spare_other_tenants::<String, String, String, ByCost, RandomState>();
     let mut hits = 0u64;

@@ -1,5 +1,5 @@
 // Erased from crates/lru_tenants_tests/src/memory.rt: do not edit.
-//! A list of calls takes the memory of its answers.
+//! Tests the memory that a list of calls takes for its answers.
 #[allow(unused_imports)]
 use crate::rattle_std::prelude::*;
 

@@ -7,8 +7,7 @@ use crate::programs::lru_replay::lines::words;
 use crate::programs::rows::limiters::{Numbered, number_of};
 use crate::rattle_std::alloc::Global;
 
-/// Returns the calls that the lines spell: lines of the program `replay`, or other lines. A line that spells no call
-/// becomes a call for the figures, so its row fails.
+/// Returns the calls that the lines spell. A line that spells no call becomes `Call::Stats`, so its row fails.
 pub fn calls_of<L: Numbered>(alloc: Global, lines: &str) -> Vec<Call<u64, u64, L>> {
     let mut calls = Vec::new(alloc);
     for line in lines.lines() {

@@ -1,5 +1,5 @@
 // Erased from crates/rows/src/escapes.rt: do not edit.
-//! Escapes. They spell bytes that a line of a text file cannot contain.
+//! Escapes, which spell bytes that a line of a text file cannot contain.
 //!
 //! Each function returns `false` if the text is malformed.
 

@@ -9,7 +9,8 @@ use crate::programs::rows::streams::{Failure, Narrow, Slow, count_lines, error_a
 use crate::rattle_std::alloc::Global;
 use crate::rattle_std::io::{BufReader, ErrorKind};
 
-/// The longest input for which each read and each write fails in turn. For a longer input only the first three fail.
+/// The longest input for which each read and each write fails in turn. For a longer input only the first three reads
+/// and writes fail.
 const LONGEST_CUT: usize = 2000;
 
 type End = Result<ReplayEnd, ReplayError>;
@@ -74,8 +75,8 @@ fn with_failing_flush(alloc: Global, row: &Row, at: usize) -> bool {
     end == Err(ReplayError::Write) && writer.has(row.text.as_slice(), 1)
 }
 
-/// Returns whether the replay ends correctly if read `at` fails. If the first line names no limiter, the replay reads
-/// no other line.
+/// Returns whether the replay ends correctly if read number `at` fails. If the first line names no limiter, the replay
+/// reads no other line.
 fn with_failing_read(alloc: Global, row: &Row, at: usize) -> bool {
     let input = row.input.as_slice();
     let slow = Slow::new(input, 1).failing(at, error_at(at));
@@ -89,8 +90,8 @@ fn with_failing_read(alloc: Global, row: &Row, at: usize) -> bool {
     end == Some(Err(ReplayError::Read)) && writer.has(text, 1)
 }
 
-/// Lets write `at` fail, on a writer that takes single bytes. Returns whether the first `at` bytes of the text are
-/// written, no line is read after the line that was being answered, and nothing is flushed.
+/// Lets write number `at` fail, on a writer that takes single bytes. Returns whether the first `at` bytes of the text
+/// are written, no line is read after the line that was being answered, and nothing is flushed.
 fn with_failing_write(alloc: Global, row: &Row, at: usize) -> bool {
     let failure = if at % 4 == 0 { Failure::NoBytes } else { Failure::Error(error_at(at)) };
     let mut reader = row.input.as_slice();

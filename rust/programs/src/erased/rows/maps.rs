@@ -1,5 +1,5 @@
 // Erased from crates/rows/src/maps.rt: do not edit.
-//! Rows of calls on a map under any limiter. The program `replay` cannot spell all these limiters and calls.
+//! Rows of calls on a map, including limiters and calls that the program `replay` cannot spell.
 #[allow(unused_imports)]
 use crate::rattle_std::prelude::*;
 

@@ -6,7 +6,7 @@ use crate::rattle_std::prelude::*;
 use crate::rattle_std::alloc::Global;
 use crate::rattle_std::io::{self, Error, ErrorKind, Read, Write};
 
-/// Gives at most `most` bytes in each read, and fails at read `fails_at`, counted from 0.
+/// Gives at most `most` bytes in each read, and fails at read number `fails_at`, counted from 0.
 
 pub struct Slow<'a> {
     bytes: &'a [u8],

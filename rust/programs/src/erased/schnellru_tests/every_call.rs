@@ -1,6 +1,6 @@
 // Erased from crates/schnellru_tests/src/every_call.rt: do not edit.
-//! Every public call that may change a map is a step, or steps one after another, for any types. So the laws on steps
-//! and on runs hold for every call.
+//! Every public call that may change a map is a step, or several steps. So the laws on steps and on runs hold for every
+//! call.
 
 #[allow(unused_imports)]
 use crate::rattle_std::prelude::*;

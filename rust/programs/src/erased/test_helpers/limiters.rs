@@ -1,5 +1,5 @@
 // Erased from crates/test_helpers/src/limiters.rt: do not edit.
-//! Limiters of maps from numbers to numbers. Put each into a map as `Storing(..)`.
+//! Limiters of maps from numbers to numbers. Put such a limiter into a map as `Storing(..)`.
 
 #[allow(unused_imports)]
 use crate::rattle_std::prelude::*;
@@ -27,8 +27,8 @@ impl<N: LinkType> Limiter<u64, u64> for LinkedBy<N> {
     }
 }
 
-/// Is over the limit at every length or at none, and permits every second growth. Counts removals and growths, and
-/// keeps their last arguments.
+/// Is either always or never over its limit, and permits every second growth. Counts removals and growths, and keeps
+/// their last arguments.
 #[derive(Clone, Copy, Debug)]
 pub struct Alternating {
     pub over: bool,

@@ -1,5 +1,5 @@
 // Erased from crates/trace/src/main.rt: do not edit.
-//! The program of `docs/TRACE.md`. If standard error is a terminal, it shows the progress there.
+//! The program of `docs/TRACE.md`. Shows its progress on standard error, if this is a terminal.
 
 #[allow(unused_imports)]
 use crate::rattle_std::prelude::*;
@@ -184,7 +184,7 @@ fn run(rt: &HostRuntime, options: Options) -> ExitCode {
     let waiting = if errors.is_terminal() { Some(errors) } else { None };
     let mut progress = Progress::new(rt.alloc(), waiting);
     let end = trace(rt.alloc(), options, &mut reader, &mut writer, &mut progress);
-    // After a failed write the buffer still contains bytes. Dropping the buffer would write them again.
+    // After a failed write, dropping the buffer would write its bytes again.
     let (_output, _unwritten) = writer.into_parts();
     ExitCode::from(status(&end))
 }

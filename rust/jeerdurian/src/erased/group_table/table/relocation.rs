@@ -1,6 +1,6 @@
 // Erased from crates/group_table/src/table/relocation.rt: do not edit.
-//! The calls of `Table` that move every entry. They do not require `T: Drop`, so code that forgets an entry or a table
-//! does not compile.
+//! The calls of `Table` that move every entry. The compiler would reject a call that loses an entry, because entries
+//! need not implement `Drop`.
 
 #[allow(unused_imports)]
 use crate::rattle_std::prelude::*;
@@ -20,9 +20,9 @@ impl<T> Table<T> {
     ///
     /// A table without entries may move to 0 buckets, which frees its memory.
     ///
-    /// The result contains a link for each old bucket: the number of its entry's new bucket, or `MAX` if the old bucket
-    /// was free. The result is empty for a table without entries. `hash_of` is called once for each entry. Afterwards
-    /// no bucket is deleted. Takes time O(old buckets + new buckets).
+    /// The result contains a link for each old bucket: the new bucket of its entry, or `MAX` if the old bucket was
+    /// free. For a table without entries, the result is empty. `hash_of` is called once for each entry. Afterwards no
+    /// bucket is deleted. Takes time O(old buckets + new buckets).
     ///
     /// # Errors
     ///

@@ -9,11 +9,11 @@ use crate::erased::lru_caches::file_device::durable::Durable;
 use crate::erased::lru_caches::file_device::recorded::{RecordedFile, blocks_of};
 use crate::rattle_std::io::{Read, Seek, Write};
 
-/// A device of the blocks of a file, of `N` bytes each, with a checksum in the last 8 bytes of each block.
+/// A device whose blocks are parts of a file. Each block has `N` bytes.
 ///
-/// A write replaces the last 8 bytes by the hash of the other bytes and of the block's number. Contracts see only the
-/// other bytes. A read returns `Ok` only if the block has its checksum. So if the hash differs, a read detects a torn
-/// or damaged block, or a block of another number.
+/// A write replaces the last 8 bytes of a block by a checksum: the hash of the other bytes and of the block's number.
+/// Contracts do not see the checksum. A read returns `Ok` only if the checksum is right. So a read detects a torn or
+/// damaged block, or a block of another number, unless the hashes happen to be equal.
 ///
 /// [`FileDevice`]: crate::FileDevice
 ///

@@ -22,7 +22,7 @@ pub trait Question<K, V> {}
 
 /// A table of the newest answers to a question, up to a limit. A function that calls itself can store its results here.
 ///
-/// The caller of `store` proves that the value is an answer. So each value that `get` returns is an answer.
+/// `get` returns only answers, because the caller of `store` proves that the value is an answer.
 ///
 /// ```text
 /// let mut squares = MemoTable::new(alloc, ByLength::new(9), Squares);

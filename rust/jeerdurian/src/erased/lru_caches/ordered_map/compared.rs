@@ -13,9 +13,9 @@ use crate::rattle_std::hash::Hash;
 /// assert!(rt; map == map && map != OrderedMap::new(alloc));
 /// ```
 ///
-/// Cost: if the lengths differ, `O(1)`, else `O(n)` for n entries.
+/// Cost: `O(1)` if the lengths differ, else `O(n)` for n entries.
 ///
-/// After std's `Vec`. Maps of indexmap are equal if they have the same entries in any order.
+/// Follows std's `Vec`. Maps of indexmap are equal if they have the same entries in any order.
 impl<K: Eq + Hash, V: PartialEq, S: KeyHasher<K>> PartialEq for OrderedMap<K, V, S> {
     fn eq(&self, other: &Self) -> bool {
         self.map == other.map
@@ -28,7 +28,7 @@ impl<K: Eq + Hash, V: PartialEq, S: KeyHasher<K>> PartialEq for OrderedMap<K, V,
 /// assert_eq!(rt; format!(in alloc; "{map:?}")?.as_str(), "{1: 11, 2: 20}");
 /// ```
 ///
-/// After std's `HashMap`.
+/// Follows std's `HashMap`.
 impl<K: Eq + Hash + fmt::Debug, V: fmt::Debug, S: KeyHasher<K>> fmt::Debug for OrderedMap<K, V, S> {
     fn fmt(&self, f: &mut fmt::Formatter<'_>) -> fmt::Result {
         let mut shown = f.debug_map();

@@ -7,7 +7,7 @@ use crate::erased::schnellru::KeyHasher;
 use crate::rattle_std::hash::Hash;
 use crate::rattle_std::iter::FusedIterator;
 
-/// A double-ended iterator that takes the entries of an ordered map out, oldest first. A drop of the iterator drops the
+/// A double-ended iterator that takes out the entries of an ordered map, oldest first. Dropping the iterator drops the
 /// remaining entries.
 ///
 /// ```text

@@ -24,8 +24,8 @@ impl<B: Copy, D: BlockDevice<B>, S: KeyHasher<u64>> PageCache<B, D, S> {
 
     /// Returns a block, and makes its page the newest.
     ///
-    /// If the page is not cached and the cache is full, evicts the oldest page that may be evicted. If that page is
-    /// dirty, writes it to the device first. A pinned page may not be evicted. If the cache
+    /// If the page is not cached and the cache is full, evicts the oldest page that may be evicted. If the evicted page
+    /// is dirty, writes it to the device first. A pinned page may not be evicted. If the cache
     /// [keeps dirty pages](Self::set_keeps_dirty), a dirty page may not be evicted either.
     ///
     /// ```text
@@ -33,12 +33,12 @@ impl<B: Copy, D: BlockDevice<B>, S: KeyHasher<u64>> PageCache<B, D, S> {
     /// ```
     ///
     /// Cost: `O(1)` expected, amortised over the growth of the table, and at most one read and one write of the device.
-    /// If a page is evicted, also `O(k)` for k older pages that may not be evicted.
+    /// An eviction also takes `O(k)` for k older pages that may not be evicted.
     ///
     /// # Errors
     ///
-    /// Fails only if the page is not cached. `Broken`, `NoBlock` or `Full`: see [`PageError`]. `Device`: the read
-    /// failed, or a page could not be written back; no page was evicted. `Memory`: a page may have been evicted.
+    /// Fails only if the page is not cached. `Broken`, `NoBlock` or `Full`: see [`PageError`]. `Device`: the read, or
+    /// the write of a dirty page, failed, and no page was evicted. `Memory`: a page may have been evicted.
     pub fn read(&mut self, n: u64) -> Result<B, PageError<D::Error>> {
         self.read_with(n, |block| *block)
     }
@@ -59,7 +59,7 @@ impl<B: Copy, D: BlockDevice<B>, S: KeyHasher<u64>> PageCache<B, D, S> {
         Ok(read_newest(&self.map, read))
     }
 
-    /// Calls `read` for each of these numbers, in order.
+    /// Calls `read` for each number of the range, in order.
     ///
     /// ```text
     /// assert!(rt; cache.prefetch(2..4) == Ok(()) && cache.contains(2) && cache.contains(3));
@@ -69,7 +69,7 @@ impl<B: Copy, D: BlockDevice<B>, S: KeyHasher<u64>> PageCache<B, D, S> {
     ///
     /// # Errors
     ///
-    /// The error of the first `read` that fails. The blocks before it were read.
+    /// The error of the first `read` that fails. All earlier blocks were read.
     pub fn prefetch(&mut self, blocks: Range<u64>) -> Result<(), PageError<D::Error>> {
         for n in blocks.start..blocks.end {
             self.bring(n)?;
@@ -89,7 +89,7 @@ impl<B: Copy, D: BlockDevice<B>, S: KeyHasher<u64>> PageCache<B, D, S> {
     ///
     /// # Errors
     ///
-    /// `Broken`, even if the page is cached. Otherwise as `read`. After an error, the block is not replaced.
+    /// `Broken` is possible even if the page is cached. Otherwise as `read`. After an error, the block is not replaced.
     pub fn write(&mut self, n: u64, block: B) -> Result<(), PageError<D::Error>> {
         admit(&self.device, n)?;
         let hash = self.map.hasher().hash_named(&n);
@@ -115,7 +115,7 @@ impl<B: Copy, D: BlockDevice<B>, S: KeyHasher<u64>> PageCache<B, D, S> {
     ///
     /// # Errors
     ///
-    /// `Broken`, even if the page is cached. Otherwise as `read`. After an error, the closure is not called.
+    /// `Broken` is possible even if the page is cached. Otherwise as `read`. After an error, the closure is not called.
     pub fn write_with<R, U: FnOnce(&mut B) -> R>(&mut self, n: u64, write: U) -> Result<R, PageError<D::Error>> {
         if !self.device.is_usable() {
             return Err(PageError::Broken);

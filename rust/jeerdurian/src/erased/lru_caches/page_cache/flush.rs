@@ -86,7 +86,8 @@ impl<B: Copy, D: BlockDevice<B>, S: KeyHasher<u64>> PageCache<B, D, S> {
     /// If a page is cached and dirty, writes it to the device. The page is clean afterwards. Does not change the order
     /// of use.
     ///
-    /// This does not call `sync`. Until a `flush` returns `Ok`, a crash may leave the old block or a torn block.
+    /// `flush_page` does not call `sync`. Until a `flush` returns `Ok`, a crash may leave the old block or a torn
+    /// block.
     ///
     /// ```text
     /// assert_eq!(rt; (cache.dirty_len(), cache.flush_page(1), cache.dirty_len()), (1, Ok(()), 0));

@@ -47,7 +47,7 @@ impl<B: Copy, D: BlockDevice<B>, S: KeyHasher<u64>> PageCache<B, D, S> {
         is_pinned_at(&self.map, n)
     }
 
-    /// Returns whether dirty pages are kept until a flush. A new cache does not keep them.
+    /// Returns whether the cache keeps dirty pages until a flush. A new cache does not keep dirty pages.
     ///
     /// ```text
     /// assert_eq!(rt; (cache.keeps_dirty(), cache.write(0, 10), cache.read(2)), (true, Ok(()), Err(PageError::Full)));
@@ -58,8 +58,8 @@ impl<B: Copy, D: BlockDevice<B>, S: KeyHasher<u64>> PageCache<B, D, S> {
         self.keeps_dirty
     }
 
-    /// Sets whether dirty pages are kept until a flush. If they are kept, reads, writes and pins write nothing to the
-    /// device.
+    /// Sets whether the cache keeps dirty pages until a flush. While the cache keeps dirty pages, reads, writes and
+    /// pins write nothing to the device.
     ///
     /// ```text
     /// cache.set_keeps_dirty(true);

@@ -18,7 +18,7 @@ pub trait Budgeted<K, V>: Summing<K, V> {
     /// Returns the budget.
     fn budget(&self) -> u64;
 
-    /// Sets the budget. The running total stays, so a map may be over the new limit.
+    /// Sets the budget. The running total stays, so a map may then be over its limit.
     fn set_budget(&mut self, budget: u64);
 
     /// Returns whether `on_insert` would accept this entry of a new key.

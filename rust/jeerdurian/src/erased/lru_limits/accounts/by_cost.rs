@@ -6,10 +6,11 @@ use crate::erased::lru_limits::accounts::{Budgeted, Costed, Summing, sum_with};
 use crate::erased::lru_limits::admission::Admission;
 use crate::erased::lru_limits::limiter::Limiter;
 
-/// Limits the sum of the costs of the values. A contract sees the limiter as its limit and this sum.
+/// Limits the sum of the costs of the values. A contract sees the limiter as its limit and its running total.
 ///
 /// `ByCost` rejects an entry or a new value if the cost of the value alone is above the limit, or if the sum would pass
-/// `u64::MAX`. After `ByCost` accepts, the map evicts its oldest entries until the sum is within the limit.
+/// `u64::MAX`. After `ByCost` accepts an entry, the map evicts its oldest entries until the sum of the costs is within
+/// the limit.
 ///
 /// ```text
 /// let mut limiter = ByCost::new(3);

@@ -5,9 +5,9 @@ use crate::rattle_std::prelude::*;
 use crate::erased::lru_limits::admission::Admission;
 use crate::erased::lru_limits::limiter::Limiter;
 
-/// Limits the number of entries. A contract sees the limiter as this limit.
+/// Limits the number of entries. A contract sees the limiter as its limit.
 ///
-/// A map with this limiter has at most `max_length` entries after each call. But if the limit is lowered through
+/// A map under `ByLength` has at most `max_length` entries after each call. But if the limit is lowered through
 /// `limiter_mut`, the map may have more entries until a `trim`, or until `ByLength` accepts an insert or an update.
 /// `ByLength` rejects an entry only if `max_length` is 0.
 ///

@@ -5,7 +5,7 @@ use crate::rattle_std::prelude::*;
 use crate::erased::lru_limits::admission::Admission;
 use crate::erased::lru_limits::limiter::Limiter;
 
-/// Limits nothing. A map with this limiter is an ordered hash map.
+/// Limits nothing. A map under `Unlimited` is an ordered hash map.
 ///
 /// ```text
 /// assert!(rt; !Limiter::<u64, u64>::is_over_the_limit(&Unlimited, usize::MAX));

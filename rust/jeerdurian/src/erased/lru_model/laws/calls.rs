@@ -13,30 +13,30 @@ use crate::rattle_std::hash::Hash;
 /// is sound.
 pub fn calls_keep_maps<K: Eq + Hash, V, I: LookupKey<K>, L: Insertion<K, V, I>, S: KeyHasher<K>>() {}
 
-/// Suppose that the running total of the limiter is the sum of the costs of the entries. After each `Step` it is still
-/// this sum. Each `Summing` has such a running total (`IsAccount`).
+/// If the running total of the limiter is the sum of the costs of the entries, it is still their sum after each `Step`.
+/// The premise `IsAccount` is a law of `Summing`.
 pub fn calls_keep_sums<K: Eq + Hash, V, I: LookupKey<K>, L: Insertion<K, V, I>, S: KeyHasher<K>>() {}
 
 /// Suppose that the limiter limits the length to `most` entries (`LimitsLength`), as `ByLength` does. No `Step` changes
-/// this limit (`limit`). If there are at most `most` entries before a `Step`, there are at most `most` after it
+/// this limit (`limit`). If there are at most `most` entries before a `Step`, there are at most `most` entries after it
 /// (`length`).
 pub fn calls_keep_the_length<K: Eq + Hash, V, L: Insertion<K, V, K>, S: KeyHasher<K>>() {}
 
-/// Suppose that the limiter permits only tables of at most `most` bytes (`LimitsMemory`). `ByMemoryUsage` does so,
+/// Suppose that the limiter permits only tables of at most `most` bytes (`LimitsMemory`), as `ByMemoryUsage` does,
 /// alone or in `Storing` or `Both`. No `Step` changes this limit (`limit`). If the table takes at most `most` bytes
 /// before a `Step`, it takes at most `most` bytes after it (`usage`).
 pub fn calls_keep_the_memory_usage<K: Eq + Hash, V, L: Insertion<K, V, K>, S: KeyHasher<K>>() {}
 
-/// Suppose that the limiter has a budget, as `ByCost` and `ByWeight` have. No `Step` changes the budget (`budget`).
-/// Suppose that the running total is the sum of the costs of the entries, and at most the budget. Then it is at most
-/// the budget after each `Step` (`total`).
+/// Suppose that the limiter has a budget, as `ByCost` and `ByWeight` have. No `Step` changes the budget (`budget`). If
+/// the running total is the sum of the costs of the entries, and at most the budget, it is still at most the budget
+/// after each `Step` (`total`).
 pub fn calls_keep_the_budget<K: Eq + Hash, V, L: Budgeted<K, V>, S: KeyHasher<K>>() {}
 
 /// Each `AnyStep` adds at most one entry.
 pub fn calls_add_one_pair<K: Eq + Hash, V, I: LookupKey<K>, L: Insertion<K, V, I>, S: KeyHasher<K>>() {}
 
-/// A call evicts only the oldest of the entries whose keys it does not name. The newest of these entries stay, in their
-/// order. The law excludes `pop_newest`, which removes the newest entry.
+/// A call evicts only the oldest of the entries whose keys it does not name, and keeps the newer ones in their order.
+/// The law excludes `pop_newest`, which removes the newest entry.
 ///
 /// A call names the key that it inserts, updates, looks up or removes, and the key whose value it writes. A retain
 /// names the keys that its closure rejects.

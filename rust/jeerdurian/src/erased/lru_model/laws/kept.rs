@@ -10,19 +10,19 @@ use crate::rattle_std::hash::Hash;
 /// If the limiter changes no evicted or removed entry (`ChangesNoPair`), an insert loses no entry. `LosesNothing` says,
 /// for each result, where the new entry and the old entries are afterwards (`all`). If the result is true, the map has
 /// the stored entry and the newest entries of other keys, and the callback got the oldest entries, oldest first
-/// (`stored`). In each case, every old entry of another key is in the map or was passed to the callback (`others`).
+/// (`stored`). Whatever the result, every old entry of another key is in the map or was passed to the callback
+/// (`others`).
 pub fn nothing_is_lost<K: Eq + Hash, V, I: LookupKey<K>, L: Insertion<K, V, I>, S: KeyHasher<K>>() {}
 
-/// Suppose that growth is left. Then an insert changes the entries as it would change a plain list without a table
-/// (`list`), whatever `on_grow` returns. Suppose also that the key is new, and that the limiter accepts its entry and
-/// is then not over its limit. Then the insert returns true and evicts nothing (`added`), and passes nothing to its
-/// callback (`passed`).
+/// If growth is left, an insert changes the entries as it would change a plain list without a table (`list`), whatever
+/// `on_grow` returns. An insert of a new key returns true, evicts nothing (`added`), and passes nothing to its callback
+/// (`passed`), if growth is left, and the limiter accepts the entry and is not over its limit with it.
 pub fn inserts_with_room_are_exact<K: Eq + Hash, V, I: LookupKey<K>, L: Insertion<K, V, I>, S: KeyHasher<K>>() {}
 
 /// With `ByLength`, a successful insert leaves its entry first, under the stored key, and then the newest other
-/// entries, up to `max_length` entries in all. This holds if the map keeps to its length (`newest`; see
-/// `maps_keep_to_their_length`). It also holds if the map has at most `max_length` entries and growth left
-/// (`with_room`). If the map keeps to its length, inserts one after another leave the newest entries, too (`lists`).
+/// entries, up to `max_length` entries in all. The law holds for a map that keeps to its length (`newest`; see
+/// `maps_keep_to_their_length`), and for a map with at most `max_length` entries and growth left (`with_room`). If the
+/// map keeps to its length, inserts one after another leave the newest entries, too (`lists`).
 pub fn inserts_leave_the_newest<K: Eq + Hash, V, S: KeyHasher<K>>() {}
 
 /// If `max_length` is at most 939,524,096, and an entry has fewer than 4,294,967,295 bytes, a new map with `ByLength`

@@ -5,10 +5,9 @@ use crate::rattle_std::prelude::*;
 use crate::erased::lru_limits::{Budgeted, Insertion, KeyHasher, Limiter, LookupKey};
 use crate::rattle_std::hash::Hash;
 
-/// If `IsMap` holds of a map, it holds after any calls, and any writes through the references that they lend. So no two
-/// keys are equal, and inserts moved at most two entries for each entry that they stored, plus one for each entry that
-/// a shrink rehashed. `Run` includes that the table is sound after each call. The clause `map` of each call ensures
-/// this.
+/// If `IsMap` holds of a map, it still holds after any calls, and any writes through the references that they lend.
+/// `IsMap` implies that no two keys are equal, and the clause `paid` of `inserts_pay_for_moves`. In a `Run`, the table
+/// is sound after each call, as the clause `map` of each call ensures.
 pub fn runs_keep_maps<K: Eq + Hash, V, I: LookupKey<K>, L: Insertion<K, V, I>, S: KeyHasher<K>>() {}
 
 /// If the running total of the limiter is the sum of the costs of the entries, it is this sum after any `Step`s, too.
@@ -16,10 +15,10 @@ pub fn runs_keep_maps<K: Eq + Hash, V, I: LookupKey<K>, L: Insertion<K, V, I>, S
 pub fn runs_keep_sums<K: Eq + Hash, V, I: LookupKey<K>, L: Insertion<K, V, I>, S: KeyHasher<K>>() {}
 
 /// Over any calls, the count of moved entries, plus the potential, rises by at most 2 for each stored entry, plus 1 for
-/// each entry that a shrink rehashed. This holds until the count `placed` or `shrunk` reaches `u64::MAX`.
+/// each entry that a shrink rehashed. The bound holds until the count `placed` or `shrunk` reaches `u64::MAX`.
 pub fn runs_pay_for_moves<K: Eq + Hash, V, I: LookupKey<K>, L: Insertion<K, V, I>, S: KeyHasher<K>>() {}
 
-/// If no call is `pop_newest`, any calls evict only the oldest of the entries whose keys no call names.
+/// A run without `pop_newest` evicts only the oldest of the entries whose keys no call of the run names.
 pub fn runs_evict_the_oldest<K: Eq + Hash, V, I: LookupKey<K>, L: Insertion<K, V, I>, S: KeyHasher<K>>() {}
 
 /// `inserts_evict_the_oldest` holds of each insert of a run, and of each get that inserts, whatever the other calls of
@@ -43,5 +42,5 @@ pub fn runs_keep_the_memory_usage<K: Eq + Hash, V, L: Insertion<K, V, K>, S: Key
 /// the old values. Writes of other values do not change the budget, either (`budget`).
 pub fn runs_keep_the_budget<K: Eq + Hash, V, L: Budgeted<K, V>, S: KeyHasher<K>>() {}
 
-/// A new map, without entries or buckets, satisfies `IsMap`, the premise of `runs_keep_maps`.
+/// A new map, without entries or buckets, satisfies `IsMap`.
 pub fn runs_begin_with_maps<K: Eq + Hash, V, L: Limiter<K, V>, S: KeyHasher<K>>() {}

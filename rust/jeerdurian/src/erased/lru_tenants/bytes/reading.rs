@@ -34,7 +34,8 @@ impl<N: Eq + Hash + OwnedBytes, K: Eq + Hash + OwnedBytes, V: OwnedBytes, S: Key
         self.tenants.limiter().limit()
     }
 
-    /// Returns how many bytes the limit and the name of one more tenant may take in the present table.
+    /// Returns how many bytes the limit and the name of one more tenant may take, if the table of tenants does not
+    /// grow.
     ///
     /// ```text
     /// assert!(rt; bytes.left() < 3500);

@@ -10,7 +10,8 @@ use crate::erased::schnellru::{KeyHasher, LookupKey};
 use crate::rattle_std::hash::Hash;
 
 impl<N: Eq + Hash, K: Eq + Hash, V, L: Budgeted<K, V>, S: KeyHasher<K> + Copy> TenantCache<N, K, V, L, S> {
-    /// If the key is there, does what `get` does. Otherwise puts the value that the closure returns, and returns it.
+    /// If the key is there, does what `get` does. If the key is not there, puts the value that the closure returns, and
+    /// returns this value.
     ///
     /// `None` means that the tenant does not keep the new entry.
     ///
@@ -19,7 +20,7 @@ impl<N: Eq + Hash, K: Eq + Hash, V, L: Budgeted<K, V>, S: KeyHasher<K> + Copy> T
     /// assert_eq!(rt; cache.get_or_put(&1, 8, || 1), Ok(Some(&1)));
     /// ```
     ///
-    /// Cost: if the key is there, as `get`, else as `put`.
+    /// Cost: as `get` if the key is there, else as `put`.
     ///
     /// # Errors
     ///

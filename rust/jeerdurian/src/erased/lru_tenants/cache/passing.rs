@@ -12,9 +12,7 @@ use crate::rattle_std::alloc::AllocError;
 use crate::rattle_std::hash::Hash;
 
 impl<N: Eq + Hash, K: Eq + Hash, V, L: Budgeted<K, V>, S: KeyHasher<K> + Copy> TenantCache<N, K, V, L, S> {
-    /// Does what `put` does, and passes entries to the callback: the evicted entries, oldest first; an entry that is
-    /// removed because its new value is rejected; and the new entry if it could not be stored. Replaced values and
-    /// rejected entries of new keys are not passed on.
+    /// Does what `put` does, and passes the same entries to the callback as `LruMap::insert_with` does.
     ///
     /// ```text
     /// let mut left = 0u64;
@@ -41,11 +39,11 @@ impl<N: Eq + Hash, K: Eq + Hash, V, L: Budgeted<K, V>, S: KeyHasher<K> + Copy> T
     }
 
     /// Does what `put_with` does, and returns the value that the tenant does not keep, as [`Inserted`] says. If the
-    /// limiter rejects a new key's entry, its value is also returned: `kept` is false, the tenant stays as it is, the
-    /// callback gets nothing, and the key is dropped.
+    /// limiter rejects the entry of a new key, also returns its value, with a false `kept`. Such a rejection leaves the
+    /// tenant as it is, passes nothing to the callback, and drops the key.
     ///
-    /// If the key was there and is not kept, the callback got its entry. If the limiter rejected the new value, this
-    /// entry has the old value. Otherwise the entry has the new value.
+    /// If the key was there and is not kept, the callback got its entry: with the old value if the limiter rejected the
+    /// new value, and otherwise with the new value.
     ///
     /// ```text
     /// let replaced = cache.put_full(&1, 7, 3, &mut |_, _| {})?;
@@ -58,7 +56,8 @@ impl<N: Eq + Hash, K: Eq + Hash, V, L: Budgeted<K, V>, S: KeyHasher<K> + Copy> T
     ///
     /// # Errors
     ///
-    /// As `put`. After `NotOpen`, the key and the value are dropped. After `Memory`, the callback got both.
+    /// As `put`. After `NotOpen`, the key and the value are dropped. After `Memory`, the callback got the key and the
+    /// value.
     pub fn put_full<T: LookupKey<N>, F: FnMut(K, V)>(
         &mut self,
         name: &T,

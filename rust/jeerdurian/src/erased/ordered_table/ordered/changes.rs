@@ -1,6 +1,6 @@
 // Erased from crates/ordered_table/src/ordered/changes.rt: do not edit.
-//! The calls that change the order of an `OrderedTable`, or its buckets. Most of them first write the pending promotion
-//! into the links.
+//! The calls that change the order of an `OrderedTable`, or its buckets. Most of these calls first write the pending
+//! promotion, if any, into the links.
 
 #[allow(unused_imports)]
 use crate::rattle_std::prelude::*;
@@ -13,7 +13,7 @@ use crate::rattle_std::alloc::AllocError;
 use crate::rattle_std::hash::Hash;
 
 impl<K, V, N: LinkType> OrderedTable<K, V, N> {
-    /// Writes the pending promotion into the links. Then the compiler can omit this step in the next calls.
+    /// Writes the pending promotion into the links, so that the compiler can omit this step in the next calls.
     #[inline(always)]
     pub fn settle(&mut self) {
         settle(&mut self.linked, &mut self.promoted);
@@ -72,7 +72,7 @@ impl<K, V, N: LinkType> OrderedTable<K, V, N> {
         self.linked.take(b, false)
     }
 
-    /// Takes out the oldest entry. The table must not be empty. Does not read the older link of this entry.
+    /// Takes out the oldest entry. The table must not be empty. Does not read the link of this entry to an older entry.
     ///
     /// Cost: `O(1)`.
     #[inline(always)]
@@ -95,7 +95,7 @@ impl<K, V, N: LinkType> OrderedTable<K, V, N> {
 
 impl<K: Eq + Hash, V, N: LinkType> OrderedTable<K, V, N> {
     /// Offers a limiter a new value for the entry in a full bucket. Returns whether the limiter accepted the value. If
-    /// it did, the entry has this value afterwards, and `value` is the old one. The order stays.
+    /// the limiter accepted, the entry has the new value afterwards, and `value` is the old value. The order stays.
     #[inline]
     pub fn offer<I: LookupKey<K>, L: Insertion<K, V, I>>(
         &mut self,

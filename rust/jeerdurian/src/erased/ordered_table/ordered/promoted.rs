@@ -1,6 +1,6 @@
 // Erased from crates/ordered_table/src/ordered/promoted.rt: do not edit.
-//! The order of a table in which `promoted`, if there is one, is the newest bucket. The links may still have this
-//! bucket elsewhere.
+//! The order of a table whose newest bucket is `promoted`, if this is not `None`. In the links, `promoted` may still be
+//! elsewhere.
 
 #[allow(unused_imports)]
 use crate::rattle_std::prelude::*;

@@ -16,9 +16,9 @@ impl<K: TryClone, V: TryClone, L: Limiter<K, V> + TryClone, S: TryClone> LruMap<
     /// assert_eq!(rt; (copy.len(), map.len()), (2, 3));
     /// ```
     ///
-    /// A clone of a key must equal the key, and a clone of the hasher must return the same hashes. `Clone` cannot
-    /// require this, so `LruMap` does not implement it. Cost: `O(buckets)`, two allocations if the map has buckets, and
-    /// what the clones of keys, values, limiter and hasher allocate.
+    /// A clone of a key must equal the key, and a clone of the hasher must return the same hashes. `LruMap` does not
+    /// implement `Clone`, because `Clone` cannot require equal clones. Cost: `O(buckets)`, two allocations if the map
+    /// has buckets, and what the clones of keys, values, limiter and hasher allocate.
     ///
     /// # Errors
     ///

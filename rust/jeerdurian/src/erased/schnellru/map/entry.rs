@@ -1,5 +1,5 @@
 // Erased from crates/schnellru/src/map/entry.rt: do not edit.
-//! A handle on an entry that was searched for once.
+//! A handle on an entry that one search found.
 
 #[allow(unused_imports)]
 use crate::rattle_std::prelude::*;
@@ -8,7 +8,7 @@ use crate::erased::lru_limits::{KeyHasher, Limiter, LookupKey};
 use crate::erased::schnellru::map::LruMap;
 use crate::rattle_std::hash::Hash;
 
-/// A handle on an entry of a map, which `LruMap::find_entry` has found. No call of the handle searches again.
+/// A handle on an entry of a map, which `LruMap::find_entry` has found. No call on the handle searches again.
 ///
 /// ```text
 /// if let Some(mut entry) = map.find_entry(&1) {

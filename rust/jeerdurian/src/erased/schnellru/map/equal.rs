@@ -6,7 +6,7 @@ use crate::erased::lru_limits::{KeyHasher, Limiter};
 use crate::erased::schnellru::map::LruMap;
 use crate::rattle_std::hash::Hash;
 
-/// Maps are equal if they have equal entries in the same order of use. Their limiters, hashers and tables may differ.
+/// Maps are equal if they have equal entries in the same order of use. The limiters, hashers and tables may differ.
 ///
 /// ```text
 /// let other = map.clone()?;

@@ -45,7 +45,7 @@ impl<K: Eq + Hash, V, L: Limiter<K, V>, S: KeyHasher<K>> LruMap<K, V, L, S> {
 
     /// Returns how many entries the table can surely hold without growing: `len` plus the growth left.
     ///
-    /// The number may fall when an entry is removed from a table of more than 16 buckets. Cost: `O(1)`.
+    /// This capacity may fall when an entry is removed from a table of more than 16 buckets. Cost: `O(1)`.
     ///
     /// ```text
     /// let mut map: LruMap<u64, u64, UnlimitedCompact> = LruMap::default(alloc);
@@ -106,7 +106,7 @@ impl<K: Eq + Hash, V, L: Limiter<K, V>, S: KeyHasher<K>> LruMap<K, V, L, S> {
         &self.limiter
     }
 
-    /// Returns the hasher of the map. Its `hash_named` returns the hash of a key. Cost: `O(1)`.
+    /// Returns the hasher of the map. `map.hasher().hash_named(&key)` returns the hash of a key. Cost: `O(1)`.
     ///
     /// ```text
     /// let hash = map.hasher().hash_named(&5);
@@ -123,7 +123,7 @@ impl<K: Eq + Hash, V, L: Limiter<K, V>, S: KeyHasher<K>> LruMap<K, V, L, S> {
     /// that the limiter accepts. A lower limit of `ByMemoryUsage` takes effect at the next growth.
     ///
     /// Do not write a limiter with another running total. `*map.limiter_mut() = ByCost::new(n)` would count the stored
-    /// entries as 0. Call `set_limiter` with `map.limiter().with_limit(n)`.
+    /// entries as 0. To change the limit, call `set_limiter` with `map.limiter().with_limit(n)`.
     ///
     /// ```text
     /// *map.limiter_mut() = ByLength::new(1);

@@ -9,7 +9,7 @@ use crate::rattle_std::alloc::AllocError;
 use crate::rattle_std::hash::Hash;
 
 impl<K: Eq + Hash, V, L: Limiter<K, V>, S: KeyHasher<K>> LruMap<K, V, L, S> {
-    /// Calls `insert_with`. Returns its result, and the entries that it passes to its callback.
+    /// Returns the result of `insert_with`, and the entries that it passes to its callback.
     ///
     /// ```text
     /// let (done, left) = map.insert_and_keep(4, 40)?;

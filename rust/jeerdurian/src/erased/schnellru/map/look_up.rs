@@ -28,7 +28,7 @@ impl<K: Eq + Hash, V, L: Limiter<K, V>, S: KeyHasher<K>> LruMap<K, V, L, S> {
         Some(self.value_in_mut(b))
     }
 
-    /// Returns the entry of a key, and makes it the newest.
+    /// Returns the entry of a key, and makes this entry the newest.
     ///
     /// The returned key is the stored key.
     ///
@@ -90,7 +90,7 @@ impl<K: Eq + Hash, V, L: Limiter<K, V>, S: KeyHasher<K>> LruMap<K, V, L, S> {
 
     /// Lends the value of the newest entry for writing.
     ///
-    /// If `ensure_newest` has just returned true, the value is that of its key. Cost: `O(1)`.
+    /// If `ensure_newest` has just returned true, this is the value of its key. Cost: `O(1)`.
     ///
     /// ```text
     /// if let Some(count) = map.newest_mut() {

@@ -1,5 +1,5 @@
 // Erased from crates/schnellru/src/map/remove.rt: do not edit.
-//! Removals, pops, a clear and evictions. The limiter is notified of each.
+//! Removals, pops, a clear and evictions. Each notifies the limiter.
 
 #[allow(unused_imports)]
 use crate::rattle_std::prelude::*;

@@ -1,6 +1,6 @@
 // Erased from crates/schnellru/src/map/store.rt: do not edit.
-//! Stores a new entry in a free bucket. If no bucket can take it, first rehashes or grows the table, or evicts the
-//! oldest entries.
+//! Stores a new entry in a free bucket. If no bucket can take the entry, first rehashes or grows the table, or evicts
+//! the oldest entries.
 
 #[allow(unused_imports)]
 use crate::rattle_std::prelude::*;

@@ -29,8 +29,8 @@ impl<K: Eq + Hash, V, L: Limiter<K, V>, S: KeyHasher<K>> LruMap<K, V, L, S> {
     /// Sets another limiter, and evicts the oldest entries while the new limiter is over its limit. Returns the old
     /// limiter.
     ///
-    /// The new limiter is not notified of the stored entries. So a limiter with a running total, such as `ByCost`, must
-    /// begin with the sum of their costs. `map.limiter().with_limit(n)` returns such a limiter.
+    /// A new limiter with a running total, such as `ByCost`, must begin with the sum of the costs of the stored
+    /// entries, because it is not notified of them. `map.limiter().with_limit(n)` begins with the right sum.
     ///
     /// ```text
     /// let old = map.set_limiter(ByLength::new(1));

@@ -39,7 +39,7 @@ impl<'a, K: Eq + Hash, V, L: Limiter<K, V>, S: KeyHasher<K>> IterMut<'a, K, V, L
 
     /// Lends the newest entry that is left, with its value for writing, until the next call of the iterator.
     ///
-    /// A caller's proof cannot use the clause `writes_back`. If `len` is not 0, proved code calls `lend_next` instead.
+    /// A caller's proof cannot use the clause `writes_back`, so proved code tests `len`, and then calls `lend_next`.
     ///
     /// ```text
     /// if let Some((_, value)) = walk.next() {
@@ -55,7 +55,7 @@ impl<'a, K: Eq + Hash, V, L: Limiter<K, V>, S: KeyHasher<K>> IterMut<'a, K, V, L
         None
     }
 
-    /// Does what `next` does, with the oldest entry that is left.
+    /// Does what `next` does, but lends the oldest entry that is left.
     ///
     /// ```text
     /// if let Some((_, value)) = walk.next_back() {
@@ -120,7 +120,7 @@ impl<'a, K: Eq + Hash, V, L: Limiter<K, V>, S: KeyHasher<K>> IterMut<'a, K, V, L
 }
 
 impl<K: Eq + Hash, V, L: Limiter<K, V>, S: KeyHasher<K>> LruMap<K, V, L, S> {
-    /// Returns an iterator over the entries, newest first, that lends each value for writing. The order stays.
+    /// Returns an iterator that lends each value for writing, newest first. The order stays.
     ///
     /// `IterMut` is no `Iterator`, so it cannot be in a `for` loop. Write `while let Some((key, value)) = walk.next()`,
     /// or call `for_each_mut`.

@@ -1,5 +1,5 @@
 // Erased from crates/lru_replay/src/calls/steps.rt: do not edit.
-//! The calls of a run whose answer is not what the map's call returns: they copy a lent value, write, or join results.
+//! The calls of a run that copy a lent value, write a value, or join several results into one answer.
 
 #[allow(unused_imports)]
 use crate::rattle_std::prelude::*;
