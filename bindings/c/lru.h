@@ -192,6 +192,12 @@ struct lru_value {
     bool found;
 };
 
+/* The bytes of a value, in the memory of a map. If `len` is 0, `bytes` may be no address of an object. */
+struct lru_lent {
+    const uint8_t *bytes;
+    size_t len;
+};
+
 /* An entry, if `found`. Otherwise the lengths are 0. */
 struct lru_popped {
     size_t key_len;
@@ -227,6 +233,11 @@ struct lru_value lru_bytes_get(struct lru_bytes *lru, const uint8_t *key, size_t
 /* Does what lru_bytes_get does, but the order stays. */
 struct lru_value lru_bytes_peek(struct lru_bytes *lru, const uint8_t *key, size_t key_len, uint8_t *buffer,
                                 size_t size);
+
+/* Makes the entry of a key the newest, writes to `lent` where the bytes of its value are, and returns true. The bytes
+ * belong to the map: read them before the next call on the handle (tested), and do not write them. If the key is not
+ * there, returns false, and `lent` stays as it is. */
+bool lru_bytes_lend(struct lru_bytes *lru, const uint8_t *key, size_t key_len, struct lru_lent *lent);
 
 /* Returns whether the key is there. Nothing changes. */
 bool lru_bytes_contains(struct lru_bytes *lru, const uint8_t *key, size_t key_len);
@@ -319,6 +330,7 @@ static inline struct lru_entry *lru_entries_out(struct lru_entry *entries) {
     (lru_bytes_get)(lru, lru_bytes_in(key), key_len, lru_bytes_out(buffer), size)
 #define lru_bytes_peek(lru, key, key_len, buffer, size) \
     (lru_bytes_peek)(lru, lru_bytes_in(key), key_len, lru_bytes_out(buffer), size)
+#define lru_bytes_lend(lru, key, key_len, lent) (lru_bytes_lend)(lru, lru_bytes_in(key), key_len, lent)
 #define lru_bytes_contains(lru, key, key_len) (lru_bytes_contains)(lru, lru_bytes_in(key), key_len)
 #define lru_bytes_remove(lru, key, key_len) (lru_bytes_remove)(lru, lru_bytes_in(key), key_len)
 #define lru_bytes_pop_oldest(lru, key, key_size, value, value_size) \

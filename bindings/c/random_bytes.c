@@ -146,6 +146,17 @@ static bool try_read(struct lru_bytes *lru, struct list *list, bool promotes, st
     return true;
 }
 
+/* Reads the bytes of a value where the map has them. */
+static bool try_lend(struct lru_bytes *lru, struct list *list, struct text key) {
+    int i = find(list, &key);
+    struct lru_lent lent = {NULL, 3};
+    CHECK(lru_bytes_lend(lru, bytes_of(&key), key.len, &lent) == (i >= 0));
+    if (i < 0) return !lent.bytes && lent.len == 3;
+    CHECK(lent.len == list->value[i].len && (!lent.len || !memcmp(lent.bytes, list->value[i].bytes, lent.len)));
+    make_newest(list, i);
+    return true;
+}
+
 /* Pops the oldest entry, or if there is a key, for a put of this key and a value of this length. `some` says whether
  * there is an entry to pop. */
 static bool try_pop(struct lru_bytes *lru, struct list *list, bool some, const struct text *own, size_t own_len) {
@@ -244,7 +255,8 @@ static bool try_call(struct lru_bytes *lru, struct list *list, const uint64_t se
     unsigned kind = (unsigned)(next() % 1000);
     if (kind < 400) return try_put(lru, list, key, random_value());
     if (kind < 450) return try_pop_for(lru, list, key, random_value());
-    if (kind < 800) return try_read(lru, list, kind < 650, key);
+    if (kind < 750) return try_read(lru, list, kind < 600, key);
+    if (kind < 800) return try_lend(lru, list, key);
     if (kind < 850) {
         CHECK(lru_bytes_contains(lru, bytes_of(&key), key.len) == (i >= 0));
     } else if (kind < 900) {
@@ -279,7 +291,9 @@ static bool try_nothing(struct lru_bytes *lru) {
         lru_bytes_pop_for(lru, key.block, 1, SIZE_MAX, key.block + SPARE, 1, value.block + SPARE, 1);
     struct lru_popped oldest = lru_bytes_peek_oldest(lru, key.block + SPARE, 1, value.block + SPARE, 1);
     struct lru_popped newest = lru_bytes_peek_at(lru, 0, key.block + SPARE, 1, value.block + SPARE, 1);
+    struct lru_lent lent = {NULL, 3};
     struct lru_bytes copy = LRU_NONE;
+    CHECK(!lru_bytes_lend(lru, key.block, 1, &lent) && !lent.bytes && lent.len == 3);
     CHECK(!oldest.found && !oldest.removed && !oldest.key_len && !oldest.value_len);
     struct lru_popped older =
         lru_bytes_peek_older(lru, value.block, 1, key.block + SPARE, 1, value.block + SPARE, 1);

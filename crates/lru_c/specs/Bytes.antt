@@ -4,6 +4,7 @@
 --     `poured bytes buffer`: the buffer, with a copy of the bytes at its front if they fit.
 use Rattle.std.specs.Prelude.{◌≡◌, ◌++◌, ◌<◌, ◌≤◌, ◌+◌, ◌&&◌, ℕ, Bool, true, false, List, length, drop, Option, Some}
 use Rattle.std.specs.Prelude.{None, nat_le, nat_lt, option_map, vec_items, vec_len, is_some, if◌then◌else◌, map}
+use Rattle.std.specs.Vec.{vec_ptr}
 use Rattle.std.specs.Prelude.{sum_by, Ok}
 use Rattle.std.proofs.Common.{ap}
 use Rattle.std.specs.Cmp.Lexicographic.{bytes_decides, nat_list_eq_equiv}
@@ -23,6 +24,7 @@ use Rattle.lru_model.specs.Inserts.{Insert}
 use Rattle.lru_model.specs.Lists.{front, last, lookup, without}
 use Rattle.lru_model.specs.Reservations.{Reserve}
 use Rattle.lru_model.specs.State.{State, growth_left}
+use Rattle.lru_c.specs.declared.bytes.answers.Lent.{Lent}
 use Rattle.lru_c.specs.declared.bytes.answers.Popped.{Popped}
 use Rattle.lru_c.specs.declared.bytes.answers.Value.{Value}
 
@@ -85,6 +87,12 @@ answer_of (Some value) = record { len = length value.items; found = true }
 -- there.
 abbrev pub Reads : Option Bytes → Value → List ℕ → List ℕ → Type 0
 Reads value answer buffer left = (answer ≡ answer_of value) × (left ≡ poured_from value buffer)
+
+-- If a look-up finds a value, `left` is the address of its bytes and their number.
+abbrev pub Lends : Option Bytes → Bool → Lent → Lent → Type 0
+Lends None found lent left = (found ≡ false) × (left ≡ lent)
+Lends (Some value) found lent left =
+    (found ≡ true) × (left ≡ record { bytes = vec_ptr value; len = length value.items })
 
 abbrev pub no_entry : Popped
 no_entry = record { key_len = 0; value_len = 0; found = false; removed = false }

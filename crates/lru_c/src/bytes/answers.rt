@@ -9,6 +9,14 @@ pub struct Value {
     pub found: bool,
 }
 
+/// Where the bytes of a value are. They belong to the map.
+#[repr(C)]
+#[derive(Clone, Copy)]
+pub struct Lent {
+    pub bytes: *const u8,
+    pub len: usize,
+}
+
 #[repr(C)]
 #[derive(Drop)]
 pub struct Popped {

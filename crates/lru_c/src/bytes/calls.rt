@@ -4,10 +4,10 @@ ghost use Rattle.std.specs.Map.Iter.{deref_pair};
 ghost use Rattle.lru_model.specs.Calls.{promoted};
 ghost use Rattle.lru_model.specs.Lists.{lookup, last, without};
 ghost use Rattle.lru_c.specs.Bytes.{names_bytes, weight, poured, Reads, IsReady, FindsMemory, Puts, Pops, Shows};
-ghost use Rattle.lru_c.specs.Bytes.{Copies, IsWithinBudget, value_of, others_weight, must_evict, PopsFor, texts};
+ghost use Rattle.lru_c.specs.Bytes.{Copies, IsWithinBudget, Lends, value_of, others_weight, must_evict, PopsFor, texts};
 
 use crate::answers::{OUT_OF_MEMORY, REJECTED, STORED};
-use crate::bytes::answers::{Popped, Value, no_value, nothing_popped};
+use crate::bytes::answers::{Lent, Popped, Value, no_value, nothing_popped};
 use crate::bytes::handle::{BytesMap, OVERHEAD};
 use crate::bytes::keys::Named;
 use lru_limits::ByWeight;
@@ -135,6 +135,24 @@ pub fn peek(map: &BytesMap, key: &[u8], buffer: &mut [u8]) -> Value
     match map.peek(&Named(key)) {
         Some(value) => read(value, buffer),
         None => no_value(),
+    }
+}
+
+/// Writes to `lent` where the bytes of a key's value are, and makes the key's entry the newest. Returns whether the key
+/// is there.
+pub fn lend(map: &mut BytesMap, key: &[u8], lent: &mut Lent) -> bool
+    ensures lends { Lends (lookup (names_bytes key.now) map.old.pairs) result lent.old lent.new }
+    ensures promoted { map.new ≡ promoted (names_bytes key.now) map.old }
+{
+    match map.get(&Named(key)) {
+        Some(value) => {
+            *lent = Lent {
+                bytes: value.as_ptr(),
+                len: value.as_slice().len(),
+            };
+            true
+        }
+        None => false,
     }
 }
 

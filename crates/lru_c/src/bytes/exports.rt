@@ -11,11 +11,11 @@ ghost use Rattle.lru_model.specs.Sizes.{max_of_64_bits};
 ghost use Rattle.lru_model.specs.State.{empty_map, contents, Trims, IsWithin};
 ghost use Rattle.lru_c.specs.Answers.{OnMap};
 ghost use Rattle.lru_c.specs.Bytes.{Bytes, names_bytes, bytes_rules, total_weight, no_entry};
-ghost use Rattle.lru_c.specs.Bytes.{Reads, Puts, Pops, PopsFor, Shows, Copies, value_of, must_evict, texts};
+ghost use Rattle.lru_c.specs.Bytes.{Reads, Lends, Puts, Pops, PopsFor, Shows, Copies, value_of, must_evict, texts};
 
 use crate::answers::NO_MAP;
-use crate::bytes::answers::{Popped, Value, no_value, nothing_popped};
-use crate::bytes::calls::{copied, get, peek, pop_for, pop_oldest, put, show};
+use crate::bytes::answers::{Lent, Popped, Value, no_value, nothing_popped};
+use crate::bytes::calls::{copied, get, lend, peek, pop_for, pop_oldest, put, show};
 use crate::bytes::handle::{BytesMap, LruBytes};
 use crate::bytes::keys::Named;
 use crate::handle::with_map;
@@ -82,6 +82,21 @@ pub extern "C" fn lru_bytes_get(
         × (new ≡ promoted (names_bytes key.now) old)) lru.old.map lru.new.map }
 {
     with_map!(lru, alloc, |map| get(&mut map, key, buffer), no_value())
+}
+
+#[unsafe(no_mangle)]
+#[tactic(auto, using(crate::proofs::WithinBudget::got_in_budget))]
+pub extern "C" fn lru_bytes_lend(
+    alloc: Global,
+    lru: &mut LruBytes,
+    key: &[u8],
+    lent: &mut Lent,
+) -> bool
+    ensures { OnMap (Lends None result lent.old lent.new)
+        (λ old new. Lends (lookup (names_bytes key.now) old.pairs) result lent.old lent.new
+        × (new ≡ promoted (names_bytes key.now) old)) lru.old.map lru.new.map }
+{
+    with_map!(lru, alloc, |map| lend(&mut map, key, lent), false)
 }
 
 #[unsafe(no_mangle)]
