@@ -5,7 +5,7 @@ use lru_limits::{Admission, Budgeted, Limiter, Summing};
 
 /// A limiter that carries the counts of its map, and limits as the limiter inside does.
 ///
-/// In a `TenantCache` over it, call `get_counted` and `put_counted`. No other call counts.
+/// In a `TenantCache` over it, call `get_counted`, `put_counted` and `get_or_put_counted`. No other call counts.
 ///
 /// In the examples of the calls, `counted` has one tenant, 1, with a budget of 3, the entry (7, 2) and its insertion.
 ///
