@@ -14,6 +14,8 @@ use std::marker::Model;
 
 /// What operators watch of a cache. Each count stops at `u64::MAX`.
 ///
+/// A call counts only if its documentation says so. Evictions by other calls, such as `set_budget`, are not counted.
+///
 /// ```
 /// let mut counts = Counts::default();
 /// counts.count_look_up(true);
@@ -30,7 +32,7 @@ pub struct Counts {
     /// How many inserts returned `Ok(false)`: the limiter rejected the entry, no table could hold it, or it was evicted
     /// at once.
     pub rejections: u64,
-    /// How many entries of other keys inserts evicted.
+    /// How many entries of other keys were evicted by inserts.
     pub evictions: u64,
 }
 

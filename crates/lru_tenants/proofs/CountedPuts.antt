@@ -1,13 +1,13 @@
 -- What a counted insert needs to know of its key.
-use Rattle.std.proofs.Common.{◌≡◌, ℕ, Bool, true, false, List, Option, Some, None, Result, Ok, Err, is_some, refl, sym, ap}
-use Rattle.std.proofs.Common.{◌∙◌, cond}
+use Rattle.std.proofs.Common.{◌≡◌, ℕ, Bool, true, false, List, Option, Some, None, Result, Ok, Err, is_some, refl, sym}
+use Rattle.std.proofs.Common.{ap, ◌∙◌, cond, subst}
 use Rattle.std.specs.Option.{option_map}
 use Rattle.std.specs.declared.alloc.AllocError.{AllocError}
 use Rattle.lru_caches.specs.Counted.{inserted, evicted}
 use Rattle.lru_limits.specs.Rules.{Rules, Offers}
 use Rattle.lru_model.proofs.CallerLemmas.{lookup-entry}
 use Rattle.lru_model.specs.Inserts.{Insert}
-use Rattle.lru_model.specs.Lists.{lookup, lookup_entry}
+use Rattle.lru_model.specs.Lists.{first, lookup, lookup_entry}
 use Rattle.lru_model.specs.State.{State}
 use Rattle.lru_model.specs.Theorems.{SaysWhether}
 use Rattle.lru_tenants.specs.Counting.{counted, is_kept, CountsInsert, CountsPut}
@@ -15,7 +15,7 @@ use Rattle.lru_tenants.specs.TenantRuns.{put_answer, Puts}
 use Rattle.lru_tenants.specs.declared.counting.Counting.{Counting}
 use Rattle.lru_tenants.specs.declared.error.TenantError.{TenantError}
 
-some-mapped : {A B : Type 0} (f : A → B) (o : Option A) → is_some (option_map f o) ≡ is_some o
+pub some-mapped : {A B : Type 0} (f : A → B) (o : Option A) → is_some (option_map f o) ≡ is_some o
 some-mapped f None = refl
 some-mapped f (Some x) = refl
 
@@ -31,6 +31,13 @@ kept-there rules names new (Ok true) (newest, within) =
     ∙ ap (λ b. is_some (cond b (Some newest.pair) (lookup_entry names newest.rest))) newest.named)
 kept-there rules names new (Ok false) none = sym (ap is_some none)
 kept-there rules names new (Err e) none = sym (ap is_some none)
+
+pub newest-there : {K V L S : Type 0} (rules : Rules K V L) (names : K → Bool) (new : State K V L S)
+    (done : Result Bool AllocError) → SaysWhether rules names done new → done ≡ Ok true
+    → is_some (first new.pairs) ≡ true
+newest-there rules names new done says is =
+    let (newest, within) = subst (λ r. SaysWhether rules names r new) is says in
+    ap (λ xs. is_some (first xs)) newest.first
 
 -- a counted insert, with the answer of the put
 module _ {K V L S : Type 0} (rules : Rules K V (Counting L)) (offers : Offers K V (Counting L) K) (budget_of : L → ℕ)

@@ -28,13 +28,31 @@ module _ {K V : Type 0} (names : K → Bool) where
       go None e = absurd (none-some w e)
       go (Some pair) e = e
 
-module _ {K V L S : Type 0} (rules : Rules K V L) (offers : Offers K V L K) (budget_of : L → ℕ) (eq : K → K → Bool)
-    (hash_of : S → K → ℕ) (makes : V → Type 0) (key : K) (answer : Result (Option V) TenantError) where
+module _ {K V L S : Type 0} (eq : K → K → Bool) (key : K) (answer : Result (Option V) TenantError) where
   abbrev pub GetsValue : State K V L S → Type 0
   GetsValue map = IfSome (lookup (eq key) map.pairs) (λ w. answer ≡ Ok (Some w))
 
-  gets_value : (map : State K V L S) (new : Option (State K V L S))
-      → GetsOrPuts rules offers budget_of eq hash_of makes key map answer new → GetsValue map
+  module _ (Does : State K V L S → Result (Option V) TenantError → Option (State K V L S) → Type 0)
+      {N Q : Type 0} {same : N → N → Bool} {named : Q → N → Bool} {query_input : Q → List (List ℕ)}
+      {key_input : N → List (List ℕ)} (looks_up : IsLookup named same query_input key_input) (name : Q) where
+    pub record Ends (old new : Cache N K V L S) : Type 0 where
+      pub on : On same (named name) (OfOpen Does) old answer new
+      pub not_open : tenant (named name) old ≡ None → answer ≡ Err NotOpen
+      pub there : IfSome (tenant (named name) old) GetsValue
+
+    pub ends-open : IsEquivalence same → {hasher : S} {limit : Option ℕ} (old : List (N × State K V L S))
+        (was left : State K V L S) → lookup (named name) old ≡ Some was → Does was answer (Some left) → GetsValue was
+        → Ends (cache_of old hasher limit) (cache_of (set_value (named name) old left) hasher limit)
+    ends-open laws old was left is does value = record {
+      on = on-written looks_up name (OfOpen Does) answer laws old was left is does;
+      not_open = λ none. absurd (none-some was (sym none ∙ is));
+      there = subst (λ t. IfSome t GetsValue) (sym is) value;
+    }
+
+module _ {K V L S : Type 0} (rules : Rules K V L) (offers : Offers K V L K) (budget_of : L → ℕ) (eq : K → K → Bool)
+    (hash_of : S → K → ℕ) (makes : V → Type 0) (key : K) (answer : Result (Option V) TenantError) where
+  pub gets_value : (map : State K V L S) (new : Option (State K V L S))
+      → GetsOrPuts rules offers budget_of eq hash_of makes key map answer new → GetsValue eq key answer map
   gets_value map new does = go does.left (lookup (eq key) map.pairs) refl does.result does.step does.said
     where
       go : (left : State K V L S) (o : Option V) → lookup (eq key) map.pairs ≡ o → (result : Result Bool AllocError)
@@ -48,18 +66,10 @@ module _ {K V L S : Type 0} (rules : Rules K V L) (offers : Offers K V L K) (bud
 
   module _ {N Q : Type 0} {same : N → N → Bool} {named : Q → N → Bool} {query_input : Q → List (List ℕ)}
       {key_input : N → List (List ℕ)} (looks_up : IsLookup named same query_input key_input) (name : Q) where
-    pub record Ends (old new : Cache N K V L S) : Type 0 where
-      pub on : On same (named name) (OfOpen (GetsOrPuts rules offers budget_of eq hash_of makes key)) old answer new
-      pub not_open : tenant (named name) old ≡ None → answer ≡ Err NotOpen
-      pub there : IfSome (tenant (named name) old) GetsValue
-
     pub ends : IsEquivalence same → {hasher : S} {limit : Option ℕ} (old : List (N × State K V L S))
         (was left : State K V L S) → lookup (named name) old ≡ Some was
         → GetsOrPuts rules offers budget_of eq hash_of makes key was answer (Some left)
-        → Ends (cache_of old hasher limit) (cache_of (set_value (named name) old left) hasher limit)
-    ends laws old was left is does = record {
-      on = on-written looks_up name (OfOpen (GetsOrPuts rules offers budget_of eq hash_of makes key)) answer laws old
-          was left is does;
-      not_open = λ none. absurd (none-some was (sym none ∙ is));
-      there = subst (λ t. IfSome t GetsValue) (sym is) (gets_value was (Some left) does);
-    }
+        → Ends eq key answer (GetsOrPuts rules offers budget_of eq hash_of makes key) looks_up name
+        (cache_of old hasher limit) (cache_of (set_value (named name) old left) hasher limit)
+    ends laws old was left is does = ends-open eq key answer (GetsOrPuts rules offers budget_of eq hash_of makes key)
+        looks_up name laws old was left is does (gets_value was (Some left) does)

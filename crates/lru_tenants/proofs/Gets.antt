@@ -20,6 +20,11 @@ module _ {K V L S Q : Type 0} {names : Q → K → Bool} {eq : K → K → Bool}
     small = is.small;
   }
 
+  pub promoted-tenant : (map new : State K V L S) → new ≡ promoted (names q) map → IsTenant eq cost account budget map
+      → IsTenant eq cost account budget new
+  promoted-tenant map new turned is =
+      subst (IsTenant eq cost account budget) (sym turned) (promoted_is_tenant map is)
+
 pub gets-open : {K V L S : Type 0} (names : K → Bool) (was : Option (State K V L S)) (map left : State K V L S)
     (found : Option V)
     → was ≡ Some map → found ≡ lookup names map.pairs → left ≡ promoted names map

@@ -8,6 +8,7 @@ pub mod TotalCosts
 pub mod PutFulls
 pub mod CountedPuts
 pub mod CountedGets
+pub mod CountedGetOrPuts
 pub mod Pools
 pub mod PoolEvict
 pub mod PoolKept

@@ -1,6 +1,7 @@
 -- A limiter that carries the counts of its map, and what counted calls do.
 --     rules, terms        the `Rules` and `Terms` of the limiter inside
-use Rattle.std.specs.Prelude.{◌≡◌, ℕ, Bool, false, Option, Some, is_some, Result, Ok, Err}
+use Rattle.std.specs.Prelude.{◌≡◌, ℕ, Bool, true, false, Option, Some, is_some, Result, Ok, Err}
+use Rattle.std.specs.Result.{result_map_both}
 use Rattle.std.proofs.Common.{ap}
 use Rattle.lru_caches.specs.Counted.{looked_up, inserted, evicted, zeros}
 use Rattle.lru_caches.specs.declared.counted.Counts.{Counts}
@@ -83,6 +84,12 @@ abbrev pub is_kept : {E : Type 0} → Result Bool E → Bool
 is_kept (Ok kept) = kept
 is_kept (Err e) = false
 
+-- The counts after a get that inserts an absent key: a hit, or a miss and the insert, which evicted n entries. `found`
+-- says whether the key was there.
+abbrev pub got_or_put : {E : Type 0} → (found : Bool) → Result Bool E → ℕ → Counts → Counts
+got_or_put true answer n counts = looked_up true counts
+got_or_put false answer n counts = looked_up false (inserted answer n counts)
+
 module _ {K V L S : Type 0} where
   abbrev pub with_counts : Counts → State K V (Counting L) S → State K V (Counting L) S
   with_counts counts map = with_limiter (record map.limiter { counts = counts }) map
@@ -121,3 +128,19 @@ module _ {K V L S : Type 0} where
       → (K → Bool) → State K V (Counting L) S → Result Bool TenantError → Option (State K V (Counting L) S) → Type 0
   CountsPut Puts names old answer new = (left : State K V (Counting L) S) × Puts old answer (Some left)
       × (new ≡ Some (counted (inserted answer (evicted names old.pairs left.pairs)) left))
+
+  -- a get that inserts an absent key, and counts; the answer says whether the key is there afterwards
+  abbrev pub CountsGetOrInsert : {E : Type 0}
+      → (Gets : State K V (Counting L) S → Result Bool E → State K V (Counting L) S → Type 0)
+      → (K → Bool) → State K V (Counting L) S → Result Bool E → State K V (Counting L) S → Type 0
+  CountsGetOrInsert Gets names old answer new = (left : State K V (Counting L) S) × Gets old answer left
+      × (new ≡ counted (got_or_put (is_some (lookup names old.pairs)) answer (evicted names old.pairs left.pairs)) left)
+
+  -- the same, but the answer is the value, if the key is there afterwards
+  abbrev pub CountsGetOrPut : (Gets : State K V (Counting L) S → Result (Option V) TenantError
+      → Option (State K V (Counting L) S) → Type 0)
+      → (K → Bool) → State K V (Counting L) S → Result (Option V) TenantError → Option (State K V (Counting L) S)
+      → Type 0
+  CountsGetOrPut Gets names old answer new = (left : State K V (Counting L) S) × Gets old answer (Some left)
+      × (new ≡ Some (counted (got_or_put (is_some (lookup names old.pairs)) (result_map_both is_some (λ e. e) answer)
+      (evicted names old.pairs left.pairs)) left))

@@ -50,6 +50,11 @@ impl Plain {
         true
     }
 
+    fn get_or_put(&mut self, key: u64, cost: u64) -> Option<u64> {
+        let found = self.get(key);
+        found.or_else(|| self.put(key, cost).then_some(cost))
+    }
+
     /// Takes out the oldest entries without counting them.
     fn trim(&mut self) {
         while self.list.iter().map(|entry| entry.1).sum::<u64>() > self.budget {
@@ -63,6 +68,7 @@ fn call(cache: &mut Tenants, tenants: &mut BTreeMap<u64, Plain>, [kind, name, ke
     let Some(own) = tenants.get_mut(&name) else {
         assert_eq!(cache.get_counted(&name, &key), Err(TenantError::NotOpen));
         assert_eq!(cache.put_counted(&name, key, cost), Err(TenantError::NotOpen));
+        assert_eq!(cache.get_or_put_counted(&name, key, || unreachable!()), Err(TenantError::NotOpen));
         assert_eq!([cache.counts(&name), cache.take_counts(&name)], [Err(TenantError::NotOpen); 2]);
         assert_eq!(cache.set_counts(&name, Counts::default()), Err(TenantError::NotOpen));
         assert_eq!(cache.open(name, 60), Ok(()));
@@ -70,8 +76,17 @@ fn call(cache: &mut Tenants, tenants: &mut BTreeMap<u64, Plain>, [kind, name, ke
         return;
     };
     match kind {
-        0..=39 => assert_eq!(cache.get_counted(&name, &key).map(|it| it.copied()), Ok(own.get(key))),
-        40..=79 => assert_eq!(cache.put_counted(&name, key, cost), Ok(own.put(key, cost))),
+        0..=29 => assert_eq!(cache.get_counted(&name, &key).map(|it| it.copied()), Ok(own.get(key))),
+        30..=59 => assert_eq!(cache.put_counted(&name, key, cost), Ok(own.put(key, cost))),
+        60..=79 => {
+            let (mut made, misses) = (0, own.counts.misses);
+            let got = cache.get_or_put_counted(&name, key, || {
+                made += 1;
+                cost
+            });
+            assert_eq!(got.map(|it| it.copied()), Ok(own.get_or_put(key, cost)));
+            assert_eq!(made, own.counts.misses - misses);
+        }
         80..=89 => assert_eq!(cache.remove(&name, &key), Ok(own.take(key).map(|entry| entry.1))),
         90..=92 => assert_eq!(cache.take_counts(&name), Ok(std::mem::take(&mut own.counts))),
         93 => {

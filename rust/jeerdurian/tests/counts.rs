@@ -307,7 +307,7 @@ fn counted_maps_and_tenants_hash_once() {
     assert_eq!((bytes.close(&1), builds.0.replace(0)), (Ok(0), 1));
 }
 
-/// A counted look-up hashes the name and the key once, and a counted put looks the key up once more.
+/// A counted look-up hashes the name and the key once, and a counted insert looks the key up once more.
 #[test]
 fn counted_calls_of_tenants_hash_once() {
     let builds = Builds::default();
@@ -318,6 +318,9 @@ fn counted_calls_of_tenants_hash_once() {
     }
     for (key, found) in [(8, Some(&2)), (7, Some(&2)), (9, None)] {
         assert_eq!((cache.get_counted(&1, &key), builds.0.replace(0)), (Ok(found), 2));
+    }
+    for (key, hashes) in [(7, 2), (9, 3), (9, 2)] {
+        assert_eq!((cache.get_or_put_counted(&1, key, || 2), builds.0.replace(0)), (Ok(Some(&2)), hashes));
     }
     let counts = cache.counts(&1).unwrap();
     assert_eq!((cache.set_counts(&1, counts), cache.take_counts(&1), builds.0.replace(0)), (Ok(()), Ok(counts), 3));

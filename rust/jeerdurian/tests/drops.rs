@@ -1,7 +1,7 @@
 //! Each key, value and closure is dropped once: what calls evict, what they reject, and what closures own.
 
 use jeerdurian::caches::Memo;
-use jeerdurian::tenants::{Counting, TenantCache};
+use jeerdurian::tenants::{Counting, TenantCache, TenantError};
 use jeerdurian::{
     ByCost, ByLength, ByMemoryUsage, ByWeight, Costed, Limiter, LruMap, More, Unlimited, UnlimitedCompact,
 };
@@ -129,15 +129,19 @@ fn what_limiters_reject_is_dropped() {
     assert_eq!(offers(ByWeight::<0>::new(1)), [false; 2]);
 }
 
-/// Counted puts drop what they evict, replace and reject, and a memo drops the keys that it does not store.
+/// Counted inserts drop what they evict, replace and reject, and a memo drops the keys that it does not store.
 #[test]
-fn what_counted_puts_and_memos_do_not_keep_is_dropped() {
+fn what_counted_inserts_and_memos_do_not_keep_is_dropped() {
     let mut cache: TenantCache<u64, Live, Live, Counting<ByCost>> = TenantCache::new();
     assert_eq!((cache.open(1, 60), cache.open(2, 0)), (Ok(()), Ok(())));
     let mut memo = Memo::new(ByLength::new(60), |key: &Live| key.0);
     for n in 0..1000 {
         let kept = [1, 2, 3].map(|name| cache.put_counted(&name, Live::new(n % 97), Live::new(n)));
         assert_eq!((kept[0], kept[1], kept[2].is_err()), (Ok(true), Ok(false), true));
+        for (name, kept) in [(1, Ok(true)), (2, Ok(false)), (3, Err(TenantError::NotOpen))] {
+            let got = cache.get_or_put_counted(&name, Live::new(n * 7 % 89), || Live::new(n));
+            assert_eq!(got.map(|it| it.is_some()), kept);
+        }
         let key = n * n % 97;
         assert_eq!([0; 2].map(|_| memo.answer_full(Live::new(key)).0), [key; 2]);
         assert_eq!(LIVE.get(), 2 * cache.entries(&1).unwrap() + memo.len(), "call {n}");

@@ -122,6 +122,25 @@ fn a_counted_put_without_memory() {
     assert_eq!(cache.counts(&1), Ok(Counts { insertions: 1, ..Counts::default() }));
 }
 
+/// The same of a get that puts, which also counts the miss, and calls its closure before memory runs out.
+#[test]
+fn a_counted_get_or_put_without_memory() {
+    let mut cache: TenantCache<u64, u64, u64, Counting<ByCost>, _> = TenantCache::with_hasher(Thousands::default());
+    assert_eq!(cache.open(1, 28), Ok(()));
+    (0..28).for_each(|n| assert_eq!(cache.put(&1, n, 1), Ok(true)));
+    let mut made = 0;
+    let mut make = || {
+        made += 1;
+        1
+    };
+    let got = refused(1, || cache.get_or_put_counted(&1, OF_HASH_28, &mut make).map(|it| it.copied()));
+    assert_eq!(got, (Err(TenantError::Memory), true));
+    assert_eq!(cache.take_counts(&1), Ok(Counts { misses: 1, evictions: 1, ..Counts::default() }));
+    assert_eq!((cache.entries(&1), cache.get_or_put_counted(&1, OF_HASH_28, &mut make)), (Ok(27), Ok(Some(&1))));
+    assert_eq!(cache.counts(&1), Ok(Counts { misses: 1, insertions: 1, ..Counts::default() }));
+    assert_eq!(made, 2);
+}
+
 /// No form of an insert fails above some number of entries.
 #[test]
 fn inserts_of_many_entries() {

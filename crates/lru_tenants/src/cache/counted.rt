@@ -1,19 +1,21 @@
 //! Calls that count. The limiter carries the counts of each tenant.
-ghost use Rattle.std.specs.Prelude.{◌≡◌};
+ghost use Rattle.std.specs.Prelude.{◌≡◌, None, Some, Ok, Err, IfSome};
 ghost use Rattle.std.specs.Borrow.{sem};
 ghost use Rattle.lru_limits.specs.Admissions.{offers_of};
 ghost use Rattle.lru_model.specs.Lists.{lookup};
 ghost use Rattle.lru_tenants.specs.Cache.{tenant, budgets, AreTenants, On};
 ghost use Rattle.lru_tenants.specs.Counting.{counting_rules, counting_terms, AreCountingTenants, CountsGet, CountsPut};
-ghost use Rattle.lru_tenants.specs.Counting.{SetsCounts, TakesCounts};
+ghost use Rattle.lru_tenants.specs.Counting.{CountsGetOrPut, SetsCounts, TakesCounts};
+ghost use Rattle.lru_tenants.specs.GetOrPuts.{GetsOrPuts};
 ghost use Rattle.lru_tenants.specs.Lending.{read};
 ghost use Rattle.lru_tenants.specs.TenantRuns.{read_of, IfOpen, OfOpen, Puts};
+ghost use Rattle.lru_tenants.specs.declared.error.TenantError.TheVariants.{NotOpen};
 
 use crate::cache::TenantCache;
 use crate::cache::passing::put_answer;
 use crate::counting::Counting;
 use crate::error::TenantError;
-use crate::tenant::counted::{insert_counted, look_up, set_counts};
+use crate::tenant::counted::{get_or_insert_counted, insert_counted, look_up, set_counts};
 use crate::tenant::newest;
 use lru_caches::Counts;
 use lru_limits::Budgeted;
@@ -143,6 +145,8 @@ impl<
     L: Budgeted<K, V> + Drop,
     S: KeyHasher<K> + Copy,
 > TenantCache<N, K, V, Counting<L>, S> {
+    ghost use Rattle.lru_tenants.specs.CountedLending.{counted_ends_so};
+
     /// Does what `put` does, and counts an insertion or a rejection, and the evictions.
     ///
     /// ```
@@ -172,5 +176,48 @@ impl<
             return Err(TenantError::NotOpen);
         };
         put_answer(insert_counted(own, key, value))
+    }
+
+    /// Does what `get_or_put` does, and counts a hit, or a miss and then what `put_counted` counts.
+    ///
+    /// ```
+    /// assert_eq!(rt; counted.get_or_put_counted(&1, 7, || 3), Ok(Some(&2)));
+    /// assert_eq!(rt; counted.get_or_put_counted(&1, 8, || 2), Ok(Some(&2)));
+    /// let counts = counted.counts(&1)?;
+    /// assert_eq!(rt; (counts.hits, counts.misses, counts.insertions, counts.evictions), (1, 1, 2, 1));
+    /// ```
+    ///
+    /// Cost: if the key is there, as `get`, else as `put`, and a search.
+    ///
+    /// # Errors
+    ///
+    /// As `put`. If the error is `Memory`, the closure was called, and the miss and the evicted entries are counted.
+    pub fn get_or_put_counted<T: LookupKey<N>, F: FnOnce() -> V>(
+        &mut self,
+        name: &T,
+        key: K,
+        make: F,
+    ) -> Result<Option<&V>, TenantError>
+        requires callable { IfSome (tenant (T.names name.now) self.old) (λ map.
+            lookup (K.eq key) map.pairs ≡ None → F.pre make) }
+        ensures* leaves { sem 𝓛 (counted_ends_so N.row K.row V.row L.row S.row L.LinkType.row S.Hasher.row N.Hash K.Hash
+            L.Budgeted L.LinkType.LinkType S.KeyHasher S.Hasher.Hasher self.entry
+            (On N.eq (T.names name.now) (OfOpen (CountsGetOrPut (GetsOrPuts (counting_rules L.rules)
+            (offers_of (counting_terms L.terms)) (λ s. L.budget_of s.limiter) K.eq S.hash_of (F.post make) key)
+            (K.eq key))) self.old (read result))) }
+        ensures not_open { tenant (T.names name.now) self.old ≡ None → read result ≡ Err NotOpen }
+        ensures there { IfSome (tenant (T.names name.now) self.old) (λ map.
+            IfSome (lookup (K.eq key) map.pairs) (λ value. read result ≡ Ok (Some value))) }
+    {
+        let Some(own) = self.tenants.peek_mut(name) else {
+            return Err(TenantError::NotOpen);
+        };
+        let Ok(there) = get_or_insert_counted(own, key, make) else {
+            return Err(TenantError::Memory);
+        };
+        if !there {
+            return Ok(None);
+        }
+        Ok(newest(own))
     }
 }

@@ -22,7 +22,7 @@ impl<K: Eq + Hash, V, L: Budget<K, V>> Budget<K, V> for Counting<L> {}
 /// assert_eq!((cache.open("a", 3), cache.open("b", 3)), (Ok(()), Ok(())));
 /// assert_eq!((cache.put_counted("a", 7, 2), cache.put_counted("a", 8, 2)), (Ok(true), Ok(true)));
 /// assert_eq!(cache.get_counted("a", &7), Ok(None));
-/// assert_eq!(cache.get_counted("a", &8), Ok(Some(&2)));
+/// assert_eq!(cache.get_or_put_counted("a", 8, || 3), Ok(Some(&2)));
 /// let counts = cache.take_counts("a").unwrap();
 /// assert_eq!((counts.hits, counts.misses, counts.insertions, counts.evictions), (1, 1, 2, 1));
 /// assert_eq!(cache.counts("a"), cache.counts("b"));
@@ -99,5 +99,23 @@ where
         T: Eq + Hash + ?Sized,
     {
         self.cache.put_counted(&Borrowed(name), key, value)
+    }
+
+    /// Does what `get_or_put` does, and counts a hit, or a miss and then what `put_counted` counts.
+    ///
+    /// # Errors
+    ///
+    /// As of `put`. If the error is `Memory`, the closure was called, and the miss and the evicted entries are counted.
+    pub fn get_or_put_counted<T>(
+        &mut self,
+        name: &T,
+        key: K,
+        make: impl FnOnce() -> V,
+    ) -> Result<Option<&V>, TenantError>
+    where
+        N: Borrow<T>,
+        T: Eq + Hash + ?Sized,
+    {
+        self.cache.get_or_put_counted(&Borrowed(name), key, make)
     }
 }

@@ -7,7 +7,8 @@ use crate::erased::lru_limits::{Admission, Budgeted, Limiter, Summing};
 
 /// Limits as the limiter inside does, and carries the counts of the map.
 ///
-/// In a `TenantCache` with this limiter, call `get_counted` and `put_counted`. No other call counts.
+/// In a `TenantCache` with this limiter, call `get_counted`, `put_counted` and `get_or_put_counted`. No other call
+/// counts.
 ///
 /// In the examples of the calls, `counted` has one tenant, 1, with a budget of 3, the entry (7, 2) and its insertion.
 ///

@@ -73,9 +73,16 @@ fn counted_2(counted: &mut Counted) -> Result<bool, TenantError> {
         & all!(
             (counts.insertions, counts.rejections, counts.evictions) == (2, 1, 1),
             recount(counted),
-            counted.get_counted(&1, &7) == Ok(Some(&2)),
-            counted.get_counted(&1, &8) == Ok(None)
+            counted.get_or_put_counted(&1, 7, || 3) == Ok(Some(&2)),
+            counted.get_or_put_counted(&1, 8, || 2) == Ok(Some(&2))
         );
+    let counts = counted.counts(&1)?;
+    Ok(held & all!((counts.hits, counts.misses, counts.insertions, counts.evictions) == (1, 1, 2, 1)))
+}
+
+fn counted_3(counted: &mut Counted) -> Result<bool, TenantError> {
+    let held =
+        all!(recount(counted), counted.get_counted(&1, &7) == Ok(Some(&2)), counted.get_counted(&1, &8) == Ok(None));
     let counts = counted.counts(&1)?;
     Ok(held & all!((counts.hits, counts.misses, counts.insertions) == (1, 1, 1)))
 }
@@ -85,7 +92,11 @@ fn on_a_counted() {
     let run = |rt: HostRuntime| -> () {
         let alloc = rt.alloc();
         let mut counted: Counted = TenantCache::with_hasher(alloc, RandomState::with_seeds([1, 2, 3, 4]));
-        let held = all!(counted_1(&mut counted).unwrap_or(false), counted_2(&mut counted).unwrap_or(false));
+        let held = all!(
+            counted_1(&mut counted).unwrap_or(false),
+            counted_2(&mut counted).unwrap_or(false),
+            counted_3(&mut counted).unwrap_or(false)
+        );
         check!(rt; held);
     };
     run(HostRuntime).passes();

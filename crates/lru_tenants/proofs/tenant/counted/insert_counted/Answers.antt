@@ -1,26 +1,12 @@
-use Rattle.std.proofs.Common.{◌≡◌, arith, ap, ◌∙◌}
+use Rattle.std.proofs.Common.{◌∙◌, arith}
 use Rattle.lru_caches.proofs.OtherEntries.{other-count}
-use Rattle.lru_caches.specs.Counted.{inserted, evicted}
-use Rattle.lru_tenants.specs.Counting.{counting_rules, with_counts}
-use Rattle.lru_tenants.proofs.CountedPuts.{kept-there, some-entry}
+use Rattle.lru_tenants.proofs.CountedPuts.{some-entry}
 use Rattle.lru_tenants.proofs.tenant.counted.insert_counted.Goals as goal
 
-pub returns-clause-inserts : goal.returns-clause-inserts
-returns-clause-inserts g c =
-    let names = g.K.PartialEq.eq c.args.key in
-    let before = c.args.map.now.pairs in let left = c.insert-done.new.map in
-    let same : c.saturating_sub-evicted.result ≡ evicted names before left.pairs = omega (
+pub insert_beside-requires-clause-others : goal.insert_beside-requires-clause-others
+insert_beside-requires-clause-others g c =
+    let names = g.K.PartialEq.eq c.args.key in let pairs = c.args.map.now.pairs in omega (
       arith,
-      c.saturating_sub-evicted.ensures,
       c.len.ensures.len,
-      c.len-2.ensures.len,
-      other-count names before c.contains.result (c.contains.ensures ∙ some-entry names before),
-      other-count names left.pairs c.is_kept-is_there.result
-          (c.is_kept-is_there.ensures ∙ kept-there (counting_rules g.L.Limiter.rules) names left c.insert-done.result c.insert-done.ensures.ends.says),
-    ) in (
-      left,
-      c.insert-done.ensures.inserts,
-      c.set_counts.ensures.map ∙ ap (λ counts. with_counts counts left) (c.count_insert.ensures
-          ∙ ap (λ n. inserted c.insert-done.result n c.limiter.result.now.counts) same
-          ∙ ap (λ s. inserted c.insert-done.result (evicted names before left.pairs) s.counts) c.limiter.ensures),
+      other-count names pairs c.contains.result (c.contains.ensures ∙ some-entry names pairs),
     )

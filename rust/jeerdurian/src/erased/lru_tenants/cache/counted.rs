@@ -10,7 +10,7 @@ use crate::erased::lru_tenants::cache::TenantCache;
 use crate::erased::lru_tenants::cache::passing::put_answer;
 use crate::erased::lru_tenants::counting::Counting;
 use crate::erased::lru_tenants::error::TenantError;
-use crate::erased::lru_tenants::tenant::counted::{insert_counted, look_up, set_counts};
+use crate::erased::lru_tenants::tenant::counted::{get_or_insert_counted, insert_counted, look_up, set_counts};
 use crate::erased::lru_tenants::tenant::newest;
 use crate::erased::schnellru::{KeyHasher, LookupKey};
 use crate::rattle_std::hash::Hash;
@@ -124,5 +124,37 @@ impl<N: Eq + Hash, K: Eq + Hash, V, L: Budgeted<K, V>, S: KeyHasher<K> + Copy> T
             return Err(TenantError::NotOpen);
         };
         put_answer(insert_counted(own, key, value))
+    }
+
+    /// Does what `get_or_put` does, and counts a hit, or a miss and then what `put_counted` counts.
+    ///
+    /// ```text
+    /// assert_eq!(rt; counted.get_or_put_counted(&1, 7, || 3), Ok(Some(&2)));
+    /// assert_eq!(rt; counted.get_or_put_counted(&1, 8, || 2), Ok(Some(&2)));
+    /// let counts = counted.counts(&1)?;
+    /// assert_eq!(rt; (counts.hits, counts.misses, counts.insertions, counts.evictions), (1, 1, 2, 1));
+    /// ```
+    ///
+    /// Cost: if the key is there, as `get`, else as `put`, and a search.
+    ///
+    /// # Errors
+    ///
+    /// As `put`. If the error is `Memory`, the closure was called, and the miss and the evicted entries are counted.
+    pub fn get_or_put_counted<T: LookupKey<N>, F: FnOnce() -> V>(
+        &mut self,
+        name: &T,
+        key: K,
+        make: F,
+    ) -> Result<Option<&V>, TenantError> {
+        let Some(own) = self.tenants.peek_mut(name) else {
+            return Err(TenantError::NotOpen);
+        };
+        let Ok(there) = get_or_insert_counted(own, key, make) else {
+            return Err(TenantError::Memory);
+        };
+        if !there {
+            return Ok(None);
+        }
+        Ok(newest(own))
     }
 }

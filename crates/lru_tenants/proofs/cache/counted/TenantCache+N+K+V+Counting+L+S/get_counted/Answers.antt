@@ -1,4 +1,4 @@
-use Rattle.std.proofs.Common.{◌≡◌, is_some, true, false, None, Some, Ok, Err, sym, refl, ap, ◌∙◌, arith}
+use Rattle.std.proofs.Common.{◌≡◌, is_some, true, false, None, Ok, Err, sym, refl, ap, ◌∙◌, arith}
 use Rattle.lru_model.specs.Lists.{lookup}
 use Rattle.lru_tenants.specs.Counting.{CountsGet, IsCountingTenant}
 use Rattle.lru_tenants.specs.TenantRuns.{read_of, IfOpen}

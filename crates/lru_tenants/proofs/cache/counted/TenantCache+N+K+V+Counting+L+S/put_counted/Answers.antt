@@ -1,4 +1,4 @@
-use Rattle.std.proofs.Common.{None, sym, refl, ap, ◌∙◌}
+use Rattle.std.proofs.Common.{None, sym, refl}
 use Rattle.lru_limits.specs.Admissions.{offers_of}
 use Rattle.lru_tenants.specs.Counting.{counting_rules, counting_terms, CountsPut, IsCountingTenant}
 use Rattle.lru_tenants.specs.TenantRuns.{OfOpen, Puts}
@@ -29,7 +29,8 @@ pub returns-clause-puts : goal.returns-clause-puts
 returns-clause-puts g c = rw (← c.self.view_is) (on-written g.met.T.LookupKey.laws c.args.name.now
     (OfOpen (CountsPut (Puts (counting_rules g.L.Limiter.rules)
     (offers_of (counting_terms g.L.Admission.terms)) (λ s. g.L.Budgeted.budget_of s.limiter) g.K.PartialEq.eq
-    g.S.KeyHasher.hash_of c.args.key c.args.value) (g.K.PartialEq.eq c.args.key))) c.put_answer.result g.met.N.Eq.laws c.self.inside.tenants.pairs c.in-Some.own.now
+    g.S.KeyHasher.hash_of c.args.key c.args.value) (g.K.PartialEq.eq c.args.key))) c.put_answer.result
+    g.met.N.Eq.laws c.self.inside.tenants.pairs c.in-Some.own.now
     c.insert_counted.new.map (sym c.in-Some.ensures.value) (counts-put
     (counting_rules g.L.Limiter.rules) (offers_of (counting_terms g.L.Admission.terms)) g.L.Budgeted.budget_of
     g.K.PartialEq.eq g.S.KeyHasher.hash_of c.args.key c.args.value c.in-Some.own.now c.insert_counted.result
@@ -40,4 +41,5 @@ pub returns-in_default-clause-puts : goal.returns-in_default-clause-puts
 returns-in_default-clause-puts g c = rw (← c.self.view_is) (on-same g.met.T.LookupKey.laws c.args.name.now
     (OfOpen (CountsPut (Puts (counting_rules g.L.Limiter.rules)
     (offers_of (counting_terms g.L.Admission.terms)) (λ s. g.L.Budgeted.budget_of s.limiter) g.K.PartialEq.eq
-    g.S.KeyHasher.hash_of c.args.key c.args.value) (g.K.PartialEq.eq c.args.key))) _ _ None (sym c.in_default.ensures.value) (refl, refl))
+    g.S.KeyHasher.hash_of c.args.key c.args.value) (g.K.PartialEq.eq c.args.key))) _ _ None
+    (sym c.in_default.ensures.value) (refl, refl))
