@@ -16,7 +16,7 @@ module _ (R : RattleType) where
   place block o (Some entry) = part_at R full_share entry block o
   place block o None = froom (raw (lone R.mir)) block o
 
-  -- a list of adjacent places, of which the first begins o bytes into a block
+  -- adjacent places; the first place begins o bytes into a block
   abbrev pub places : ℕ → ℕ → List (Option R.Denot) → Fml
   places block o [] = ftrue
   places block o (held ∷ more) = fsep (place block o held) (places block (o + type_size R) more)

@@ -10,6 +10,6 @@ pub record Fits {T : Type 0} (slots : List (Slot T)) (hash_of : ℕ → ℕ) : T
   pub tags : (b : ℕ) (held : Tagged T) → bucket_at slots b ≡ full held → held.tag ≡ hash_tag (hash_of b)
   pub reached : (b : ℕ) → IsFull slots b → Reaches (bucket_states slots) (hash_of b) b
 
--- `hash_of`, but with this hash for bucket b
+-- the function `hash_of`, changed to return `hash` for bucket b
 abbrev pub with_hash : (ℕ → ℕ) → ℕ → ℕ → ℕ → ℕ
 with_hash hash_of b hash other = if nat_eq other b then hash else hash_of other
