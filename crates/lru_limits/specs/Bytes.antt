@@ -4,7 +4,8 @@
 --     `both_own of_k of_v`: what an entry owns: the bytes that its key owns, plus the bytes that its value owns.
 --     `Bytes`: the limit, and the two sums that the limiter keeps.
 --     `left_for_entries b`: the limit minus the bytes of the table, but at least 0.
---     `by_bytes`, `bytes_offers`, `bytes_terms`: the rules, the offers and the terms, for given bytes of an entry.
+--     `by_bytes`, `bytes_offers`, `bytes_terms`: the rules, offers and terms; `bytes_of` gives the bytes that an entry
+--         owns.
 --     `bytes-sums`: the limiter satisfies the laws of `Summing`.
 use Rattle.std.specs.Prelude.{◌≡◌, ◌+◌, ◌-◌, ◌*◌, ◌/◌, ◌^◌, ◌==◌, ℕ, min, Bool, true, false, nat_lt, nat_le, if◌then◌else◌, refl}
 use Rattle.lru_limits.specs.Rules.{Rules, Offers}
@@ -29,7 +30,7 @@ pub record Bytes : Type 0 where
   pub limit : ℕ
   -- the sum of the bytes that the entries own
   pub owned : ℕ
-  -- the bytes of the table that the limiter permitted last
+  -- the bytes of the last table that the limiter permitted
   pub table : ℕ
 
 abbrev pub left_for_entries : Bytes → ℕ
@@ -41,7 +42,7 @@ grown_owns true b n = refl
 grown_owns false b n = refl
 
 module _ {K V : Type 0} (bytes_of : K → V → ℕ) where
-  -- A table is permitted if `owned` plus its bytes is at most the limit. The old table is not counted.
+  -- A table is permitted if `owned` plus the bytes of the table is at most the limit. The old table is not counted.
   abbrev pub by_bytes : Rules K V Bytes
   by_bytes = record {
     is_over_the_limit = λ b n. nat_lt (left_for_entries b) b.owned;
@@ -51,7 +52,7 @@ module _ {K V : Type 0} (bytes_of : K → V → ℕ) where
         answers (if fits then record b { table = bytes } else b) fits;
   }
 
-  -- An entry is accepted if its bytes are at most `left_for_entries`, and `owned` plus its bytes fits 64 bits. A new
+  -- An entry that owns n bytes is accepted if n is at most `left_for_entries`, and `owned` plus n fits 64 bits. A new
   -- value is accepted if its entry would be accepted after the removal of the old entry.
   abbrev pub bytes_terms : Terms K V Bytes
   bytes_terms = record {

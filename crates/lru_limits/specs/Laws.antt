@@ -1,8 +1,10 @@
 -- The laws of the traits.
---     `IsLookup names eq query_input key_input`: the laws of `LookupKey`: what a query and a key write to a hasher.
+--     `IsLookup names eq query_input key_input`: the laws of `LookupKey`. A query writes `query_input` to a hasher, and
+--         a key writes `key_input`.
 --     `IsInsertion names eq offers`: the laws of `Insertion`.
 --     `IsAccount rules offers cost account`: the laws of `Summing`.
---     `kept_value r`: the value that stays: the new value if r accepts it, or else the old value.
+--     `kept_value r`: the value that the entry has after r: the new value if r accepts the new value, or else the old
+--         value.
 use Rattle.std.specs.Prelude.{◌≡◌, ◌≤◌, ◌+◌, ◌-◌, ℕ, Bool, List, Some, None, IsTrue, if◌then◌else◌}
 use Rattle.lru_limits.specs.Rules.{Rules, Offers, Replaced}
 
@@ -18,7 +20,7 @@ pub record IsInsertion {K V S I : Type 0} (names : I → K → Bool) (eq : K →
   -- the offered key names the key of the entry to store
   pub names_given : (s : S) (n : ℕ) (i : I) (v : V) (t : S) (k : K) (w : V) → offers.on_insert s n i v t (Some (k, w))
       → IsTrue (names i k)
-  -- `on_replace` leaves a stored key that equals the old stored key
+  -- the stored key after `on_replace` equals the stored key before
   pub keeps_key : (s : S) (n : ℕ) (k : K) (i : I) (v w : V) → IsTrue (names i k)
       → IsTrue (eq k (offers.on_replace s n k i v w).key)
 
