@@ -1,6 +1,6 @@
 -- Which pairs a call passes to its callback: each evicted or removed pair, and each pair that the limiter returned but
--- the map could not store. The callback gets each pair as `on_removed` of the limiter leaves it, in the order of the
--- calls of `on_removed`.
+-- the map could not store. The callback gets each pair as `on_removed` of the limiter leaves the pair, in the order of
+-- the calls of `on_removed`.
 --     `rules`, `offers`: the limiter's `Rules` and `Offers` (`lru_limits`).
 --     `names i k`: the inserted key i names k.
 --     `closure`: how the callback may be called.

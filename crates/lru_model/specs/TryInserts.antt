@@ -10,8 +10,7 @@ use Rattle.lru_model.specs.Inserts.{Insert}
 use Rattle.lru_model.specs.Runs.{Step, Run}
 use Rattle.lru_model.specs.declared.results.ReserveError.{ReserveError}
 
--- `ready` is the map just before the insert, which is the map `old` if growth is left, or else `old` after a
--- reservation.
+-- `ready` is the map just before the insert: `old` if growth is left, or else `old` after a reservation of growth.
 pub data IsReady {K V S H : Type 0} (rules : Rules K V S) (old ready : State K V S H) : Type 0 where
   has_growth : 0 < growth_left old → ready ≡ old →
       IsReady rules old ready
@@ -19,7 +18,7 @@ pub data IsReady {K V S H : Type 0} (rules : Rules K V S) (old ready : State K V
       IsReady rules old ready
 
 module _ {K V S : Type 0} (terms : Terms K V S) (rules : Rules K V S) where
-  -- whether the limiter accepts the pair of a new key, and is not over its limit when the pair is stored
+  -- whether the limiter accepts the pair of a new key, and the map would not be over the limit with this pair
   abbrev pub can_store : K → V → Contents K V S → Bool
   can_store key value c = if terms.accepts c.limiter (length c.pairs) key value
       then not (rules.is_over_the_limit (terms.admit c.limiter (length c.pairs) key value) (length c.pairs + 1))
