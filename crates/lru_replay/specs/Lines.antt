@@ -34,7 +34,7 @@ module _ (old new : Option (List ℕ)) where
   abbrev pub TakesRest : List ℕ → Type 0
   TakesRest bytes = Lacks 10 bytes × Consumes old new bytes × OnSome old (IsAtEnd new)
 
-  -- what was taken from the reader by one look at its buffer
+  -- what one look at the reader's buffer took from the reader
   abbrev pub TakesPiece : Piece → List ℕ → Type 0
   TakesPiece pieces.Part bytes = TakesPart bytes
   TakesPiece pieces.Last bytes = TakesFed bytes

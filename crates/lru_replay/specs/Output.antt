@@ -34,7 +34,7 @@ abbrev pub rest_text : List (ℕ × ℕ) → List ℕ
 rest_text [] = []
 rest_text (p ∷ pairs) = 32 ∷ pair_text p ++ rest_text pairs
 
--- the text of the next pair, with a space in front if a pair was written before
+-- the text of the next pair, with a space in front if this pair is not the first
 abbrev pub taken_text : Bool → Option (ℕ × ℕ) → List ℕ
 taken_text any None = []
 taken_text false (Some p) = pair_text p
@@ -49,7 +49,7 @@ abbrev pub value_text : Option ℕ → List ℕ
 value_text None = codes "none"
 value_text (Some v) = decimal v
 
--- the text of a removed pair, such as `3:30`, or `none`
+-- the text of a removed pair, such as `3:30`, or `none` if no pair was removed
 abbrev pub left_text : Option (ℕ × ℕ) → List ℕ
 left_text None = codes "none"
 left_text (Some p) = pair_text p
