@@ -9,7 +9,7 @@ use Rattle.ordered_table.specs.OrderedTable.{bucket_after, bucket_before}
 use Rattle.ordered_table.specs.declared.linked.Entry.{Entry}
 use Rattle.ordered_table.specs.declared.linked.chain.Chain.{Chain}
 
--- the bucket with a pair in place of an entry, which also contains links
+-- the bucket with the pair of the entry, without the links
 abbrev pub pair_slot : {K V N : Type 0} → Slot (Entry K V N) → Slot (K × V)
 pair_slot empty = empty
 pair_slot deleted = deleted
