@@ -65,7 +65,7 @@ module _ (IsText : List (List ℕ) → List ℕ → Type 0) (from : Option (List
       × IsText lines text × TakesLines from to lines part × Wrote text
 
 module _ (IsText IsTextSoFar : List (List ℕ) → List ℕ → Type 0) (from to old new : Option (List ℕ)) where
-  -- Either all lines or some whole lines were read. A beginning of the answers to the read lines was written.
+  -- Either all lines or some whole lines were read. A beginning of the answers to these lines was written.
   abbrev pub BeginsText : Type 0
   BeginsText = (OfAll IsText from (Begins old new) × OnSome from (IsAtEnd to))
       ⊎ OfRead IsTextSoFar from to (Begins old new)
