@@ -115,7 +115,7 @@ impl<
     /// assert_eq!(rt; evicted, 7);
     /// ```
     ///
-    /// Cost: as `set_budget`, and the calls of the callback.
+    /// Cost: as `set_budget`, plus the calls of the callback.
     ///
     /// # Errors
     ///
