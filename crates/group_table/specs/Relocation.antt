@@ -10,9 +10,9 @@ module _ {N : Type 0} (number : N → ℕ) (none : N) where
   abbrev pub moved_to : List N → ℕ → ℕ
   moved_to links b = number (slice_index_or links b none)
 
--- Below, `old b` is the entry that was in the old bucket b, if there was one.
+-- Below, `old b` is the entry that was in the old bucket b, or `None` if there was no entry.
 module _ {T N : Type 0} (number : N → ℕ) (none : N) (old : ℕ → Option T) (new : List (Slot T)) (links : List N) where
-  -- each entry is in the new bucket that its link names, and no other new bucket is full
+  -- each entry is in the new bucket that the link for its old bucket names, and no other new bucket is full
   pub record Moves : Type 0 where
     pub moved : (b : ℕ) (entry : T) → old b ≡ Some entry → entry_at new (moved_to number none links b) ≡ Some entry
     pub others : (b : ℕ) → old b ≡ None → slice_index_or links b none ≡ none
