@@ -1,7 +1,7 @@
 -- Two limiters that limit one map.
 --     `both_rules a b`: a map is over the limit if it is over one of the two limits; a table is permitted if both
 --         limiters permit the table.
---     `both_terms a b`: an entry is accepted if both limiters accept it.
+--     `both_terms a b`: an entry is accepted if both limiters accept the entry.
 --     `both-sums`: a running total of the first limiter is a running total of `Both`, too.
 use Rattle.std.specs.Prelude.{◌≡◌, ◌≤◌, ◌+◌, ◌-◌, ◌&&◌, ◌||◌, ℕ, Bool, true, false, Some, None, IsTrue}
 use Rattle.std.specs.Prelude.{if◌then◌else◌, refl}
@@ -14,7 +14,7 @@ use Rattle.lru_limits.specs.Stores.{ReturnsPairIf, given-adds, refused-keeps}
 use Rattle.lru_limits.specs.Admissions.{Terms, offers_of}
 
 module _ {K V A B : Type 0} where
-  -- `on_removed` of the second limiter gets the key and the value that `on_removed` of the first limiter left
+  -- `on_removed` of the second limiter gets the key and the value that `on_removed` of the first limiter returned
   abbrev pub both_rules : Rules K V A → Rules K V B → Rules K V (Both A B)
   both_rules a b = record {
     is_over_the_limit = λ s n. a.is_over_the_limit s.0 n || b.is_over_the_limit s.1 n;

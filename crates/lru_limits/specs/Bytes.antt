@@ -1,7 +1,8 @@
 -- The limiter by bytes.
 --     `in_word n`: n, but at most `u64::MAX`.
 --     `block_bytes n`: what a block of n bytes takes from the allocator.
---     `both_own of_k of_v`: what an entry owns: the bytes that its key owns, plus the bytes that its value owns.
+--     `both_own of_k of_v`: the bytes that an entry owns: the bytes that the key owns, plus the bytes that the value
+--         owns.
 --     `Bytes`: the limit, and the two sums that the limiter keeps.
 --     `left_for_entries b`: the limit minus the bytes of the table, but at least 0.
 --     `by_bytes`, `bytes_offers`, `bytes_terms`: the rules, offers and terms; `bytes_of` gives the bytes that an entry
@@ -17,8 +18,8 @@ use Rattle.lru_limits.specs.Stores.{answers, given-adds, refused-keeps, replaced
 abbrev pub in_word : ℕ → ℕ
 in_word n = min n (2 ^ 64 - 1)
 
--- A block of n bytes takes n bytes, rounded up to a multiple of 16, plus 16, but at most 2 ^ 64 - 16. If n is 0, no
--- block is allocated, and the result is 0.
+-- A block of n bytes takes n, rounded up to a multiple of 16, plus 16 bytes from the allocator. The result is at most 2
+-- ^ 64 - 16. If n is 0, no block is allocated, and the result is 0.
 abbrev pub block_bytes : ℕ → ℕ
 block_bytes n = if n == 0 then 0 else in_word (n + 31) / 16 * 16
 
@@ -53,7 +54,7 @@ module _ {K V : Type 0} (bytes_of : K → V → ℕ) where
   }
 
   -- An entry that owns n bytes is accepted if n is at most `left_for_entries`, and `owned` plus n fits 64 bits. A new
-  -- value is accepted if its entry would be accepted after the removal of the old entry.
+  -- value is accepted if the entry with this value would be accepted after the removal of the old entry.
   abbrev pub bytes_terms : Terms K V Bytes
   bytes_terms = record {
     accepts = λ b n k v. can_add (left_for_entries b) b.owned (bytes_of k v);
