@@ -63,8 +63,8 @@ CalledWith closure f pairs g = FoldsTo (λ p pair q. Called closure p (pair.0, (
 
 module _ {K V S H I : Type 0} (rules : Rules K V S) (offers : Offers K V S I) (names : I → K → Bool)
     (hash_of : H → K → ℕ) where
-  -- An insert that passes the pairs `passed` to its callback. In this definition, the limiter has a list (`noting`),
-  -- which is empty before the insert, and `passed` after it.
+  -- An insert that passes the pairs `passed` to its callback. In this definition, the limiter has a list (`noting`).
+  -- The list is empty before the insert, and equals `passed` after the insert.
   abbrev pub InsertPasses : I → V → State K V S H → Result Bool AllocError → List (K × V) → State K V S H → Type 0
   InsertPasses i v old result passed new = Insert (noting rules) (noting_offers offers) names hash_of i v (noted [] old)
       result (noted passed new)

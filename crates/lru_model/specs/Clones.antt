@@ -1,4 +1,4 @@
--- A clone of a map has clones of the map's keys, values, limiter and hasher, and equals the map in all else.
+-- A clone of a map has clones of the map's keys, values, limiter and hasher, and equals the map in all other fields.
 --     `same_key`, `same_value`, ..: whether the second argument is a clone of the first.
 use Rattle.std.specs.Prelude.{◌≡◌}
 use Rattle.std.specs.List.{AllZip}

@@ -53,7 +53,7 @@ module _ {K V S : Type 0} (rules : Rules K V S) where
         MayReport hash st report
 
   -- What a table of up to 16 buckets reports. The contents c are the contents of the map `st` after some pairs were
-  -- removed. Each removed pair raised the growth left by one.
+  -- removed. Each removed pair raised `growth_left` by one.
   abbrev pub small_report : {H : Type 0} → State K V S H → Contents K V S → Report
   small_report st c =
       if nat_lt 0 (growth_left st + length st.pairs - length c.pairs) then at_once
@@ -102,8 +102,8 @@ module _ {K V S I : Type 0} (rules : Rules K V S) (offers : Offers K V S I) (nam
     not_offered : offers.may_run_out old.limiter (length old.pairs) i v → IsErr result → new ≡ old → InsertsNew
     not_admitted : (s : S) → MayGive rules offers names i v old s None →
         result ≡ Ok false → new ≡ record { pairs = old.pairs; limiter = s } → InsertsNew
-    -- The limiter returns a pair to store. The pair is stored if the table reports a bucket for it, unless the map runs
-    -- out of memory.
+    -- The limiter returns a pair to store. The pair is stored if the table reports a bucket for the pair, unless the
+    -- map runs out of memory.
     admitted : (s : S) (pair : K × V) → MayGive rules offers names i v old s (Some pair) →
         (report : Report) → Tells s pair report →
         stored rules report pair (make_room rules (record { pairs = old.pairs; limiter = s })) ≡ (result, new) →

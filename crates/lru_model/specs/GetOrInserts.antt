@@ -11,8 +11,8 @@ use Rattle.lru_model.specs.Theorems.{IsNewest}
 
 module _ {K V S H I : Type 0} (rules : Rules K V S) (offers : Offers K V S I) (names : I → K → Bool)
     (hash_of : H → K → ℕ) where
-  -- If the key is there, its pair becomes the newest. If the key is not there, it is inserted with a value that the
-  -- closure returns. The result says whether the key is there after the call.
+  -- If the key is there, the pair of the key becomes the newest. If the key is not there, the key is inserted with a
+  -- value that the closure returns. The result says whether the key is there after the call.
   pub data MakesNewest (makes : V → Type 0) (i : I) (old : State K V S H) (result : Result Bool AllocError)
       (new : State K V S H) : Type 0 where
     got : (w : V) → lookup (names i) old.pairs ≡ Some w →

@@ -16,9 +16,9 @@ pub record ChangesNoPair {K V S : Type 0} (rules : Rules K V S) : Type 0 where
   pub value : (s : S) (k : K) (v : V) → (rules.on_removed s k v).value ≡ v
 
 module _ {K V S H I : Type 0} (rules : Rules K V S) (offers : Offers K V S I) (names : I → K → Bool) where
-  -- An insert loses only a value that it replaces or rejects. After the insert, each old pair, and the pair that the
-  -- limiter returned for a new key, is in the map or was passed to the callback. `passed` lists the pairs that the
-  -- callback got, in order.
+  -- A value is lost only if the insert replaces or rejects the value. After the insert, each old pair, and the pair
+  -- that the limiter returned for a new key, is in the map or was passed to the callback. `passed` lists the pairs that
+  -- the callback got, in order.
   pub data LosesNothing (i : I) (v : V) (old : State K V S H) (result : Result Bool AllocError)
       (passed : List (K × V)) (new : State K V S H) : Type 0 where
     -- A pair is stored as the newest, in front of the old pairs of other keys. The oldest pairs may be evicted. If no

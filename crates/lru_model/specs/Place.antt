@@ -1,5 +1,5 @@
--- The insertion of a new pair into the table: what the growth left allows, what the limiter permits, and how many
--- entries move.
+-- The insertion of a new pair into the table: whether growth is left, what the limiter permits, and how many entries
+-- move.
 use Rattle.std.specs.Prelude.{◌≡◌, ℕ, zero, suc, ◌+◌, ◌-◌, ◌/◌, ◌≤◌, ◌<◌, ◌⊎◌, Bool, true, false, List, [], ◌∷◌}
 use Rattle.std.specs.Prelude.{length}
 use Rattle.std.specs.Prelude.{Result, Ok, Err, slice_set}
@@ -20,8 +20,8 @@ outcome_of (Ok true) = placed
 outcome_of (Ok false) = refused
 outcome_of (Err e) = no_memory
 
--- The new pair, now the newest, fills the first free bucket in a search for its hash. No other bucket changes. If the
--- bucket was empty, the growth left falls by one. If the bucket was deleted, the growth left stays, and the table has
+-- The new pair becomes the newest. It fills the first free bucket in a search for the hash. No other bucket changes. If
+-- the bucket was empty, `growth_left` falls by one. If the bucket was deleted, `growth_left` stays, and the table has
 -- more than 16 buckets.
 pub record FillsBucket (hash : ℕ) (old new : TableState) : Type 0 where
   pub bucket : ℕ
@@ -45,7 +45,7 @@ pub record IsTooSmallFor (hash n : ℕ) (states : List BucketState) : Type 0 whe
   pub begun : (length states ≡ 0) ⊎ (0 < n)
 
 module _ {K V S H : Type 0} where
-  -- The new pair is stored as the newest. The table now has `count` buckets, and the growth left is `spare`. The insert
+  -- The new pair is stored as the newest. The table now has `count` buckets, and `growth_left` is `spare`. The insert
   -- moved `moves` entries.
   pub record IsPlaced (pair : K × V) (count spare moves : ℕ) (old new : State K V S H) : Type 0 where
     pub table : buckets new ≡ count
@@ -56,7 +56,7 @@ module _ {K V S H : Type 0} where
       counts = count_insert moves old.counts;
     }
 
-  -- the pair was stored in a table of the same size, and no entry moved for it
+  -- the pair was stored in a table of the same size, and no entry moved
   abbrev pub IsPlacedInTable : K × V → State K V S H → State K V S H → Type 0
   IsPlacedInTable pair old new = IsPlaced pair (buckets old) (growth_left new) 0 old new
 

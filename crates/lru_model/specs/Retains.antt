@@ -15,7 +15,7 @@ module _ {K V S : Type 0} (rules : Rules K V S) where
   answered (pair, true) c = record { pairs = pair ∷ c.pairs; limiter = c.limiter }
   answered (pair, false) c = record { pairs = c.pairs; limiter = notified_of rules (Some pair) c.limiter }
 
-  -- The contents that a retain leaves. The given list contains each pair, newest first, with the flag that the closure
+  -- The contents after a retain. The given list contains each pair, newest first, with the flag that the closure
   -- returned for this pair. The closure was called with the oldest pair first.
   abbrev pub retained : List ((K × V) × Bool) → S → Contents K V S
   retained [] s = record { pairs = []; limiter = s }

@@ -4,7 +4,7 @@ use Rattle.std.specs.Prelude.{◌≡◌, ◌⊎◌, ℕ, ◌+◌, ◌-◌, ◌*�
 use Rattle.std.specs.Prelude.{Option, Some, None}
 use Rattle.group_table.specs.Sizes.{IsPowerFromFour, full_capacity, buckets_for}
 
--- The number of the link `MAX`, for links of 32 bits and of 64 bits. The number of each bucket is smaller.
+-- The number of the link `MAX`, for links of 32 bits and of 64 bits. All bucket numbers are smaller.
 abbrev pub max_of_32_bits : ℕ
 max_of_32_bits = 2 ^ 32 - 1
 

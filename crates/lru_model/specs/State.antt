@@ -45,10 +45,10 @@ pub record State (K V S H : Type 0) : Type 0 where
   pub counts : Counts
   -- how many bytes an entry takes in the table; the constructor got or computed this number
   pub entry_bytes : ℕ
-  -- the number of the link `MAX`; the number of each bucket is smaller
+  -- the number of the link `MAX`; all bucket numbers are smaller
   pub max : ℕ
 
--- What holds for the bucket states and the counts of every map of n pairs. A table is sound if this holds for it.
+-- What holds for the bucket states and the counts of every map of n pairs. A table for which this holds is sound.
 pub record IsSound (n entry_bytes max : ℕ) (states : List BucketState) (counts : Counts) : Type 0 where
   pub table : IsTable states
   pub taken : entry_count states ≡ n
@@ -70,9 +70,9 @@ pub record IsPaid (potential : ℕ) (counts : Counts) : Type 0 where
   pub moved : counts.moved ≤ 2 * counts.placed + counts.shrunk
   pub ahead : IsAhead potential counts
 
--- How the bucket states change when n of the `was` pairs of a map stay, and the others are removed. The growth left
--- never falls. For each removed pair, the growth left rises by at most one, and by exactly one in a table of up to 16
--- buckets.
+-- How the bucket states change when n of the `was` pairs of a map stay, and the others are removed. `growth_left` never
+-- falls. For each removed pair, `growth_left` rises by at most one. In a table of up to 16 buckets, `growth_left` rises
+-- by exactly one for each removed pair.
 pub record GivesBack (was n : ℕ) (old new : List BucketState) : Type 0 where
   pub table : length new ≡ length old
   pub keeps : growth_left_of old ≤ growth_left_of new

@@ -10,7 +10,8 @@ use Rattle.lru_model.specs.Inserts.{Insert}
 use Rattle.lru_model.specs.Runs.{Step, Run}
 use Rattle.lru_model.specs.declared.results.ReserveError.{ReserveError}
 
--- `ready` is the map just before the insert: `old` if growth is left, or else `old` after a reservation of growth.
+-- `ready` is the map just before the insert. If growth is left, `ready` is `old`. If no growth is left, `ready` is
+-- `old` after a reservation of growth.
 pub data IsReady {K V S H : Type 0} (rules : Rules K V S) (old ready : State K V S H) : Type 0 where
   has_growth : 0 < growth_left old → ready ≡ old →
       IsReady rules old ready
