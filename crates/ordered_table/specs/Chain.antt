@@ -1,5 +1,5 @@
--- How links keep buckets in an order: each entry contains a link to the next newer entry and a link to the next older.
--- No public clause cites this module.
+-- How links keep buckets in an order: each entry contains a link to the next newer entry, and a link to the next older
+-- entry. No public clause cites this module.
 use Rattle.std.specs.Prelude.{◌≡◌, ◌≢◌, ◌⊎◌, ℕ, zero, suc, ◌<◌, slice_index_or, List, [], ◌∷◌, length, map}
 use Rattle.std.specs.Prelude.{Option, Some, None, option_map, unwrap_or, Contains, AllPairs}
 use Rattle.group_table.specs.Bucket.{empty, deleted, full, Slot, IsFull, bucket_at, entry_at, entry_count}
@@ -100,7 +100,7 @@ module _ {K V N : Type 0} (number : N → ℕ) (link : ℕ → N) (none : N) whe
     pub count : entry_count slots ≡ length order
 
   -- Bucket b, with these two links, is about to be taken out of the chain `order`. The slot of b may be free already.
-  -- All other slots have not changed.
+  -- No other slot has changed.
   pub record IsGap (slots : List (Slot (Entry K V N))) (newest oldest : N) (order : List ℕ) (b : ℕ) (newer older : N)
       : Type 0 where
     pub before : List (Slot (Entry K V N))
@@ -119,11 +119,11 @@ module _ {K V N : Type 0} (number : N → ℕ) (link : ℕ → N) (none : N) whe
   abbrev pub HasGap : Chain K V N → List ℕ → ℕ → N → N → Type 0
   HasGap chain = IsGap chain.table.slots chain.newest chain.oldest
 
-  -- the links keep an order of some buckets, one of which is b
+  -- the links keep an order of some buckets, and b is one of these buckets
   abbrev pub InChain : Chain K V N → ℕ → Type 0
   InChain chain b = (order : List ℕ) × KeepsOrder chain order × Contains order b
 
-  -- the links keep an order of some buckets, none of which is b
+  -- the links keep an order of some buckets, and b is none of these buckets
   abbrev pub OutOfChain : Chain K V N → ℕ → Type 0
   OutOfChain chain b = (order : List ℕ) × KeepsOrder chain order × (Contains order b → ⊥)
 
