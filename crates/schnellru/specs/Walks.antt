@@ -47,8 +47,8 @@ module _ {K V L S N H : Type 0} {equal : equality.Ghosts K} {input : hashing.Gho
   abbrev pub walk_written : ℕ → V → MutBor (State K V L S)
   walk_written at w = record walk.map { now = record walk.map.now { pairs = set_value_at walk.map.now.pairs at w } }
 
-  -- The walk after the walk lent the first pair that was left, and the caller wrote w. `walk_after_last` says the same
-  -- of the last pair.
+  -- What the walk is after it lent the first pair that was left, and the caller wrote w. `walk_after_last` says the
+  -- same of the last pair.
   abbrev pub walk_after_first : V → IterMut K V L S N H equal input limits links keyed build hash
   walk_after_first w = record walk {
     map = walk_written walk.start w;
