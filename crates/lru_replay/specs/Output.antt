@@ -21,7 +21,7 @@ Begins old new text = (part : List ℕ) × IsFront part text × Appends old new 
 abbrev pub Fails : ReplayError → Option (List ℕ) → Option (List ℕ) → List ℕ → Type 0
 Fails e old new text = (e ≡ errors.Write) × Begins old new text
 
--- the whole text was written, or a write failed after a beginning of the text
+-- the whole text was written, or a write failed after a beginning of the text was written
 abbrev pub Writes : {A : Type 0} → Option (List ℕ) → Option (List ℕ) → Result A ReplayError → List ℕ → Type 0
 Writes old new (Ok _) text = Appends old new text
 Writes old new (Err e) text = Fails e old new text
@@ -97,8 +97,8 @@ figures_text figures = named_text (codes "len ") figures.len ++ (named_text (cod
     ++ (named_text (codes " memory ") figures.memory ++ (named_text (codes " moved ") figures.moved
     ++ placed_text figures.placed figures.shrunk)))
 
--- The text of a reply. `cost` is the running total of the limiter, if the limiter keeps one. No line gets the reply
--- `cost_differs`.
+-- The text of a reply. `cost` is the running total of the limiter, or `None` if the limiter keeps no running total. No
+-- line gets the reply `cost_differs`.
 abbrev pub reply_text : Option ℕ → Reply ℕ ℕ → List ℕ
 reply_text cost (flag there) = flag_text there
 reply_text cost (given result out) = insert_text result ++ rest_text out

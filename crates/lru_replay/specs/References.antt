@@ -75,8 +75,8 @@ module _ {K V S H : Type 0} (cache : Cache K V S H) where
     pub does : LeavesKeys (keys_of old.pairs) old new
     pub stored : new.counts.placed ≡ old.counts.placed
 
-  -- The program made the references of a trace, which changed the map from `old` to `new`. The number of references
-  -- that did not find their key is `missed`. Between references, the program may have read the map or written values
+  -- The program made the references of a trace, and the map changed from `old` to `new`. `missed` is the number of
+  -- references that did not find their key. Between references, the program may have read the map or written values
   -- (`Reads`).
   pub data Referenced (old : State K V S H) : (trace : List K) (missed : ℕ) (new : State K V S H) → Type 0 where
     begins : Referenced old [] 0 old

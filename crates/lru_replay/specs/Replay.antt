@@ -51,8 +51,9 @@ abbrev pub SoFar : (List (List ℕ) → List ℕ → Type 0) → List (List ℕ)
 SoFar IsText [] text = text ≡ []
 SoFar IsText (first ∷ others) text = IsText (first ∷ others) text
 
--- How a replay ended. The reader had the bytes `from` left before, and has the bytes `to` left now. The writer's bytes
--- were `old` before, and are `new` now.
+-- How a replay ended. `from` lists the bytes that were left to read before, and `to` lists the bytes that are left to
+-- read now. `old` lists the bytes that were written before, and `new` lists all bytes that are written now. Each list
+-- may be unknown (`None`).
 module _ (from to old new : Option (List ℕ)) where
   pub record Finished : Type 0 where
     pub named : IfSome from (λ input. NamesNoLimit (lines_of input) → ⊥)
