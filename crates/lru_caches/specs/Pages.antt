@@ -1,5 +1,6 @@
 -- A page cache: which blocks the cache shows, which pages are dirty, and what a crash may leave.
---     `d`: the ghost members of the device, such as which blocks it has, and what a crash may leave of these blocks.
+--     `d`: the ghost members of the device, such as which blocks the device has, and what a crash may leave of these
+--         blocks.
 use Rattle.std.specs.Prelude.{◌≡◌, ◌≢◌, ◌⊎◌, ◌+◌, ◌-◌, ◌^◌, ◌<◌, ℕ, zero, suc, min, Bool, true, false, not, ◌&&◌, ◌||◌}
 use Rattle.std.specs.Prelude.{if◌then◌else◌, List, [], ◌∷◌, ◌++◌, map, length, reverse, filter, nat_eq, nat_lt, Option}
 use Rattle.std.specs.Prelude.{Some, None, option_map, is_some, IsTrue, IsPermutation, Result, Ok, Err, IfErr, OnOk, OnErr}
@@ -141,7 +142,7 @@ module _ {B D E S : Type 0} (d : device.Ghosts D B E S) where
   abbrev pub IsGood : D → Type 0
   IsGood device = IsTrue (d.is_usable device) × d.IsHonest device
 
-  -- If the device is good (`IsGood`), the cache still shows each block that it showed before.
+  -- If the device is good (`IsGood`), the cache still shows each block that the cache showed before.
   abbrev pub ShowsTheSame : Cached B D → Cached B D → Type 0
   ShowsTheSame old new = IsGood new.device → (n : ℕ) (block : S) → shown old n ≡ Some block → shown new n ≡ Some block
 
@@ -208,7 +209,7 @@ module _ {B D E S : Type 0} (d : device.Ghosts D B E S) where
   abbrev pub IsFlushCause : D → D → PageError E → Type 0
   IsFlushCause old new e = IsFault old new e ⊎ ((e ≡ Broken) × (d.is_usable old ≡ false))
 
-  -- A failed call does not change the pages and the counts, unless memory ran out after an eviction. In this case the
+  -- A failed call changes neither the pages nor the counts, unless memory ran out after an eviction. In this case the
   -- evicted page is gone, and the eviction is counted.
   abbrev pub Leaves : Cached B D → Cached B D → PageError E → Type 0
   Leaves old new e = ((new.pages ≡ old.pages) × (new.counts ≡ old.counts))
