@@ -23,7 +23,7 @@ table_bytes map = unwrap_or (usage map.entry_bytes (buckets map)) 0
 abbrev pub limit_of : {K V S : Type 0} → State K V Bytes S → ℕ
 limit_of map = map.limiter.limit
 
--- the empty map with which a tenant opens
+-- the empty map of a newly opened tenant
 abbrev pub fresh : {K V S : Type 0} → ℕ → S → ℕ → State K V Bytes S
 fresh entry_bytes hasher own =
     empty_map (record { limit = own; owned = 0; table = 0 }) hasher entry_bytes max_of_32_bits
@@ -40,7 +40,8 @@ module _ {N K V S : Type 0} where
   abbrev pub IsWithin : (N → ℕ) → (K → V → ℕ) → ByteCache N K V S → Type 0
   IsWithin of_name of_pair cache = cache.table + sum_by (taken of_name of_pair) cache.tenants ≤ cache.limit
 
-  -- the bytes of the table of tenants, plus for each tenant the limit of this tenant and the bytes that its name owns
+  -- the bytes of the table of tenants, plus, for each tenant, the tenant's limit and the bytes that the tenant's name
+  -- owns
   abbrev pub reserved : (N → ℕ) → ByteCache N K V S → ℕ
   reserved of_name cache = cache.table + sum_by (λ t. both_own of_name limit_of t.0 t.1) cache.tenants
 

@@ -2,7 +2,7 @@
 --     `names name`: whether the call names the tenant of this name.
 --     `rules`, `offers`: the limiter's `Rules` and `Offers` (`lru_limits`).
 --     `own.0`, `own.1`: the share and the map of a tenant.
---     `account s`: the sum of the costs of the entries, which the limiter s keeps.
+--     `account s`: the running total of the limiter s, which is the sum of the costs of the entries.
 use Rattle.std.specs.Prelude.{◌≡◌, ℕ, ◌≤◌, ◌<◌, ◌+◌, ◌-◌, Bool, false, List, [], ◌∷◌, length, Option, Some, None}
 use Rattle.std.specs.Prelude.{option_map, is_some, sum_by, nat_lt, Result, Ok, Err, OnErr}
 use Rattle.std.specs.declared.alloc.AllocError.{AllocError}

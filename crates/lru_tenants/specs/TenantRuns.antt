@@ -1,5 +1,5 @@
 -- What a call does to the tenant that it names, and what a run of calls does to each tenant.
---     `fresh budget`: the empty map with which a tenant opens.
+--     `fresh budget`: the empty map of a newly opened tenant.
 use Rattle.std.specs.Prelude.{◌≡◌, ◌≤◌, ◌⊎◌, ℕ, Bool, true, false, List, [], length, reverse, Option, Some, None}
 use Rattle.std.specs.Prelude.{option_map, IfSome}
 use Rattle.std.specs.Prelude.{Result, Ok, Err}
