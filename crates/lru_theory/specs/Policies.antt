@@ -35,8 +35,8 @@ module _ {K : Type 0} (eq : K → K → Bool) (places : ℕ) where
     pub stored : is_in eq key new ≡ true → outside eq old new ≤ paid
     pub bypassed : is_in eq key new ≡ false → outside eq old new + fault eq key old ≤ paid
 
--- A policy with these steps began with the cache `old`, served a trace, paid for a number of keys, and left the cache
--- `new`.
+-- A policy with these steps began with the cache `old`, served a trace, paid for a number of keys, and ended with the
+-- cache `new`.
 pub data Served {K : Type 0} (IsStep : K → List K → ℕ → List K → Type 0) (new : List K) : List K → List K → ℕ → Type 0
   where
     ends : Served IsStep new new [] 0
