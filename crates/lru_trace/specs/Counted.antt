@@ -11,7 +11,7 @@ pub record Counted : Type 0 where
   pub names : List (String Global × ℕ)
   -- the numbers of the keys, the last referenced key first
   pub recency : List ℕ
-  -- for each reuse distance, how many counted references had it
+  -- for each reuse distance, how many counted references had this distance
   pub counts : List ℕ
   pub references : ℕ
   -- the number of the key of each counted reference, or `None` if the curve does not keep these numbers

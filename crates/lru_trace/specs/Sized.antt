@@ -46,7 +46,7 @@ total_of curve = sum_by (weight_in curve.sizes) curve.recency
 abbrev pub need_of : (ℕ → ℕ) → ℕ → List ℕ → Option ℕ
 need_of size key recency = option_map (λ behind. size key + behind) (position size key recency)
 
--- whether a reference with this need misses in a cache with this limit
+-- whether a reference misses in a cache with this limit, if the reference has this need (`need_of`)
 abbrev pub exceeds : Option ℕ → ℕ → Bool
 exceeds None limit = true
 exceeds (Some need) limit = nat_lt limit need

@@ -12,7 +12,7 @@ pub record Recent : Type 0 where
   pub weights : List ℕ
   pub room : ℕ
 
--- the weight of the key, which is 1 if the list contains no weight for this key
+-- the weight of the key, or 1 if the list contains no weight for this key
 abbrev pub weight_in : List ℕ → ℕ → ℕ
 weight_in weights key = get_or weights key 1
 

@@ -70,7 +70,7 @@ abbrev pub grid_text : ℕ → ℕ → List ℕ
 grid_text x size = codes "<path class='grid' d='M" ++ (decimal x ++ (codes " 700v3200'/><text class='tick' x='"
     ++ (decimal x ++ (codes "' y='4080'>" ++ (decimal size ++ codes "</text>\n")))))
 
--- The tick of a power of two on the axis. If the axis has more than nine powers, only some of them have a tick.
+-- The tick of a power of two on the axis. If the axis has more than nine powers, only some powers have a tick.
 abbrev pub tick_text : ℕ → ℕ → List ℕ
 tick_text octaves power =
     if level_of 63 power % (1 + octaves / 9) == 0 then grid_text (x_of octaves power) power else []
