@@ -113,8 +113,8 @@ pub record Copies (old copy : BytesMap) : Type 0 where
   pub entries : texts copy.pairs ≡ texts old.pairs
   pub rest : copy ≡ record old { pairs = copy.pairs }
 
--- If the oldest entry fits into the two buffers, the entry is copied into them and removed. If the oldest entry does
--- not fit, only the lengths of the key and the value are returned.
+-- If the oldest entry fits into the two buffers, the entry is copied into the buffers and removed. If the oldest entry
+-- does not fit, only the lengths of the key and the value are returned.
 pub data Pops (old : BytesMap) (answer : Popped) (key key_left value value_left : List ℕ)
     (new : BytesMap) : Type 0 where
   none : last old.pairs ≡ None → answer ≡ no_entry → key_left ≡ key → value_left ≡ value → new ≡ old →
