@@ -16,7 +16,7 @@ use Rattle.group_table.specs.declared.probe.Searched.TheVariants.{Accepted, Ende
 abbrev pub passed_by : Probe → ℕ
 passed_by probe = probe.stride - 16
 
--- a search for the hash visits the current group after `passed_by` buckets, a multiple of 16
+-- before the current group, a search for the hash visits `passed_by` buckets; this number is a multiple of 16
 pub record IsProbe (buckets hash : ℕ) (probe : Probe) : Type 0 where
   pub start : probe.start ≡ probed buckets hash (passed_by probe)
   pub whole : passed_by probe % 16 ≡ 0

@@ -17,8 +17,8 @@ module _ {T : Type 0} (slots : List (Slot T)) (hash : ℕ) where
   abbrev pub candidates : ℕ → List ℕ
   candidates steps = tagged slots (hash_tag hash) (probed (length slots) hash) steps
 
-  -- `asked` lists the candidates of the first `steps` steps of a search, and no bucket twice. The search makes all
-  -- these steps: no empty bucket ends the search earlier.
+  -- `asked` lists the candidates of the first `steps` steps of a search, and lists no bucket twice. The search makes
+  -- all these steps: no empty bucket ends the search earlier.
   pub record IsSearch (asked : List ℕ) : Type 0 where
     pub steps : ℕ
     pub within : steps ≤ length slots
