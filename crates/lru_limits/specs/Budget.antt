@@ -8,7 +8,7 @@
 --     `by_weight`, `weighs`: the rules and the offers of a limiter; the function `weight` gives the cost of an entry.
 --     `budget_terms`: the terms of the offers `weighs`.
 --     `by_cost`, `charges`: the rules and the offers of a limiter; the function `cost` gives the cost of a value.
---     `pair_cost o k v`: the cost of an entry: k + v + o, but at most `u64::MAX`.
+--     `pair_cost o k v`: the cost of an entry, which is k + v + o, but at most `u64::MAX`.
 --     `weighs-sums`, `charges-sums`: these limiters satisfy the laws of `Summing`.
 use Rattle.std.specs.Prelude.{◌+◌, ◌-◌, ◌^◌, ◌&&◌, ℕ, min, Bool, true, nat_lt, nat_le, if◌then◌else◌, refl}
 use Rattle.lru_limits.specs.Rules.{Rules, Offers}

@@ -20,7 +20,7 @@ pub record IsInsertion {K V S I : Type 0} (names : I → K → Bool) (eq : K →
   -- the offered key names the key of the entry to store
   pub names_given : (s : S) (n : ℕ) (i : I) (v : V) (t : S) (k : K) (w : V) → offers.on_insert s n i v t (Some (k, w))
       → IsTrue (names i k)
-  -- the stored key after `on_replace` equals the stored key before
+  -- the stored key after `on_replace` equals the stored key before `on_replace`
   pub keeps_key : (s : S) (n : ℕ) (k : K) (i : I) (v w : V) → IsTrue (names i k)
       → IsTrue (eq k (offers.on_replace s n k i v w).key)
 

@@ -2,7 +2,7 @@
 --     `plain over grants`: the rules of a limiter that never changes.
 --     `rules_at of to rules`: the rules of a wrapper; the function `of` unwraps the inner limiter, and `to` wraps the
 --         inner limiter.
---     `ReturnsPairIf accepts s k v t given`: t is s, and `given` is the entry, or `None` if the entry is rejected.
+--     `ReturnsPairIf accepts s k v t given`: t is s. `given` is the entry, or `None` if the entry is rejected.
 --     `unmoved s k v`: the limiter s, and the unchanged entry, after `on_removed`.
 --     `answers s b`: the limiter s after `on_grow` returned b.
 --     `replaces s k v w`: the limiter s after `on_replace` accepted the new value w.
