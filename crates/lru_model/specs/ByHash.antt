@@ -39,8 +39,8 @@ module _ {K V : Type 0} (eq : K → K → Bool) (hash_of : K → ℕ) (all : Lis
       pub last : F
       pub accepted : Asks closure between pair true last
 
-    -- f was called with some candidates, with none of them twice, and returned false for each. If a key of the map has
-    -- the searched hash, the pair of this key is one of these candidates.
+    -- f was called with some candidates, and with none of them twice. f returned false for each of these candidates. If
+    -- a key of the map has the searched hash, the pair of this key is one of these candidates.
     pub record GivesNoneByHash (f : F) : Type 0 where
       pub asked : List (K × V)
       pub candidates : AreCandidates asked

@@ -73,8 +73,8 @@ module _ {K V S H : Type 0} (rules : Rules K V S) where
     pub value : result ≡ option_map (λ p. p.1) (left_of rules old.limiter (lookup_entry names old.pairs))
     pub state : Leaves old (removal rules names (contents old)) new
 
-  -- The map after a clear has no pairs. It has as many buckets as before, and all buckets are empty. The limiter is
-  -- notified once of the clear, and not of each pair.
+  -- The map after a clear has no pairs, and all buckets are empty. The number of buckets stays. The limiter is notified
+  -- once of the clear, and not of each pair.
   abbrev pub cleared : State K V S H → State K V S H
   cleared st = record st {
     pairs = [];

@@ -16,7 +16,7 @@ module _ {K V S H I : Type 0} (rules : Rules K V S) (offers : Offers K V S I) (n
         → Insert rules offers names hash_of key value before (Ok kept) new → IsSized new
         → InsertsAll (pairs ++ (key, value) ∷ []) new
 
-  -- each of `pairs` was inserted, in order, and the insert of the next pair, `failed`, ran out of memory
+  -- All `pairs` were inserted, in their order. The insert of the next pair, `failed`, ran out of memory.
   pub record FailsAt (pairs : List (I × V)) (failed : I × V) (new : State K V S H) : Type 0 where
     pub before : State K V S H
     pub inserted : InsertsAll pairs before

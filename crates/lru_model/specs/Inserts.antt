@@ -118,8 +118,8 @@ module _ {K V S I : Type 0} (rules : Rules K V S) (offers : Offers K V S I) (nam
       pub given : MayGive i v (contents old) s (Some pair)
       pub needed : (buckets old ≡ 0) ⊎ (0 < length (make_room rules (record { pairs = old.pairs; limiter = s })).pairs)
 
-    -- Why an insert runs out of memory. The key is new. Either `on_insert` of the limiter ran out of memory, and
-    -- nothing changed, or the table needed memory.
+    -- Why an insert runs out of memory. The key is new. Either `on_insert` of the limiter ran out of memory and nothing
+    -- changed, or the table needed memory.
     abbrev pub IsOutOfMemory : I → V → State K V S H → State K V S H → Type 0
     IsOutOfMemory i v old new = (lookup_entry (names i) old.pairs ≡ None)
         × ((offers.may_run_out old.limiter (length old.pairs) i v × (new ≡ old)) ⊎ NeedsMemory i v old)

@@ -1,4 +1,5 @@
--- Definitions for the laws in `src/laws`: what an insert evicts and stores, what its result says, and what moves cost.
+-- Definitions for the laws in `src/laws`: what an insert evicts and stores, what the result of an insert says, and the
+-- cost of moves.
 use Rattle.std.specs.Prelude.{◌≡◌, ℕ, ◌+◌, ◌-◌, ◌*◌, ◌/◌, ◌^◌, ◌≤◌, ◌<◌, Bool, true, false, List, ◌∷◌, length}
 use Rattle.std.specs.Prelude.{sum_by, not}
 use Rattle.std.specs.List.{filter}
