@@ -35,7 +35,7 @@ module _ (old new : Option (List ℕ)) where
   abbrev pub TakesRest : List ℕ → Type 0
   TakesRest bytes = Lacks 10 bytes × Consumes old new bytes × OnSome old (IsAtEnd new)
 
-  -- what one look at the reader's buffer took from the reader
+  -- what a call of `take_piece` took from the reader
   abbrev pub TakesPiece : Piece → List ℕ → Type 0
   TakesPiece pieces.Part bytes = TakesPart bytes
   TakesPiece pieces.Last bytes = TakesFed bytes

@@ -1,5 +1,5 @@
--- What each call does to a map. Also, what each call does to a list of pairs (newest first) with a limiter and no
--- table, if a bucket is always free.
+-- What each call does to a map. On a list of pairs (newest first) with a limiter and no table, each call does what it
+-- would do if a bucket were always free.
 --     `rules`, `offers`: the limiter's `Rules` and `Offers` (`lru_limits`).
 --     `eq`: when two keys are equal.
 --     `hash_of h k`: the hash of k by the hasher h.
