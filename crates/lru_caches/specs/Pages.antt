@@ -20,8 +20,8 @@ pub record Cached (B D : Type 0) : Type 0 where
   pub pages : List (ℕ × Page B)
   pub capacity : ℕ
   pub keeps_dirty : Bool
-  -- How many successful reads, writes and pins found the page in the cache (hits), and how many did not (misses). Also
-  -- how many pages were evicted.
+  -- The numbers of hits, misses and evicted pages. A successful read, write or pin is a hit if the page was in the
+  -- cache, or else a miss.
   pub counts : Counts
   pub device : D
 
