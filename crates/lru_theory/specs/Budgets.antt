@@ -38,7 +38,7 @@ module _ {K : Type 0} (eq : K → K → Bool) (cost : K → ℕ) where
   abbrev pub is_far_within : ℕ → K → List K → Bool
   is_far_within n key past = not (is_in eq key past) || nat_lt n (needs key past)
 
-  -- how many references of a trace that comes after this past miss in a cache with the limit n
+  -- how many references of a trace miss in a cache with the limit n, if `past` comes before the trace
   abbrev pub misses_within : ℕ → List K → List K → ℕ
   misses_within n past [] = 0
   misses_within n past (key ∷ trace) =

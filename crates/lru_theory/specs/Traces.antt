@@ -39,7 +39,7 @@ module _ {K : Type 0} (eq : K → K → Bool) where
   abbrev pub is_far : ℕ → K → List K → Bool
   is_far n key past = not (is_in key past) || nat_le n (distance key past)
 
-  -- how many references of a trace that comes after this past miss in a cache of n places
+  -- how many references of a trace miss in a cache of n places, if `past` comes before the trace
   abbrev pub misses : ℕ → List K → List K → ℕ
   misses n past [] = 0
   misses n past (key ∷ trace) = (if is_far n key past then 1 else 0) + misses n (key ∷ past) trace
