@@ -96,8 +96,8 @@ lengths_of pair removed =
 abbrev pub fits : Bytes × Bytes → List ℕ → List ℕ → Bool
 fits pair key value = nat_le (length pair.0.items) (length key) && nat_le (length pair.1.items) (length value)
 
--- A look-up that finds an entry returns the lengths of the key and the value. If both fit into their buffers, both are
--- copied.
+-- A look-up that finds an entry returns the lengths of the key and the value. If the key and the value fit into the two
+-- buffers, the key and the value are copied.
 abbrev pub Shows : Option (Bytes × Bytes) → Popped → List ℕ → List ℕ → List ℕ → List ℕ → Type 0
 Shows None answer key key_left value value_left = (answer ≡ no_entry) × (key_left ≡ key) × (value_left ≡ value)
 Shows (Some pair) answer key key_left value value_left = (answer ≡ lengths_of pair false)
