@@ -36,7 +36,7 @@ module _ {K V F : Type 0} (closure : Mut F (Bor K × (Bor V × Unit {0})) Bool) 
     pub answers : Answers f asked last
     pub state : Leaves old (retained rules asked old.limiter) new
 
--- a retain that passes the pairs `passed` to its callback: the removed pairs, as the limiter leaves the pairs
+-- a retain that passes the pairs `passed` to its callback: the removed pairs after `on_removed` of the limiter
 abbrev pub RetainPasses : {K V S H F : Type 0} → Rules K V S → Mut F (Bor K × (Bor V × Unit {0})) Bool → F
     → State K V S H → List (K × V) → State K V S H → Type 0
 RetainPasses rules closure f old passed new = Retains closure (noting rules) f (noted [] old) (noted passed new)
