@@ -25,8 +25,8 @@ module _ {T : Type 0} where
   abbrev pub states_by : List ℕ → List (Option T) → List BucketState
   states_by bytes entries = bucket_states (slots_of bytes entries)
 
-  -- The control byte at a position. First come the bytes of all buckets. If the buckets are fewer than 16, empty bytes
-  -- follow, up to position 16. At the end, the bytes of the first buckets are repeated.
+  -- The control byte at a position. First come the bytes of all buckets. If there are fewer than 16 buckets, empty
+  -- bytes follow up to position 16. At the end, the bytes of the first buckets are repeated.
   abbrev pub byte_at : List (Slot T) → ℕ → ℕ
   byte_at slots position =
       if nat_lt position (length slots) then byte_of (bucket_at slots position)

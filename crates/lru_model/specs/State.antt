@@ -48,7 +48,8 @@ pub record State (K V S H : Type 0) : Type 0 where
   -- the number of the link `MAX`; all bucket numbers are smaller
   pub max : ℕ
 
--- What holds for the bucket states and the counts of every map of n pairs. A table for which this holds is sound.
+-- What holds for the bucket states and the counts of every map of n pairs. A table is sound if `IsSound` is true of the
+-- table.
 pub record IsSound (n entry_bytes max : ℕ) (states : List BucketState) (counts : Counts) : Type 0 where
   pub table : IsTable states
   pub taken : entry_count states ≡ n
