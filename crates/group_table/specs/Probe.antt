@@ -11,8 +11,8 @@ abbrev pub filled : {T : Type 0} → ℕ → T → Slot T
 filled hash entry = full (record { tag = hash_tag hash; entry = entry })
 
 -- the bucket that a search visits at a step. A search visits groups of 16 buckets. The first group begins at the hash,
--- modulo `buckets`. The second group begins 16 buckets after the beginning of the first, the third group 32 buckets
--- after the beginning of the second, and so on.
+-- modulo `buckets`. The second group begins 16 buckets after the beginning of the first, the third group begins 32
+-- buckets after the beginning of the second, and so on.
 abbrev pub probed : ℕ → ℕ → ℕ → ℕ
 probed buckets hash step = (hash + 8 * (step / 16) * (step / 16 + 1) + step % 16) % buckets
 

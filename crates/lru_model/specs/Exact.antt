@@ -41,8 +41,8 @@ module _ {K V S : Type 0} (rules : Rules K V S) where
 
   -- what the table of a map may report for a pair with this hash
   pub data MayReport {H : Type 0} (hash : ℕ) (st : State K V S H) (report : Report) : Type 0 where
-    -- A bucket takes the pair at once. Growth is left, or a rehash is enough, or the table has more than 16 buckets and
-    -- a deleted bucket may take the pair.
+    -- A bucket takes the pair at once. Either growth is left, or a rehash is enough, or a deleted bucket of a table of
+    -- more than 16 buckets may take the pair.
     fits : (growth_left st ≡ 0 → full_capacity (buckets st) / 2 < length st.pairs + 1 → 16 < buckets st) →
         report ≡ at_once →
         MayReport hash st report

@@ -29,7 +29,7 @@ empty_table = record { states = []; places = [] }
 pub record Counts : Type 0 where
   -- how many insertions the table has made; new and moved entries both count
   pub insertions : ℕ
-  -- how many entries all inserts moved, and how many new entries all inserts stored
+  -- how many entries the inserts moved in all, and how many new entries the inserts stored in all
   pub moved : ℕ
   pub placed : ℕ
   -- how many entries all shrinks have rehashed
