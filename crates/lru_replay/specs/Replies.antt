@@ -12,7 +12,7 @@ use Rattle.lru_replay.specs.declared.lines.figures.Figures.{Figures}
 pub data Reply (K V : Type 0) : Type 0 where
   -- whether the key is in the map after the call
   flag : Bool → Reply K V
-  -- what an insert returned, and the pairs that it passed to its callback, in order
+  -- what an insert returned, and the pairs that the insert passed to its callback, in order
   given : Result Bool AllocError → List (K × V) → Reply K V
   updated : Updated V → Reply K V
   value : Option V → Reply K V
@@ -71,7 +71,7 @@ module _ {K V : Type 0} where
   insert_reply (Ok there) = flag there
   insert_reply (Err e) = no_memory
 
-  -- the reply to a get that inserts, made from the result of the get and the pairs after it
+  -- the reply to a get that inserts, made from the result of the get and the pairs of the map after the get
   abbrev pub made_reply : Result Bool AllocError → List (K × V) → Reply K V
   made_reply (Ok true) pairs = value (newest_value pairs)
   made_reply (Ok false) pairs = value None

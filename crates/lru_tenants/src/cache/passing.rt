@@ -32,7 +32,7 @@ impl<
     /// assert_eq!(rt; left, 7);
     /// ```
     ///
-    /// Cost: as `put`, and the calls of the callback.
+    /// Cost: as `put`, plus the calls of the callback.
     ///
     /// # Errors
     ///
@@ -115,7 +115,7 @@ impl<
     /// assert_eq!(rt; evicted, 7);
     /// ```
     ///
-    /// Cost: as `set_budget`, and the calls of the callback.
+    /// Cost: as `set_budget`, plus the calls of the callback.
     ///
     /// # Errors
     ///

@@ -109,7 +109,7 @@ impl<K: Eq + Hash, V, Q: Question<K, V>, L: Insertion<K, V, K>, S: KeyHasher<K>>
     /// assert_eq!(rt; squares.get_with(&3, |square| square.wrapping_add(1)), Some(10));
     /// ```
     ///
-    /// Cost: as `get`, and a call of the closure.
+    /// Cost: as `get`, plus a call of the closure.
     pub fn get_with<R, U: FnOnce(&V) -> R>(&mut self, key: &K, read: U) -> Option<R> {
         let value = self.map.get(key)?;
         Some(read(&*value))

@@ -20,7 +20,7 @@ impl<N: Eq + Hash, K: Eq + Hash, V, L: Budgeted<K, V>, S: KeyHasher<K> + Copy> T
     /// assert_eq!(rt; left, 7);
     /// ```
     ///
-    /// Cost: as `put`, and the calls of the callback.
+    /// Cost: as `put`, plus the calls of the callback.
     ///
     /// # Errors
     ///
@@ -79,7 +79,7 @@ impl<N: Eq + Hash, K: Eq + Hash, V, L: Budgeted<K, V>, S: KeyHasher<K> + Copy> T
     /// assert_eq!(rt; evicted, 7);
     /// ```
     ///
-    /// Cost: as `set_budget`, and the calls of the callback.
+    /// Cost: as `set_budget`, plus the calls of the callback.
     ///
     /// # Errors
     ///
