@@ -10,7 +10,7 @@ use Rattle.lru_limits.specs.Rules.{Rules, Offers, Replaced}
 
 pub record IsLookup {Q K : Type 0} (names : Q → K → Bool) (eq : K → K → Bool) (query_input : Q → List (List ℕ))
     (key_input : K → List (List ℕ)) : Type 0 where
-  -- a query that names a key writes to a hasher what the key writes
+  -- if a query names a key, the query and the key write the same bytes to a hasher
   pub writes : (q : Q) (k : K) → IsTrue (names q k) → query_input q ≡ key_input k
   -- a query that names a key x names exactly the keys that equal x
   pub one : (q : Q) (x y : K) → IsTrue (names q x) → names q y ≡ eq x y

@@ -1,4 +1,4 @@
-//! The examples of two limiters for one map from the docs.
+//! The examples of the docs that use two limiters for one map.
 use lru_limits::{Admission, Both, ByCost, ByLength, Limiter};
 use test_helpers::check;
 

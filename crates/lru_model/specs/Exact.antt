@@ -149,8 +149,7 @@ abbrev pub AlwaysGrants : {K V S : Type 0} → Rules K V S → Type 0
 AlwaysGrants {K} {V} {S} rules = (s : S) (bytes : ℕ) →
     ((rules.on_grow s bytes).allowed ≡ true) × ((rules.on_grow s bytes).limiter ≡ s)
 
--- There is a table for n pairs: links can number the buckets of this table, and the table takes at most 2 ^ 63 - 16
--- bytes.
+-- There is a table for n pairs: links are wide enough for this table, and the table takes at most 2 ^ 63 - 16 bytes.
 pub record HasTableFor {K V S H : Type 0} (n : ℕ) (st : State K V S H) : Type 0 where
   pub count : ℕ
   pub bytes : ℕ

@@ -53,7 +53,7 @@ pub record State (K V S H : Type 0) : Type 0 where
 pub record IsSound (n entry_bytes max : ℕ) (states : List BucketState) (counts : Counts) : Type 0 where
   pub table : IsTable states
   pub taken : entry_count states ≡ n
-  -- a link can number every bucket
+  -- the links are wide enough for every bucket
   pub reachable : (length states ≡ 0) ⊎ (length states < max)
   -- the table takes at most 2 ^ 63 - 16 bytes
   pub usable : (bytes : ℕ) × (usage entry_bytes (length states) ≡ Some bytes)

@@ -83,7 +83,7 @@ pub record SetsEnd {N : Type 0} (none old new at to : N) : Type 0 where
 
 module _ {K V N : Type 0} (number : N → ℕ) (link : ℕ → N) (none : N) where
   -- The links keep some full buckets in the order `order`. `newest` and `oldest` lead to the ends of the order, and
-  -- each entry in these buckets has links to its neighbours. Links can number every bucket.
+  -- each entry in these buckets has links to its neighbours. Links are wide enough for every bucket.
   pub record IsChain (slots : List (Slot (Entry K V N))) (newest oldest : N) (order : List ℕ) : Type 0 where
     pub reached : length slots < number none
     pub distinct : AllPairs ◌≢◌ order

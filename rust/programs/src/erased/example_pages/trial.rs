@@ -109,7 +109,8 @@ fn crash<'a>(store: Store<'a>, random: &mut Random) -> Files<'a> {
     (pages, log)
 }
 
-/// Recovers the store, and compares it with the committed records, without and with the interrupted transaction.
+/// Recovers the store. Compares it with the committed records alone, and with the committed records after the
+/// interrupted transaction.
 fn check(store: &mut Store, model: &mut Model, counts: &mut Counts) {
     match store.recover() {
         Ok(recovered) => counts.torn = counts.torn.saturating_add(recovered.torn),
