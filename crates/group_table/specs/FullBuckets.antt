@@ -16,8 +16,7 @@ pub record IsAhead (control : List ℕ) (walk : FullBuckets) (from : ℕ) : Type
   pub lanes : (lane : ℕ) → HasLane walk.lanes lane
       ↔ ((lane < 16) × IsTag (slice_index control (walk.start + lane)) × (from ≤ walk.start + lane))
 
--- `next` is the first full bucket at or after `from`, or the number of all buckets if no bucket at or after `from` is
--- full
+-- `next` is the first full bucket at or after `from`, or the number of buckets if no bucket at or after `from` is full
 pub record IsNextFull (control : List ℕ) (from next : ℕ) : Type 0 where
   pub bound : from ≤ next
   pub within : next ≤ buckets_of control

@@ -55,9 +55,9 @@ put_code (Ok true) = 0
 put_code (Ok false) = 1
 put_code (Err error) = 2
 
--- An insert whose caller passes an entry, which the insert may write. The entry is `place` before the insert, and
--- `left` after the insert. If pairs of other keys are evicted, `left` is the first of these pairs. If no pair of
--- another key is evicted, `left` is `place`.
+-- An insert that may write a pair to an entry of the caller. The entry is `place` before the insert, and `left` after
+-- the insert. If pairs of other keys are evicted, `left` is the first of these pairs. If no pair of another key is
+-- evicted, `left` is `place`.
 pub record Inserts (key value : ℕ) (old : Map) (answer : Inserted) (place left : Entry) (new : Map) : Type 0 where
   pub result : Result Bool AllocError
   pub passed : List (ℕ × ℕ)

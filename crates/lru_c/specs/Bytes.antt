@@ -88,7 +88,7 @@ answer_of (Some value) = record { len = length value.items; found = true }
 abbrev pub Reads : Option Bytes → Value → List ℕ → List ℕ → Type 0
 Reads value answer buffer left = (answer ≡ answer_of value) × (left ≡ poured_from value buffer)
 
--- If a look-up finds a value, `left` is the address of its bytes and their number.
+-- If a look-up finds a value, `left` contains the address and the length of the value.
 abbrev pub Lends : Option Bytes → Bool → Lent → Lent → Type 0
 Lends None found lent left = (found ≡ false) × (left ≡ lent)
 Lends (Some value) found lent left =

@@ -1,10 +1,9 @@
 -- The laws of the traits.
---     `IsLookup names eq query_input key_input`: the laws of `LookupKey`. A query writes `query_input` to a hasher, and
---         a key writes `key_input`.
+--     `IsLookup names eq query_input key_input`: the laws of `LookupKey`. A query q writes `query_input q` to a hasher,
+--         and a key k writes `key_input k`.
 --     `IsInsertion names eq offers`: the laws of `Insertion`.
 --     `IsAccount rules offers cost account`: the laws of `Summing`.
---     `kept_value r`: the value that the entry has after r: the new value if r accepts the new value, or else the old
---         value.
+--     `kept_value r`: the new value if r accepts the new value, or else the old value.
 use Rattle.std.specs.Prelude.{◌≡◌, ◌≤◌, ◌+◌, ◌-◌, ℕ, Bool, List, Some, None, IsTrue, if◌then◌else◌}
 use Rattle.lru_limits.specs.Rules.{Rules, Offers, Replaced}
 

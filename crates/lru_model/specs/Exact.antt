@@ -26,7 +26,8 @@ at_once = record { asked = None; evicted = 0; has_bucket = true }
 
 module _ {K V S : Type 0} (rules : Rules K V S) where
   -- The report of a table whose growth is refused: the n oldest pairs of c are evicted. If c has no pairs, there is no
-  -- bucket for the new pair. If the limiter was queried for a larger table, `asked` has the bytes of this table.
+  -- bucket for the new pair. If the limiter was queried for a larger table, `asked` says how many bytes this table
+  -- takes.
   abbrev pub refusal : Option ℕ → ℕ → Contents K V S → Report
   refusal asked n c = record { asked = asked; evicted = n; has_bucket = not (is_empty c.pairs) }
 
@@ -118,7 +119,7 @@ module _ {K V S I : Type 0} (rules : Rules K V S) (offers : Offers K V S I) (nam
       (λ pair. exchanged rules offers names i v old pair ≡ (result, new))
 
 module _ {K V S I : Type 0} (rules : Rules K V S) (offers : Offers K V S I) (names : I → K → Bool) where
-  -- an insert into a list of pairs, if the table reports `reports s pair`
+  -- an insert into a list of pairs, if `reports s pair` is the report of the table
   abbrev pub InsertsGiven : (S → K × V → Report) → I → V → Contents K V S → Result Bool AllocError → Contents K V S →
       Type 0
   InsertsGiven reports = InsertsBy rules offers names (λ s pair report. report ≡ reports s pair)

@@ -76,7 +76,7 @@ newest_after eq most inserted old = fold
     (λ left pair. take most ((stored_key (eq pair.0) pair.0 left, pair.1) ∷ without (eq pair.0) left)) old inserted
 
 -- Which pairs the map has after an insert, if the maximum length is `most`: the new pair, and the newest pairs of other
--- keys, up to `most` pairs in all. If the insert runs out of memory, the map has the newest `most` - 1 old pairs.
+-- keys, up to `most` pairs in all. If the insert runs out of memory, the newest `most` - 1 of the old pairs stay.
 pub record LeavesTheNewest {K V : Type 0} (eq : K → K → Bool) (most : ℕ) (key : K) (value : V) (old : List (K × V))
     (result : Result Bool AllocError) (new : List (K × V)) : Type 0 where
   pub answer : IsOk result → result ≡ Ok (nat_lt 0 most)
@@ -87,8 +87,8 @@ pub record LeavesTheNewest {K V : Type 0} (eq : K → K → Bool) (most : ℕ) (
 abbrev pub most_exact_length : ℕ
 most_exact_length = 939524096
 
--- The map is within its maximum length. All fields except `within` imply that there is a table for each length up to
--- this maximum.
+-- The map is within its maximum length (`within`). The other fields together imply that there is a table for each
+-- length up to this maximum.
 pub record KeepsToLength {K V H : Type 0} (st : State K V ℕ H) : Type 0 where
   pub within : length st.pairs ≤ st.limiter
   pub half : st.limiter ≤ most_exact_length

@@ -15,7 +15,7 @@ module _ {K V S H : Type 0} {IsStep : State K V S H → State K V S H → Type 0
 
 module _ {K V S H I : Type 0} (rules : Rules K V S) (offers : Offers K V S I) (names : I → K → Bool)
     (hash_of : H → K → ℕ) where
-  -- An insert or a get that inserts either evicts only the oldest pairs, or removes only the pair of the inserted key
+  -- An insert, or a get that inserts, either evicts only the oldest pairs, or removes only the pair of the inserted key
   -- because the limiter rejected the new value.
   abbrev pub InsertEvictsOldest : (old new : State K V S H) → AnyStep rules offers names hash_of old new → Type 0
   InsertEvictsOldest old new (calls (inserts key value result h)) = EvictsOldest (names key)

@@ -23,8 +23,8 @@ usage entry_bytes buckets =
     else (if nat_le (bytes_of entry_bytes buckets) (2 ^ 63 - 16) then Some (bytes_of entry_bytes buckets)
     else None)
 
--- Among the tables with fewer than `max` buckets and a usage within the budget, the greatest usage is `bytes`. If there
--- is no such table, `bytes` is 0.
+-- Of the tables that have fewer than `max` buckets and fit the budget, the largest uses `bytes` bytes. If there is no
+-- such table, `bytes` is 0.
 pub record IsGreatestUsage (max entry_bytes budget bytes : ℕ) : Type 0 where
   pub within : bytes ≤ budget
   pub of_table : (bytes ≡ 0)

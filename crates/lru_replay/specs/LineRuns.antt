@@ -70,7 +70,7 @@ module _ (IsText IsTextSoFar : List (List ℕ) → List ℕ → Type 0) (from to
   BeginsText = (OfAll IsText from (Begins old new) × OnSome from (IsAtEnd to))
       ⊎ OfRead IsTextSoFar from to (Begins old new)
 
--- what was read and written, if the answers ended with this result
+-- what a call read and wrote, if it returned this result
 abbrev pub Answers : (List (List ℕ) → List ℕ → Type 0) → Option (List ℕ) → Option (List ℕ) → Option (List ℕ)
     → Option (List ℕ) → Result (Unit {0}) ReplayError → Type 0
 Answers IsText from to old new (Ok _) = OfAll IsText from (Appends old new) × OnSome from (IsAtEnd to)

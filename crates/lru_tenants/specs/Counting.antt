@@ -39,7 +39,7 @@ module _ {K V L : Type 0} where
     admit_in_place = λ s n k v w. with_inside s (terms.admit_in_place s.limiter n k v w);
   }
 
-  -- what the outer limiter returns for an offer, the limiter inside returns
+  -- for an offer, the limiter inside returns what the outer limiter returns
   gives-inside : (s t : Counting L) {accepts : Bool} {limiter : L} {k : K} {v : V} {given : Option (K × V)}
       → ReturnsPairIf accepts (with_inside s limiter) k v t given → ReturnsPairIf accepts limiter k v t.limiter given
   gives-inside s t h = record { limiter = ap (λ t. t.limiter) h.limiter; pair = h.pair }
@@ -84,8 +84,8 @@ abbrev pub is_kept : {E : Type 0} → Result Bool E → Bool
 is_kept (Ok kept) = kept
 is_kept (Err e) = false
 
--- The counts after a get that inserts an absent key: a hit, or a miss and the insert, which evicted n entries. `found`
--- says whether the key was there.
+-- The counts after a get that inserts an absent key: a hit, or a miss and an insert. The insert evicted n entries.
+-- `found` says whether the key was there.
 abbrev pub got_or_put : {E : Type 0} → (found : Bool) → Result Bool E → ℕ → Counts → Counts
 got_or_put true answer n counts = looked_up true counts
 got_or_put false answer n counts = looked_up false (inserted answer n counts)
@@ -129,14 +129,14 @@ module _ {K V L S : Type 0} where
   CountsPut Puts names old answer new = (left : State K V (Counting L) S) × Puts old answer (Some left)
       × (new ≡ Some (counted (inserted answer (evicted names old.pairs left.pairs)) left))
 
-  -- a get that inserts an absent key, and counts; the answer says whether the key is there afterwards
+  -- a counted get that inserts an absent key; the answer says whether the key is there afterwards
   abbrev pub CountsGetOrInsert : {E : Type 0}
       → (Gets : State K V (Counting L) S → Result Bool E → State K V (Counting L) S → Type 0)
       → (K → Bool) → State K V (Counting L) S → Result Bool E → State K V (Counting L) S → Type 0
   CountsGetOrInsert Gets names old answer new = (left : State K V (Counting L) S) × Gets old answer left
       × (new ≡ counted (got_or_put (is_some (lookup names old.pairs)) answer (evicted names old.pairs left.pairs)) left)
 
-  -- a get that inserts an absent key, and counts; the answer is the value, if the key is there afterwards
+  -- a counted get that inserts an absent key; the answer is the value, if the key is there afterwards
   abbrev pub CountsGetOrPut : (Gets : State K V (Counting L) S → Result (Option V) TenantError
       → Option (State K V (Counting L) S) → Type 0)
       → (K → Bool) → State K V (Counting L) S → Result (Option V) TenantError → Option (State K V (Counting L) S)

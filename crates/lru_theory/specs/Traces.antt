@@ -20,7 +20,7 @@ module _ {K : Type 0} (eq : K → K → Bool) where
   abbrev pub AreEqual : List K → List K → Type 0
   AreEqual keys others = pointwise eq keys others ≡ true
 
-  -- The recency list: each key of the past once, the last referenced key first.
+  -- The recency list contains each key of the past once, and begins with the last referenced key.
   abbrev pub recency : List K → List K
   recency [] = []
   recency (key ∷ past) = key ∷ remove_key (eq key) (recency past)

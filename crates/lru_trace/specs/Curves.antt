@@ -27,7 +27,7 @@ abbrev pub keeps : AnyCurve → Bool
 keeps (curves.Places curve) = is_some curve.kept
 keeps (curves.Bytes curve) = false
 
--- The limits of bytes. A curve of numbers of entries has no limits: this curve counts the misses for every size.
+-- The limits of bytes. A curve for sizes in entries has no limits, because it counts the misses for every size.
 abbrev pub limits_of : AnyCurve → Option (List ℕ)
 limits_of (curves.Places curve) = None
 limits_of (curves.Bytes curve) = Some curve.limits

@@ -64,8 +64,7 @@ module _ (options : Options) where
       skipped = skipped (bits_of options) (drop (warm_up_of options.policies) references_in);
     }
 
-    -- `others_in`, if all lines are in the warm-up (`warm` is true), or if all lines come after the warm-up (`warm` is
-    -- false)
+    -- `others_in`, if all lines are in the warm-up (`warm` is true), or none (`warm` is false)
     abbrev pub others_so : Bool → Others
     others_so warm = record {
       malformed = malformed_in;

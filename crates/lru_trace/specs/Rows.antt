@@ -56,7 +56,7 @@ module _ (measure : Measure) (warm trace : List (List ℕ × ℕ)) where
   abbrev pub axis_in : ℕ → List ℕ
   axis_in bits = powers (max (needed measure warm trace) 1 * 2 ^ bits) 64 0
 
-  -- the powers of two on the axis, from 2 ^ bits on; in the sample, they stand for the sizes from 1 on
+  -- the powers of two on the axis, from 2 ^ bits on, which is the size 1 in the sample
   abbrev pub powers_in : ℕ → List ℕ
   powers_in bits = drop bits (axis_in bits)
 

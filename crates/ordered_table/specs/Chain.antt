@@ -23,7 +23,7 @@ module _ {N : Type 0} (link : ℕ → N) (none : N) where
   link_to None = none
   link_to (Some b) = link b
 
--- The bucket that the link `from` leads to, the next older bucket, and so on: n buckets, or fewer if the links end.
+-- The buckets that the link `from`, and then the links to older entries, lead to: n buckets, or fewer if the links end.
 abbrev pub along : {K V N : Type 0} → (N → ℕ) → ℕ → List (Slot (Entry K V N)) → N → List ℕ
 along number zero slots from = []
 along number (suc n) slots from = unwrap_or (option_map (λ entry. number from ∷ along number n slots entry.older)

@@ -17,7 +17,7 @@ module _ {K V L S N H : Type 0} where
   abbrev pub drain_left : Drain K V L S N H → Count
   drain_left d = at_most (length (drain_map d).pairs)
 
-  -- this step of the drain does what `pop` says to the map
+  -- this step of the drain changes the map as `pop` says
   pub record TakesBy (pop : State K V L S → Option (K × V) → State K V L S → Type 0) (old : Drain K V L S N H)
       (result : Option (K × V)) (new : Drain K V L S N H) : Type 0 where
     pub pops : pop (drain_map old) result (drain_map new)
