@@ -35,7 +35,7 @@ fn add_limits(limits: &mut Vec<u64>, sizes: &[usize], bits: u32) -> Result<(), A
     Ok(())
 }
 
-/// Returns the limits in the sample for the named sizes and for all powers of two.
+/// Returns the named sizes and all powers of two, each divided by 2 ^ bits for the sample.
 fn limits_of(alloc: Global, sizes: &[usize], bits: u32) -> Result<Vec<u64>, AllocError>
     requires { bits ≤ 20 }
     ensures { IfOk result (λ limits. limits.items ≡ map (λ size. size / 2 ^ bits) sizes.now
