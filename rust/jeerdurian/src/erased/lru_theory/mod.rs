@@ -46,9 +46,9 @@ pub fn a_larger_budget_never_misses_more<K: Eq>() {}
 pub fn a_budget_keeps_the_newest<K: Eq>() {}
 
 /// A policy that stores each referenced key pays at least as often as MIN misses, whether it loads keys ahead (`loads`)
-/// or only on demand (`demands`). MIN with bypass misses at most as often as any policy pays that need not store
-/// referenced keys (`bypasses`). All these policies have n places, and begin with no keys. If MIN has a place, it
-/// stores each referenced key (`min`). MIN with bypass is a policy that need not store referenced keys (`bypass`).
+/// or only on demand (`demands`). A policy that need not store referenced keys pays at least as often as MIN with
+/// bypass misses (`bypasses`). All these policies have n places, and begin with no keys. If MIN has a place, it stores
+/// each referenced key (`min`). MIN with bypass is a policy that need not store referenced keys (`bypass`).
 pub fn min_is_best<K: Eq>() {}
 
 /// LRU is near MIN. MIN has h ≥ 1 places, and begins with no keys. LRU has k ≥ h places, and begins with any keys. LRU

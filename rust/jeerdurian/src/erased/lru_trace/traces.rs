@@ -31,7 +31,7 @@ fn add_limits(limits: &mut Vec<u64>, sizes: &[usize], bits: u32) -> Result<(), A
     Ok(())
 }
 
-/// Returns the limits in the sample for the named sizes and for all powers of two.
+/// Returns the named sizes and all powers of two, each divided by 2 ^ bits for the sample.
 fn limits_of(alloc: Global, sizes: &[usize], bits: u32) -> Result<Vec<u64>, AllocError> {
     let mut limits = Vec::new(alloc);
     add_limits(&mut limits, sizes, bits)?;

@@ -77,7 +77,7 @@ fn read_both<L: Source>(
 }
 
 /// Makes a text the newest. If the text is not there, inserts it with a value from `make`. If each text determines how
-/// many bytes its value has, and these are within the limit, a successful call is a reference.
+/// many bytes its value has, and this number is within the limit, a successful call is a reference.
 fn remember<F: FnOnce() -> Vec<u8>>(
     map: &mut LruMap<String, Vec<u8>, ByCost>,
     text: String,

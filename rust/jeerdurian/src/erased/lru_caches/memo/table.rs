@@ -8,7 +8,7 @@ use crate::erased::schnellru::{Insertion, KeyHasher, LruMap, RandomState, laws};
 use crate::rattle_std::alloc::Global;
 use crate::rattle_std::hash::Hash;
 
-/// Defines which values answer a key of a [`MemoTable`].
+/// Defines which values are answers at a key of a [`MemoTable`].
 ///
 /// ```text
 /// #[derive(Drop)]
