@@ -11,7 +11,7 @@ hash_of bytes = closed (written (seeded (1 ∷ 2 ∷ 3 ∷ 4 ∷ [])) bytes)
 abbrev pub with_tail : List ℕ → ℕ → List ℕ
 with_tail block number = take (length block - 8) block ++ to_le_bytes w64 number
 
--- Block n with the checksum in the last 8 bytes. The checksum is the hash of all other bytes of the block, and of n.
+-- Block n with the checksum in the last 8 bytes. The checksum is the hash of n and of all other bytes of the block.
 abbrev pub with_checksum : ℕ → List ℕ → List ℕ
 with_checksum n block = with_tail block (hash_of (with_tail block n))
 

@@ -8,7 +8,7 @@
 --     `replaces s k v w`: the limiter s after `on_replace` accepted the new value w.
 --     `given-is`, `given-names`: the returned entry is the offered entry.
 --     `given-adds`, `refused-keeps`, `replaced-exchanges`: lemmas on the running total after an offer, for your own
---         `Summing`.
+--         impl of `Summing`.
 use Rattle.std.specs.Prelude.{◌≡◌, ◌≤◌, ◌+◌, ◌-◌, ℕ, Bool, true, false, Option, Some, None, IsTrue, if◌then◌else◌}
 use Rattle.std.specs.Prelude.{unwrap_or}
 use Rattle.std.proofs.Common.{ap, sym, ◌∙◌, subst, arith}

@@ -65,7 +65,7 @@ module _ {K V S : Type 0} (rules : Rules K V S) where
   queried None s = s
   queried (Some bytes) s = (rules.on_grow s bytes).limiter
 
-  -- the contents after the query and the evictions that the report names
+  -- the contents after the limiter was queried and pairs were evicted, as the report says
   abbrev pub met : Report → Contents K V S → Contents K V S
   met report c = pops rules report.evicted (record { pairs = c.pairs; limiter = queried report.asked c.limiter })
 

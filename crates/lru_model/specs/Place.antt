@@ -154,8 +154,8 @@ module _ {K V S H : Type 0} (rules : Rules K V S) (hash_of : H → K → ℕ) wh
         (count bytes : ℕ) → table_for 1 old ≡ new_table count bytes → Grants rules bytes old →
         IsPlacedByMove rules pair count (asked rules bytes old) outcome new →
         Place pair old outcome new
-    -- The table is too small and cannot grow. One or more of the oldest pairs are evicted. If the map has no pairs, the
-    -- new pair is not stored.
+    -- The table is too small and cannot grow. If the map has pairs, one or more of the oldest pairs are evicted. If the
+    -- map has no pairs, the new pair is not stored.
     not_grown : IsOutgrown (hash_of old.hasher pair.0) old →
         (mid : State K V S H) → CannotGrow rules old mid →
         Evicts rules (hash_of old.hasher pair.0) pair old mid outcome new →

@@ -82,11 +82,11 @@ module _ {K V S H I : Type 0} (rules : Rules K V S) (offers : Offers K V S I) (n
   abbrev pub StepAmong : (K → Bool) → State K V S H → State K V S H → Type 0
   StepAmong test old new = (step : AnyStep old new) × NamesOnly test old new step
 
--- the `names` of calls that insert and update nothing, and so have no inserted key
+-- the `names` of calls that neither insert nor update a key
 abbrev pub no_keys : {K : Type 0} → ⊥ → K → Bool
 no_keys key k = false
 
--- the `offers` of calls that insert and update nothing, and so offer the limiter nothing
+-- the `offers` of calls that neither insert nor update a key, and so offer the limiter nothing
 abbrev pub no_offers : {K V S : Type 0} → Offers K V S ⊥
 no_offers = record {
   on_insert = λ limiter n key value left pair. ⊥;

@@ -59,7 +59,7 @@ module _ (IsText : List (List ℕ) → List ℕ → Type 0) (from : Option (List
   abbrev pub OfAll : (List ℕ → Type 0) → Type 0
   OfAll Wrote = IfSome from (λ input. (text : List ℕ) × IsText (lines_of input) text × Wrote text)
 
-  -- Some whole lines were read, and a part of the next line. `Wrote` is true of the answers to the whole lines.
+  -- Some whole lines and a part of the next line were read. `Wrote` is true of the answers to the whole lines.
   abbrev pub OfRead : Option (List ℕ) → (List ℕ → Type 0) → Type 0
   OfRead to Wrote = (lines : List (List ℕ)) × (text part : List ℕ)
       × IsText lines text × TakesLines from to lines part × Wrote text

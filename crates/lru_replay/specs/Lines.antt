@@ -49,7 +49,7 @@ module _ (old new : Option (List ℕ)) where
   abbrev pub TakesFirst : Type 0
   TakesFirst = (line : List ℕ) × (TakesFed line ⊎ TakesRest line)
 
-  -- these lines were read with their line feeds, and after them a part of the next line
+  -- these lines with their line feeds, and a part of the next line, were read
   abbrev pub TakesLines : List (List ℕ) → List ℕ → Type 0
   TakesLines lines part = AllByRecursion (Lacks 10) lines × Lacks 10 part
       × Consumes old new (flat_map fed lines ++ part)

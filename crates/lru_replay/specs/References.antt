@@ -62,9 +62,9 @@ module _ {K V S H : Type 0} (cache : Cache K V S H) where
     pub limit : cache.limit new.limiter ≡ cache.limit old.limiter
     pub keeps : cache.Keeps old → cache.Keeps new
 
-  -- After a reference, the referenced key is the newest, and the old keys follow in their order. Keys that are over the
-  -- limit are gone (`does`). If the limit permits an entry, and the key was not in the map, an entry was stored
-  -- (`stored`).
+  -- After a reference, the referenced key is the newest, and the old keys follow in their order. The oldest keys are
+  -- evicted while the cache is over its limit (`does`). If the limit permits an entry, and the key was not in the map,
+  -- an entry was stored (`stored`).
   pub record Reference (key : K) (old new : State K V S H) : Type 0 where
     pub does : LeavesKeys (cache.refer (cache.limit old.limiter) key (keys_of old.pairs)) old new
     pub stored : cache.Stores (cache.limit old.limiter)

@@ -71,7 +71,7 @@ module _ {K V : Type 0} where
   insert_reply (Ok there) = flag there
   insert_reply (Err e) = no_memory
 
-  -- the reply to a get that inserts, made from the result of the get and the pairs of the map after the get
+  -- the reply to a get that inserts, if the get returned this result and left these pairs
   abbrev pub made_reply : Result Bool AllocError → List (K × V) → Reply K V
   made_reply (Ok true) pairs = value (newest_value pairs)
   made_reply (Ok false) pairs = value None

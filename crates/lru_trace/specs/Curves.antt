@@ -46,7 +46,7 @@ abbrev pub IsCurveOf : List (List ℕ × ℕ) → List (List ℕ × ℕ) → Any
 IsCurveOf warm trace (curves.Places curve) = IsOf (keys_of warm) (keys_of trace) curve
 IsCurveOf warm trace (curves.Bytes curve) = IsSizedOf warm trace curve
 
--- what further references do not change in a curve
+-- the facts about a curve that further references do not change
 pub record AreAlike (old new : AnyCurve) : Type 0 where
   pub measure : measure_in new ≡ measure_in old
   pub keeps : keeps new ≡ keeps old
@@ -59,7 +59,7 @@ pub record Fits (options : Options) (sizes : List ℕ) (curve : AnyCurve) : Type
   pub named : HasAll curve (bits_of options) sizes
   pub powers : (most : ℕ) → most < 2 ^ 128 → HasAll curve (bits_of options) (powers most 64 0)
 
--- The curve of a warm-up and a trace was `old`. The further references are added to the warm-up if `is_warm` is true,
+-- `old` was the curve of a warm-up and a trace. The further references are added to the warm-up if `is_warm` is true,
 -- and to the trace if `is_warm` is false. After this, `Holds` is true of the warm-up and the trace.
 pub record Leads (is_warm : Bool) (old : AnyCurve) (references : List (List ℕ × ℕ))
     (Holds : List (List ℕ × ℕ) → List (List ℕ × ℕ) → Type 0) : Type 0 where
