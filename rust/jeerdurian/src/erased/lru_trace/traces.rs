@@ -77,7 +77,7 @@ fn read_trace<R: BufRead, P: Write>(
 /// the misses of the best possible policies: in the text form for each named size, and in the other forms also for each
 /// power of two.
 ///
-/// Cost: `O(log n)` expected for each line and n keys. The memory is in proportion to the number of keys and the
+/// Cost: for n keys, `O(log n)` expected for each line. The memory is in proportion to the number of keys and the
 /// longest line. With `Policies::Best` the memory is also in proportion to the number of lines, and each size costs
 /// `O(log n)` more for each line.
 ///
