@@ -74,8 +74,8 @@ pub extern "C" fn rattle_large_values(
     sum
 }
 
-/// Inserts a value of 1 to 64 under each key, with a limit on the sum of the values. Returns 31 times the number of
-/// entries that are left, plus their cost.
+/// Inserts a value of 1 to 64 under each key, with a limit on the sum of the values. Returns the cost of the entries
+/// that are left, plus 31 times their number.
 #[unsafe(no_mangle)]
 pub extern "C" fn rattle_costs(alloc: Global, limit: u64, keys: &[u64]) -> u64 {
     let mut map: LruMap<u64, u64, ByCost> = LruMap::new(

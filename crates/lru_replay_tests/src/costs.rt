@@ -1,4 +1,4 @@
-//! Programs with `String` keys under a limit of cost, whose contracts say how often they load a value.
+//! Programs with `String` keys under a limit of cost. Their contracts say how often they load a value.
 ghost use Rattle.std.specs.Prelude.{◌≡◌, ◌≤◌, ◌<◌, ◌+◌, ◌*◌, ◌^◌, ℕ, [], true, length, take, IfOk, OnOk, string_len, vec_len};
 ghost use Rattle.std.specs.Prelude.{Ok, Vec};
 ghost use Rattle.std.specs.List.{All};

@@ -124,7 +124,7 @@ impl<
         }
     }
 
-    /// Opens a tenant with an empty map, and reserves its limit until it is closed.
+    /// Opens a tenant with an empty map, and reserves the tenant's limit until the tenant is closed.
     ///
     /// ```
     /// assert_eq!(rt; (bytes.open(1, 100), bytes.open(2, 100)), (Err(TenantError::AlreadyOpen), Ok(())));

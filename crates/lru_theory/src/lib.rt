@@ -55,10 +55,10 @@ pub fn loading_ahead_gains_nothing<K: Eq>()
         (demanded : ℕ) × (other : List K) × Served (Demands K.eq h) other first trace demanded × (demanded ≤ paid) }
 {}
 
-/// A cache of n places is *included* in a cache of m places if the larger cache contains its keys, in the same order,
-/// and at most m - n more keys. If the smaller cache is included, it is still included after any calls (`included`). So
-/// the larger cache finds each key that the smaller cache finds (`finds`), and misses no more often in a trace
-/// (`misses`). `KeyCall` lists the calls.
+/// A cache of n places is *included* in a cache of m places if the larger cache contains the keys of the smaller cache,
+/// in the same order, and at most m - n more keys. If the smaller cache is included, it is still included after any
+/// calls (`included`). So the larger cache finds each key that the smaller cache finds (`finds`), and misses no more
+/// often in a trace (`misses`). `KeyCall` lists the calls.
 pub fn a_smaller_cache_is_included<K: Eq>()
     ensures included { (n m : ℕ) (calls : List (KeyCall K)) (small large : List K) → n ≤ m →
         IsIncluded K.eq n m small large →

@@ -1,4 +1,5 @@
-//! Callers of a map, whose contracts follow from the contracts of its calls: the code of docs/CALLING.md.
+//! Functions that call a map: the code of docs/CALLING.md. Their contracts follow from the contracts of the map's
+//! calls.
 ghost use Rattle.std.specs.Prelude.{◌≡◌, ◌≤◌, ◌<◌, ◌⊎◌, ℕ, ◌+◌, ◌*◌, ◌/◌, ◌∷◌, ◌++◌, List, length, reverse, take, nat_eq};
 ghost use Rattle.std.specs.Prelude.{Some, None, Ok, IfOk, OnOk, OnErr, true, is_some, sum_by, string_len};
 ghost use Rattle.std.specs.Prelude.{map as mapped};
