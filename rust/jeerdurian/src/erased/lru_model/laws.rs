@@ -59,8 +59,8 @@ pub fn inserts_grow_little<K: Eq + Hash, V, I: LookupKey<K>, L: Insertion<K, V, 
 
 /// Suppose that the map has entries, but no growth left. If the first free bucket in the search for the new key is
 /// deleted, the new entry fills this bucket, without a query of the limiter or a move (`served`). If the limiter also
-/// accepts the new entry, and is not over its limit with it, an insert evicts nothing (`added`). Conversely, if an
-/// insertion keeps the number of buckets, and evicts and moves nothing, the first free bucket was deleted (`only`).
+/// accepts the new entry, and is not over its limit with this entry, an insert evicts nothing (`added`). Conversely, if
+/// an insertion keeps the number of buckets, and evicts and moves nothing, the first free bucket was deleted (`only`).
 pub fn deleted_buckets_serve<K: Eq + Hash, V, I: LookupKey<K>, L: Insertion<K, V, I>, S: KeyHasher<K>>() {}
 
 /// An insert pays for the entries that it moves. The count of moved entries, plus the potential, rises by at most 2 for

@@ -70,7 +70,7 @@ impl<N: Eq + Hash + OwnedBytes, K: Eq + Hash + OwnedBytes, V: OwnedBytes, S: Key
         }
     }
 
-    /// Opens a tenant with an empty map, and reserves its limit until it is closed.
+    /// Opens a tenant with an empty map, and reserves the tenant's limit until the tenant is closed.
     ///
     /// ```text
     /// assert_eq!(rt; (bytes.open(1, 100), bytes.open(2, 100)), (Err(TenantError::AlreadyOpen), Ok(())));

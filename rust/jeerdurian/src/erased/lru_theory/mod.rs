@@ -30,10 +30,10 @@ pub fn lru_is_competitive<K: Eq>() {}
 /// `paid` times, some demand policy with h places and the same first keys misses at most `paid` times.
 pub fn loading_ahead_gains_nothing<K: Eq>() {}
 
-/// A cache of n places is *included* in a cache of m places if the larger cache contains its keys, in the same order,
-/// and at most m - n more keys. If the smaller cache is included, it is still included after any calls (`included`). So
-/// the larger cache finds each key that the smaller cache finds (`finds`), and misses no more often in a trace
-/// (`misses`). `KeyCall` lists the calls.
+/// A cache of n places is *included* in a cache of m places if the larger cache contains the keys of the smaller cache,
+/// in the same order, and at most m - n more keys. If the smaller cache is included, it is still included after any
+/// calls (`included`). So the larger cache finds each key that the smaller cache finds (`finds`), and misses no more
+/// often in a trace (`misses`). `KeyCall` lists the calls.
 pub fn a_smaller_cache_is_included<K: Eq>() {}
 
 /// A larger budget never means more misses. If the cache with the smaller budget contains the newest keys of the other

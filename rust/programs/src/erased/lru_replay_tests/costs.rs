@@ -1,5 +1,5 @@
 // Erased from crates/lru_replay_tests/src/costs.rt: do not edit.
-//! Programs with `String` keys under a limit of cost, whose contracts say how often they load a value.
+//! Programs with `String` keys under a limit of cost. Their contracts say how often they load a value.
 
 #[allow(unused_imports)]
 use crate::rattle_std::prelude::*;

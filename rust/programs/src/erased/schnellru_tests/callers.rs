@@ -1,5 +1,6 @@
 // Erased from crates/schnellru_tests/src/callers.rt: do not edit.
-//! Callers of a map, whose contracts follow from the contracts of its calls: the code of docs/CALLING.md.
+//! Functions that call a map: the code of docs/CALLING.md. Their contracts follow from the contracts of the map's
+//! calls.
 
 #[allow(unused_imports)]
 use crate::rattle_std::prelude::*;
