@@ -1,5 +1,5 @@
-//! The theorems of `references`, for a map with a limit of cost, such as `ByCost` or `ByWeight`, and any `weight` of an
-//! entry.
+//! The theorems of `references`, for a map whose limiter limits the cost, as `ByCost` and `ByWeight` do, and for any
+//! `weight` of an entry.
 ghost use Rattle.std.specs.Prelude.{◌≡◌, ℕ, ◌-◌, ◌*◌, ◌^◌, ◌≤◌, ◌<◌, Bool, List, length, take, true};
 ghost use Rattle.std.specs.Prelude.{Some, Ok, Result, IsOk};
 ghost use Rattle.std.specs.declared.alloc.AllocError.{AllocError};

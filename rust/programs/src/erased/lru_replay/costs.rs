@@ -1,6 +1,6 @@
 // Erased from crates/lru_replay/src/costs.rt: do not edit.
-//! The theorems of `references`, for a map with a limit of cost, such as `ByCost` or `ByWeight`, and any `weight` of an
-//! entry.
+//! The theorems of `references`, for a map whose limiter limits the cost, as `ByCost` and `ByWeight` do, and for any
+//! `weight` of an entry.
 
 #[allow(unused_imports)]
 use crate::rattle_std::prelude::*;
