@@ -246,18 +246,6 @@ module _ (bits w : ℕ) (keys more : List (List ℕ × ℕ)) (few : length more 
 module _ {from mid : Option (List ℕ)} {options : Options} {old : AnyCurve} {lines : ℕ} {others : Others}
     (so_far : ReadSoFar from mid options old lines others)
     (to : Option (List ℕ)) (line : List ℕ) where
-  pub all_read : TakesRest mid to line → line ≡ [] → KeysRead from to options old others
-  all_read taken none = record {
-    input = so_far.bytes ++ line;
-    reads = Consumes-trans from mid to so_far.bytes line so_far.reads taken.1;
-    at_end = ended_before from mid to so_far.bytes so_far.reads taken.2;
-    curve_of = subst (λ ls. IsCurveOf (warm_in options ls) (counted_in options ls) old) same so_far.curve_of;
-    left_out = so_far.left_out ∙ ap (others_in options) same;
-  }
-    where
-      same : lines_of so_far.bytes ≡ lines_of (so_far.bytes ++ line)
-      same = ap lines_of (sym (append-nil so_far.bytes) ∙ ap (λ l. so_far.bytes ++ l) (sym none))
-
   abbrev w : ℕ
   w = warm_up_of options.policies
 
