@@ -1,6 +1,6 @@
 use Rattle.std.proofs.Common.{◌≡◌, ℕ, ◌+◌, ◌≤◌, ◌<◌, Bool, true, false, cond, List, [], ◌∷◌, ◌++◌, length}
 use Rattle.std.proofs.Common.{refl, sym, ap, ◌∙◌, arith, ◌⊎◌, inl, inr}
-use Rattle.std.proofs.lemmas.Bool.{eq-eqb, eqb-true}
+use Rattle.std.proofs.lemmas.Bool.{both_ways, eq-eqb, eqb-true}
 use Rattle.std.proofs.lemmas.List.{get_or_append_left, get_or_push}
 use Rattle.std.proofs.lemmas.List.Sums.{sum_by-cons}
 use Rattle.std.specs.Prelude.{◌||◌, nat_eq, sum_by}
@@ -55,10 +55,7 @@ module _ (key other : ℕ) where
               → is_in nat_eq other (cond b xs (x ∷ remove_key (nat_eq key) xs)) ≡ true
           test true same true found e ih =
               let is : nat_eq other key ≡ true = eq-eqb other key (eqb-true other x found ∙ sym (eqb-true key x same)) in
-              absurd (clash apart is)
-            where
-              clash : {b : Bool} → b ≡ false → b ≡ true → ⊥
-              clash e h = absurd cc
+              absurd (both_ways _ apart is)
           test true same false found e ih = e
           test false same true found e ih = rw found refl
           test false same false found e ih = rw found (ih e)
