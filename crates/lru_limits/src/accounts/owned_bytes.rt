@@ -140,7 +140,9 @@ impl<T: OwnedBytes> OwnedBytes for Vec<T> {
         (block_bytes (in_word (vec_capacity v * capped (type_size T.row))) + sum_by T.owned v.items) };
 
     fn owned_bytes(&self) -> u64 {
-        let mut sum = block_bytes((self.capacity() as u64).saturating_mul(Table::<T>::entry_bytes() as u64));
+        let mut sum = block_bytes(
+            (self.capacity() as u64).saturating_mul(Table::<T>::entry_bytes() as u64),
+        );
         for item in self.as_slice() {
             sum = sum.saturating_add(item.owned_bytes());
         }
