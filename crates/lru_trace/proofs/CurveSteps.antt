@@ -16,9 +16,9 @@ use Rattle.std.proofs.lemmas.Map.Made.{length-remove_key}
 use Rattle.lru_theory.specs.Traces.{is_in, since, recency, distance, misses, past_after}
 use Rattle.lru_theory.proofs.LongerTraces.{past_more, misses_more}
 use Rattle.lru_theory.proofs.Lists.{is_in_recency, since_recency}
+use Rattle.lru_theory.proofs.Nexts.{without_absent}
 use Rattle.lru_trace.specs.Counted.{Counted, IsOf, number_in}
 use Rattle.lru_trace.specs.Slots.{position, weight_in}
-use Rattle.lru_trace.proofs.Logs.{without_none}
 use Rattle.std.proofs.lemmas.Option.{same_Some}
 use Rattle.lru_trace.proofs.Numbered.{none_named, named_on, counted, position_within}
 
@@ -46,7 +46,7 @@ plain_fits weights key xs none few =
     go : (b : Bool) → is_in nat_eq key xs ≡ b → sum_by (weight_in []) (key ∷ remove_key (nat_eq key) xs) < 2 ^ 64
     go true e = omega (arith, plain_sum (key ∷ remove_key (nat_eq key) xs), length-remove_key (nat_eq key) xs e, few)
     go false e =
-        omega (arith, plain_sum (key ∷ remove_key (nat_eq key) xs), ap length (without_none key xs e), few)
+        omega (arith, plain_sum (key ∷ remove_key (nat_eq key) xs), ap length (without_absent nat_eq_equiv key xs e), few)
 
 pub position_some : (key d : ℕ) (xs : List ℕ) → place key xs ≡ Some d
     → (is_in nat_eq key xs ≡ true) × (length (since nat_eq key xs) ≡ d)
@@ -76,7 +76,7 @@ found_length key d xs e =
 pub first_length : (key : ℕ) (xs : List ℕ) → place key xs ≡ None
     → length (key ∷ remove_key (nat_eq key) xs) ≡ length xs + 1
 first_length key xs e =
-    let same = ap length (without_none key xs (position_none key xs e)) in
+    let same = ap length (without_absent nat_eq_equiv key xs (position_none key xs e)) in
     omega (arith, same)
 
 pub entry_few : (xs : List ℕ) (i : ℕ) → get_or xs i 0 ≤ sum xs

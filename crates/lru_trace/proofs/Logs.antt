@@ -88,12 +88,6 @@ module _ (key : ℕ) where
       let parts = or_parts (nat_eq key x) (is_in nat_eq key xs) e in
       rw parts.0 (ap (λ zs. x ∷ zs) (without_middle xs ys parts.1))
 
-  pub without_none : (xs : List ℕ) → is_in nat_eq key xs ≡ false → remove_key (nat_eq key) xs ≡ xs
-  without_none [] e = refl
-  without_none (x ∷ xs) e =
-      let parts = or_parts (nat_eq key x) (is_in nat_eq key xs) e in
-      rw parts.0 (ap (λ zs. x ∷ zs) (without_none xs parts.1))
-
 one_weight : (weight : ℕ → ℕ) (o : Option ℕ) → weight_of weight o ≡ sum_by weight (option_to_list o)
 one_weight weight None = refl
 one_weight weight (Some key) = omega arith

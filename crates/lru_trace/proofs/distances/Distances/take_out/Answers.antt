@@ -1,10 +1,12 @@
 use Rattle.std.proofs.Common.{◌≡◌, ◌-◌, ◌<◌, false, Some, None, length, get_or, refl, sym, ap, ◌∙◌, arith, nat_eq}
 use Rattle.std.specs.Prelude.{vec_len}
+use Rattle.std.proofs.lemmas.Cmp.{nat_eq_equiv}
 use Rattle.std.proofs.lemmas.List.{length-set, get_or_read}
 use Rattle.std.specs.Set.{remove_key}
 use Rattle.lru_theory.specs.Traces.{is_in}
+use Rattle.lru_theory.proofs.Nexts.{without_absent}
 use Rattle.lru_trace.specs.Slots.{position, newest, weight_in}
-use Rattle.lru_trace.proofs.Logs.{unreferenced, without_none, slot_in, position_is, taken_out, freed_found, freed_back}
+use Rattle.lru_trace.proofs.Logs.{unreferenced, slot_in, position_is, taken_out, freed_found, freed_back}
 use Rattle.lru_trace.proofs.Logs.{freed_weighed, freed_fits, freed_counted, freed_absent, is_weighed}
 use Rattle.lru_trace.proofs.distances.Distances.take_out.Goals.{After-index, In_default, In-Some}
 use Rattle.lru_trace.proofs.distances.Distances.take_out.Goals as goal
@@ -34,7 +36,7 @@ returns-in_default-clause-after c =
     let none = no_slot (goal.at.returns-in_default-clause-after c).In_default in
     let same : c.args.self.now.recency ≡ remove_key (nat_eq c.args.key) c.args.self.now.recency =
     ap (λ r. r.recency) (sym c.self.view_is)
-    ∙ sym (without_none c.args.key (newest c.self.inside.log.items) none)
+    ∙ sym (without_absent nat_eq_equiv c.args.key (newest c.self.inside.log.items) none)
     ∙ ap (λ r. remove_key (nat_eq c.args.key) r.recency) c.self.view_is in
     ap (λ xs. record { recency = xs; keys = c.args.self.now.keys; weights = c.args.self.now.weights; room = c.args.self.now.room }) same
 
