@@ -3,7 +3,7 @@
 --         blocks.
 use Rattle.std.specs.Prelude.{◌≡◌, ◌≢◌, ◌⊎◌, ◌+◌, ◌-◌, ◌^◌, ◌<◌, ℕ, zero, suc, min, Bool, true, false, not, ◌&&◌, ◌||◌}
 use Rattle.std.specs.Prelude.{if◌then◌else◌, List, [], ◌∷◌, ◌++◌, map, length, reverse, filter, nat_eq, nat_lt, Option}
-use Rattle.std.specs.Prelude.{Some, None, option_map, is_some, IsTrue, IsPermutation, Result, Ok, Err, IfErr, OnOk, OnErr}
+use Rattle.std.specs.Prelude.{Some, None, option_map, is_some, IsTrue, IsPermutation, Result, Ok, Err, IfErr, OnOk}
 use Rattle.std.specs.List.{find}
 use Rattle.std.specs.List.Sorted.{IsStrictlyIncreasing}
 use Rattle.std.specs.Map.{lookup, keys_of, set_value}

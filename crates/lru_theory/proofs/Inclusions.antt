@@ -1,7 +1,6 @@
 -- Any call keeps a smaller cache included in a larger one.
 use Rattle.std.proofs.Common.{◌≡◌, ℕ, zero, suc, ◌+◌, ◌-◌, ◌≤◌, Bool, true, false, cond, List, [], ◌∷◌, length, take}
 use Rattle.std.proofs.Common.{refl, ap, ◌∙◌, subst, arith}
-use Rattle.std.proofs.lemmas.Bool.{or_parts}
 use Rattle.std.proofs.lemmas.List.{length-take}
 use Rattle.std.proofs.lemmas.Map.Made.{length-remove_key}
 use Rattle.std.specs.Cmp.{IsEquivalence}
@@ -11,6 +10,7 @@ use Rattle.lru_theory.specs.Traces.{is_in, refer, faults, AreEqual}
 use Rattle.lru_theory.specs.Inclusion.{KeyCall, refers, promotes, removes, clears, looks, after_call, after_calls}
 use Rattle.lru_theory.specs.Inclusion.{IsSubsequence, none, both, skips, IsIncluded}
 use Rattle.lru_theory.proofs.EqualKeys.{head_equal, tail_equal, named_alike, equal_long}
+use Rattle.lru_theory.proofs.Nexts.{without_absent}
 
 pub clash : {b : Bool} {A : Type 0} → b ≡ false → b ≡ true → A
 clash e h = absurd cc
@@ -97,18 +97,12 @@ module _ {K : Type 0} {eq : K → K → Bool} (laws : IsEquivalence eq) where
       go true ih = refl
       go false ih = ih
 
-  pub without_missing : (key : K) (xs : List K) → is_in eq key xs ≡ false → remove_key (eq key) xs ≡ xs
-  without_missing key [] e = refl
-  without_missing key (x ∷ xs) e =
-      let parts = or_parts (eq key x) (is_in eq key xs) e in
-      rw parts.0 (ap (λ ys. x ∷ ys) (without_missing key xs parts.1))
-
   without_few : (key : K) (xs : List K) → length (remove_key (eq key) xs) ≤ length xs
   without_few key xs = go (is_in eq key xs) refl
     where
       go : (b : Bool) → is_in eq key xs ≡ b → length (remove_key (eq key) xs) ≤ length xs
       go true e = omega (arith, length-remove_key (eq key) xs e)
-      go false e = omega (arith, ap length (without_missing key xs e))
+      go false e = omega (arith, ap length (without_absent laws key xs e))
 
   gap_without : (d : ℕ) (key : K) (xs ys : List K) → Sub xs ys → length ys ≤ length xs + d
       → length (remove_key (eq key) ys) ≤ length (remove_key (eq key) xs) + d
@@ -122,7 +116,7 @@ module _ {K : Type 0} {eq : K → K → Bool} (laws : IsEquivalence eq) where
         length-remove_key (eq key) ys
             (sub_in key xs ys h e),
       )
-      go false e = omega (arith, few, ap length (without_missing key xs e), without_few key ys)
+      go false e = omega (arith, few, ap length (without_absent laws key xs e), without_few key ys)
 
   one_call : (n m : ℕ) → n ≤ m → (call : KeyCall K) (xs ys : List K) → IsIncluded eq n m xs ys
       → IsIncluded eq n m (after_call eq n call xs) (after_call eq m call ys)
@@ -155,7 +149,7 @@ module _ {K : Type 0} {eq : K → K → Bool} (laws : IsEquivalence eq) where
       go true false e f = clash f (sub_in key xs ys h.keys e)
       go false true e f = record {
         keys = skips key xs (remove_key (eq key) ys) (subst (λ zs. Sub zs (remove_key (eq key) ys))
-            (without_missing key xs e) (sub_without key xs ys h.keys));
+            (without_absent laws key xs e) (sub_without key xs ys h.keys));
         more = omega (arith, h.more, length-remove_key (eq key) ys f);
       }
       go false false e f = h

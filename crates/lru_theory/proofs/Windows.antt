@@ -11,8 +11,9 @@ use Rattle.std.specs.Set.{remove_key}
 use Rattle.lru_theory.specs.Traces.{is_in, refer, faults, fault}
 use Rattle.lru_theory.specs.Policies.{Served, ends, serves}
 use Rattle.lru_theory.proofs.Affordable.{Front, none, both, front_without, front_in}
-use Rattle.lru_theory.proofs.Inclusions.{clash, without_missing}
+use Rattle.lru_theory.proofs.Inclusions.{clash}
 use Rattle.lru_theory.proofs.Lists.{is_in_without}
+use Rattle.lru_theory.proofs.Nexts.{without_absent}
 
 module _ {K : Type 0} (eq : K → K → Bool) where
   abbrev pub Apart : List K → Type 0
@@ -176,7 +177,7 @@ module _ {K : Type 0} {eq : K → K → Bool} (laws : IsEquivalence eq) (k h b :
           where
             go : (d : Bool) → is_in eq key recent ≡ d → length recent ≤ suc (length (remove_key (eq key) recent))
             go true e = omega (arith, length-remove_key (eq key) recent e)
-            go false e = omega (arith, ap length (without_missing laws key recent e))
+            go false e = omega (arith, ap length (without_absent laws key recent e))
 
         known_key : (extra old known : List K) (key : K) → Within eq old known → is_in eq key (extra ++ old) ≡ true
             → is_in eq key (extra ++ known) ≡ true
@@ -207,4 +208,4 @@ module _ {K : Type 0} {eq : K → K → Bool} (laws : IsEquivalence eq) (k h b :
                 → length recent + (cond d 0 1 + rest) ≤ count
             go true r e h = omega (arith, many, longer key recent)
             go false true e h = clash refl (h refl)
-            go false false e h = omega (arith, many, ap length (without_missing laws key recent e))
+            go false false e h = omega (arith, many, ap length (without_absent laws key recent e))
