@@ -86,9 +86,8 @@ pub record GivesBack (was n : ℕ) (old new : List BucketState) : Type 0 where
 abbrev pub FirstFreeIs : BucketState → ℕ → List BucketState → Type 0
 FirstFreeIs state hash states = (b : ℕ) × IsFirstFree states hash b × (bucket_at states b ≡ state)
 
--- The pair at `place` was removed, and its bucket is free now. If each run of 16 neighbouring buckets that includes
--- this bucket contained an empty bucket, this bucket is empty now. If one of these runs contained no empty bucket, this
--- bucket is deleted now. The other buckets keep their states.
+-- The pair at `place` was removed, and its bucket is free now: deleted if it was in a run of 16 neighbouring buckets none
+-- of which was empty, and otherwise empty. The other buckets keep their states.
 pub record Frees (place : Option ℕ) (old new : TableState) : Type 0 where
   pub bucket : ℕ
   pub there : place ≡ Some bucket
