@@ -70,7 +70,7 @@ fn memory_stays_within_the_limit_between_calls() {
             997..999 => {
                 map.shrink_to_fit();
                 if random.below(2) == 0 {
-                    let limiter = map.limiter().with_table(map.memory_usage() as u64);
+                    let limiter = map.limiter().with_table(map.memory_usage() as u64).with_limit(300_000);
                     map.set_limiter(limiter);
                 }
             }

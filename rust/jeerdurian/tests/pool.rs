@@ -190,6 +190,7 @@ fn pools_of_many_tenants() {
         (0..2).for_each(|key| assert_eq!(pool.put(&name, key, 1), Ok(true)));
     }
     assert_eq!((pool.put(&7, 2, 1), pool.cost(&1500), pool.contains(&1500, &0)), (Ok(true), Ok(1), Ok(false)));
+    assert_eq!(format!("{pool:?}"), "TenantPool { len: 3000, .. }");
     for name in 0..3000 {
         assert_eq!(pool.total_cost(), 6000 - u128::from(name));
         assert_eq!(pool.get(&name, &1), Ok(Some(&1)));
