@@ -1,4 +1,4 @@
-//! Loads of texts, large values and costs, and walks and copies.
+//! Loads with texts, with large values, with costs, with walks, and with copies.
 use schnellru::{ByCost, ByLength, LruMap, UnlimitedCompact};
 use std::alloc::Global;
 
@@ -44,7 +44,7 @@ pub extern "C" fn rattle_texts(
     sum
 }
 
-/// Inserts values of 100 bytes, parts of `bytes`, into a map of at most `length` entries, and looks up each key.
+/// Cuts `bytes` into values of 100 bytes, inserts them into a map of at most `length` entries, and looks up each key.
 /// Returns a sum over the last bytes of the found values.
 #[unsafe(no_mangle)]
 pub extern "C" fn rattle_large_values(
@@ -74,8 +74,8 @@ pub extern "C" fn rattle_large_values(
     sum
 }
 
-/// Inserts a value of 1 to 64 under each key, with a limit on the sum of the values. Returns 31 times the number of
-/// entries that are left, plus their cost.
+/// Inserts a value of 1 to 64 under each key, with a limit on the sum of the values. Returns the cost of the entries
+/// that are left, plus 31 times their number.
 #[unsafe(no_mangle)]
 pub extern "C" fn rattle_costs(alloc: Global, limit: u64, keys: &[u64]) -> u64 {
     let mut map: LruMap<u64, u64, ByCost> = LruMap::new(

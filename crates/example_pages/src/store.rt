@@ -192,8 +192,8 @@ impl<'a> Store<'a> {
         pages.push(page).map_err(|_| StoreError::Memory)
     }
 
-    /// Makes the store whole after a crash: it has each transaction whose `commit` returned `Ok`, and may have the
-    /// interrupted transaction.
+    /// Makes the store whole after a crash. The store then has each transaction whose `commit` returned `Ok`, and may
+    /// have the interrupted transaction.
     pub fn recover(&mut self) -> Result<Recovered, StoreError> {
         let mut recovered = Recovered::default();
         let mut next = 0u64;
@@ -212,7 +212,7 @@ impl<'a> Store<'a> {
         Ok(recovered)
     }
 
-    /// Copies page n of the log to its place in the file, if the page in this place is torn or of an earlier
+    /// Copies page n of the log to its place in the file, if the page in this place is torn, or belongs to an earlier
     /// transaction.
     fn redo(&mut self, n: u64, recovered: &mut Recovered) -> Result<(), StoreError> {
         let Some(page) = self.log.read(n)? else {

@@ -1,4 +1,4 @@
--- What a look-up of a response does to its host.
+-- What a look-up of a response does to the host of the response.
 --     `names path`: whether this path is looked up.
 --     `now`: the time of the look-up.
 use Rattle.std.specs.Prelude.{◌≡◌, ◌⊎◌, ℕ, nat_lt, Bool, if◌then◌else◌, List, vec_items, Option, Some, None, is_some}
@@ -29,8 +29,8 @@ module _ {K : Type 0} (names : K → Bool) (now : ℕ) where
   abbrev pub looked_up : List (K × Response) → List (K × Response)
   looked_up pairs = if is_some (fresh_at now (lookup names pairs)) then front names pairs else without names pairs
 
--- The map `old` with this list and these counts, and with the table and the total of `left`. The call changes nothing
--- else.
+-- The map `old` with the given list and the given counts, but with the table and the running total of `left`. Nothing
+-- else changes.
 abbrev pub with_list : {K S : Type 0} → List (K × Response) → Counts → Host K S → Host K S → Host K S
 with_list list counts left old = record old {
   pairs = list;
@@ -50,13 +50,14 @@ DropsStale {K} {S} names now old answer new = (left : Host K S) × (answer ≡ O
 abbrev pub IsCopy : Response → Response → Type 0
 IsCopy stored copy = (vec_items copy.body ≡ vec_items stored.body) × (copy.expires ≡ stored.expires)
 
--- The answer is a copy of the stored response, or `None` if there is none, or `Memory` if the copy runs out of memory.
+-- The answer is a copy of the stored response. If no response is stored, the answer is `None`. If the copy runs out of
+-- memory, the answer is `Memory`.
 abbrev pub Copies : Option Response → Result (Option Response) TenantError → Type 0
 Copies None answer = answer ≡ Ok None
 Copies (Some stored) answer =
     ((copy : Response) × IsCopy stored copy × (answer ≡ Ok (Some copy))) ⊎ (answer ≡ Err Memory)
 
--- The call counts a hit if the stored response is fresh, and a miss if no fresh response is stored.
+-- If a fresh response is stored, the call counts a hit. If no fresh response is stored, the call counts a miss.
 abbrev pub GetsCopy : {K S : Type 0} → (K → Bool) → ℕ → Host K S
     → Result (Option Response) TenantError → Option (Host K S) → Type 0
 GetsCopy {K} {S} names now old answer new = (left : Host K S)

@@ -1,4 +1,4 @@
--- What a purge of all paths below a prefix does to its host.
+-- What a purge of all paths below a prefix does to the host of these paths.
 use Rattle.std.specs.Prelude.{◌≡◌, ℕ, nat_eq, Bool, not, List, filter, string_bytes}
 use Rattle.std.specs.List.{starts_with}
 use Rattle.std.specs.declared.string.String.{String}

@@ -14,7 +14,7 @@ use Rattle.lru_tenants.specs.declared.error.TenantError.TheVariants.{Memory}
 use Rattle.example_responses.specs.LookUps.{Host}
 use Rattle.example_responses.specs.declared.cache.Response.{Response}
 
--- Either the response was stored at a copy of the path, and was counted, or the copy of the path ran out of memory and
+-- Either the call did what `CountsPut` says, with a copy of the path as the key, or memory ran out for this copy and
 -- nothing changed.
 abbrev pub PutsPath : {N S : Type 0} → Rules (String Global) Response (Counting Budget)
     → Offers (String Global) Response (Counting Budget) (String Global) → (Counting Budget → ℕ)

@@ -8,7 +8,7 @@ pub data Bucket (A : Type 0) : Type 0 where
   empty deleted : Bucket A
   full : A → Bucket A
 
--- an entry with the tag of its hash
+-- an entry, and the tag of the entry's hash
 pub record Tagged (T : Type 0) : Type 0 where
   pub tag : ℕ
   pub entry : T

@@ -16,17 +16,17 @@ module _ (R : RattleType) where
   place block o (Some entry) = part_at R full_share entry block o
   place block o None = froom (raw (lone R.mir)) block o
 
-  -- a list of adjacent places, of which the first begins o bytes into a block
+  -- adjacent places; the first place begins o bytes into a block
   abbrev pub places : ℕ → ℕ → List (Option R.Denot) → Fml
   places block o [] = ftrue
   places block o (held ∷ more) = fsep (place block o held) (places block (o + type_size R) more)
 
-  -- what a `&` to one place gives access to
+  -- what may be read through a `&` to one place
   abbrev pub place_lent : ℕ → ℕ → Option R.Denot → Lft → Fml
   place_lent block o (Some entry) = shared_of R entry block o
   place_lent block o None = nothing
 
-  -- what a `&` to a list of adjacent places gives access to
+  -- what may be read through a `&` to a list of adjacent places
   abbrev pub places_lent : ℕ → ℕ → List (Option R.Denot) → Lft → Fml
   places_lent block o [] = nothing
   places_lent block o (held ∷ more) = beside (place_lent block o held) (places_lent block (o + type_size R) more)
@@ -40,7 +40,7 @@ module _ (R : RattleType) where
   owns_cells (block_ptr block o) held = fsep (addressable held) (places block o held)
   owns_cells null_ptr held = ffalse
 
-  -- what a `&` to all places of a block gives access to
+  -- what may be read through a `&` to all places of a block
   abbrev pub lends_cells : Ptr → List (Option R.Denot) → Lft → Fml
   lends_cells (block_ptr block o) held = beside (said (addressable held)) (places_lent block o held)
   lends_cells null_ptr held = said ffalse

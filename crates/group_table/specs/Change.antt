@@ -25,22 +25,23 @@ insertion_count c = count_up c.placed c.moved
 abbrev pub MayFill : List BucketState → ℕ → Type 0
 MayFill states b = (0 < growth_left states) ⊎ (bucket_at states b ≡ deleted)
 
--- No bucket takes a new entry with this hash. The table has no buckets, or it has no growth left and the first free
--- bucket of the search is empty.
+-- No bucket takes a new entry with this hash. Either the table has no buckets, or no growth is left and the first free
+-- bucket in a search for the hash is empty.
 abbrev pub HasNoPlace : List BucketState → ℕ → Type 0
 HasNoPlace states hash = (length states ≡ 0)
     ⊎ ((growth_left states ≡ 0) × (b : ℕ) × IsFirstFree states hash b × (bucket_at states b ≡ empty))
 
 module _ {T : Type 0} where
-  -- the entry filled bucket b, the first free bucket in a search for its hash, and no other bucket changed
+  -- The entry filled bucket b, which was the first free bucket in a search for the hash of the entry. No other bucket
+  -- changed.
   pub record Places (old new : Table T) (hash : ℕ) (entry : T) (b : ℕ) : Type 0 where
     pub first : IsFirstFree (bucket_states old.slots) hash b
     pub slots : new.slots ≡ slice_set old.slots b (filled hash entry)
     pub insertions : new.insertions ≡ one_placed old.insertions
 
 module _ {A : Type 0} where
-  -- A removal makes bucket b empty if each run of 16 neighbouring buckets with b contains an empty bucket. If some run
-  -- of 16 neighbouring buckets with b contains no empty bucket, the removal makes b deleted.
+  -- A removal makes bucket b empty if each run of 16 neighbouring buckets that includes b contains an empty bucket. If
+  -- some run of 16 neighbouring buckets that includes b contains no empty bucket, the removal makes b deleted.
   abbrev pub Removes : List (Bucket A) → List (Bucket A) → ℕ → Type 0
   Removes old new b =
       (HasEmptyNeighbours (IsEmpty (bucket_states old)) (length (bucket_states old)) b × (new ≡ slice_set old b empty))

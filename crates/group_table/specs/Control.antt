@@ -7,7 +7,7 @@ use Rattle.group_table.specs.Lanes.{IsRepeated}
 abbrev pub buckets_of : List ℕ → ℕ
 buckets_of control = length control - 16
 
--- A table with buckets has one control byte for each bucket, and 16 more (`IsRepeated`).
+-- A table with buckets has one control byte for each bucket, and 16 more control bytes (`IsRepeated`).
 pub record IsCircle (control : List ℕ) : Type 0 where
   pub power : IsPowerFromFour (buckets_of control)
   pub long : length control ≡ buckets_of control + 16

@@ -17,7 +17,7 @@ module _ {T : Type 0} where
     pub deed_alloc : row.deed.alloc ≡ alloc
     pub some : 0 < length row.cells.places
 
-  -- if there is a row of places, the row is one block
+  -- the table has no row of places, or the row is one block
   abbrev pub IsRow : Option (Row T) → Global → Type 0
   IsRow None alloc = ⊤
   IsRow (Some row) alloc = IsOneBlock row alloc

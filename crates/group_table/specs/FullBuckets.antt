@@ -5,8 +5,8 @@ use Rattle.group_table.specs.Control.{buckets_of, IsCircle}
 use Rattle.group_table.specs.Lanes.{HasLane}
 use Rattle.group_table.specs.declared.full_buckets.FullBuckets.{FullBuckets}
 
--- The lanes of the walk are the full buckets of its group, except buckets before `from`. No bucket from `from` up to
--- the group is full.
+-- The lanes of the walk are the full buckets of the walk's group, except buckets before `from`. No bucket from `from`
+-- to the beginning of the group is full.
 pub record IsAhead (control : List ℕ) (walk : FullBuckets) (from : ℕ) : Type 0 where
   pub circle : IsCircle control
   pub within : from ≤ buckets_of control
@@ -16,7 +16,7 @@ pub record IsAhead (control : List ℕ) (walk : FullBuckets) (from : ℕ) : Type
   pub lanes : (lane : ℕ) → HasLane walk.lanes lane
       ↔ ((lane < 16) × IsTag (slice_index control (walk.start + lane)) × (from ≤ walk.start + lane))
 
--- `next` is the first full bucket from bucket `from` on, or the number of all buckets if none of these buckets is full
+-- `next` is the first full bucket at or after `from`, or the number of buckets if no bucket at or after `from` is full
 pub record IsNextFull (control : List ℕ) (from next : ℕ) : Type 0 where
   pub bound : from ≤ next
   pub within : next ≤ buckets_of control

@@ -16,14 +16,14 @@ use Rattle.group_table.specs.declared.probe.Searched.TheVariants.{Accepted, Ende
 abbrev pub passed_by : Probe → ℕ
 passed_by probe = probe.stride - 16
 
--- a search for the hash visits the current group after `passed_by` buckets, a multiple of 16
+-- before the current group, a search for the hash visits `passed_by` buckets; this number is a multiple of 16
 pub record IsProbe (buckets hash : ℕ) (probe : Probe) : Type 0 where
   pub start : probe.start ≡ probed buckets hash (passed_by probe)
   pub whole : passed_by probe % 16 ≡ 0
   pub stride : 16 ≤ probe.stride
 
 module _ {T : Type 0} (slots : List (Slot T)) where
-  -- how many lanes of a group are distinct buckets
+  -- how many different buckets a group contains
   abbrev pub width : ℕ
   width = min 16 (length slots)
 
@@ -56,7 +56,7 @@ module _ {T F : Type 0} (closure : Mut F (Bor T × Unit {0}) Bool) (slots : List
   abbrev pub RejectsGroup : F → Type 0
   RejectsGroup g = RejectsEach closure slots f (tagged_lanes slots tag start (width slots)) g
 
-  -- how the search of one group ends: f accepted a bucket, the search ended at an empty bucket, or the search goes on
+  -- how the search of one group ends: f accepted an entry, the search ended at an empty bucket, or the search goes on
   abbrev pub SearchesGroup : Searched → F → Type 0
   SearchesGroup (Accepted b) g = AcceptsIn b g
   SearchesGroup Ended g = RejectsGroup g × HasEmptyLane slots start (width slots)

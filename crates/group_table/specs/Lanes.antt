@@ -14,7 +14,7 @@ IsMaskAt P bytes start mask = (lane : ℕ) → (bit_at mask lane ≡ 1) ↔ ((la
 abbrev pub HasLane : ℕ → ℕ → Type 0
 HasLane mask lane = bit_at mask lane ≡ 1
 
--- the lowest lane of a mask that is not 0
+-- the lowest lane of a mask, if the mask is not 0
 abbrev pub lowest : ℕ → ℕ
 lowest mask = trailing_zeros w16 mask
 

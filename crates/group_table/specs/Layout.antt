@@ -25,8 +25,8 @@ module _ {T : Type 0} where
   abbrev pub states_by : List ℕ → List (Option T) → List BucketState
   states_by bytes entries = bucket_states (slots_of bytes entries)
 
-  -- The control byte at a position. The bytes of all buckets come first, then empty bytes up to position 16, and last a
-  -- repetition of the bytes of the first buckets.
+  -- The control byte at a position. First come the bytes of all buckets. If there are fewer than 16 buckets, empty
+  -- bytes follow up to position 16. At the end, the bytes of the first buckets are repeated.
   abbrev pub byte_at : List (Slot T) → ℕ → ℕ
   byte_at slots position =
       if nat_lt position (length slots) then byte_of (bucket_at slots position)
@@ -38,7 +38,7 @@ module _ {T : Type 0} where
   Agrees byte (Some entry) = IsTag byte
   Agrees byte None = (byte ≡ deleted_byte) ⊎ (byte ≡ empty_byte)
 
-  -- the control bytes after `byte` was written for bucket b, and at the repetition of this bucket's byte
+  -- the control bytes after `byte` was written twice: for bucket b, and where the control byte of b is repeated
   abbrev pub written : List ℕ → List (Option T) → ℕ → ℕ → List ℕ
   written control entries b byte = slice_set (slice_set control b byte) (b + max 16 (length entries)) byte
 

@@ -1,7 +1,7 @@
 -- The laws of a link type.
---     `IsLinkType number link most`: the laws of `LinkType`, with `most` as its `MAX`.
---     `link_below laws n below`: the link of a number below the number of `MAX` is not `MAX`.
---     `narrowest_most`: the number of `MAX` for the narrowest links.
+--     `IsLinkType number link most`: the laws of `LinkType`, if `most` is `MAX`.
+--     `link_below laws n below`: if n is below the number of `MAX`, `link n` is not `MAX`.
+--     `narrowest_most`: the least number that `MAX` may have.
 --     `numbers_are_links`: each number up to `most` is its own link.
 use Rattle.std.specs.Prelude.{◌≡◌, ◌≢◌, ◌≤◌, ◌<◌, ℕ, refl}
 use Rattle.std.proofs.Common.{ap, arith}
@@ -10,7 +10,7 @@ abbrev pub narrowest_most : ℕ
 narrowest_most = 255
 
 pub record IsLinkType {N : Type 0} (number : N → ℕ) (link : ℕ → N) (most : N) : Type 0 where
-  -- the link of a number below the number of `MAX` has that number
+  -- if n is below the number of `MAX`, `link n` has the number n
   pub number_of_link : (n : ℕ) → n < number most → number (link n) ≡ n
   pub equal_by_number : (a b : N) → number a ≡ number b → a ≡ b
   -- a link has at least eight bits

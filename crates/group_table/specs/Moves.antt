@@ -4,11 +4,11 @@ use Rattle.group_table.specs.Bucket.{Slot, empty, bucket_at, bucket_states}
 use Rattle.group_table.specs.Probe.{filled, Reaches}
 
 module _ {T : Type 0} where
-  -- the entry in a place, if one is there
+  -- the entry in place b, or `None` if the place has no entry
   abbrev pub place_at : List (Option T) → ℕ → Option T
   place_at places b = slice_index_or places b None
 
-  -- the entry filled an empty bucket that a search for its hash reaches
+  -- the entry filled an empty bucket, which a search for the hash of the entry reaches
   pub record Joins (old new : List (Slot T)) (hash : ℕ) (entry : T) (b : ℕ) : Type 0 where
     pub reached : Reaches (bucket_states old) hash b
     pub within : b < length old

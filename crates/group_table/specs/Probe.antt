@@ -1,4 +1,4 @@
--- What the hash of an entry determines: the tag in its bucket, and the order in which a search visits the buckets.
+-- What the hash of an entry determines: the tag in the entry's bucket, and the order in which a search visits buckets.
 use Rattle.std.specs.Prelude.{◌≡◌, ◌≢◌, ℕ, ◌+◌, ◌*◌, ◌/◌, ◌%◌, ◌^◌, ◌<◌, Bool, false, List, length, IsTrue}
 use Rattle.group_table.specs.Bucket.{Slot, BucketState, empty, full, bucket_at, is_full}
 
@@ -11,11 +11,12 @@ abbrev pub filled : {T : Type 0} → ℕ → T → Slot T
 filled hash entry = full (record { tag = hash_tag hash; entry = entry })
 
 -- the bucket that a search visits at a step. A search visits groups of 16 buckets. The first group begins at the hash,
--- modulo `buckets`. The second begins 16 buckets after the first, the third 32 buckets after the second, and so on.
+-- modulo `buckets`. The second group begins 16 buckets after the beginning of the first, the third group begins 32
+-- buckets after the beginning of the second, and so on.
 abbrev pub probed : ℕ → ℕ → ℕ → ℕ
 probed buckets hash step = (hash + 8 * (step / 16) * (step / 16 + 1) + step % 16) % buckets
 
--- b is the first bucket that is not full, among the buckets in this order
+-- in the given order of the buckets, b is the first bucket that is not full
 pub record IsFirst (full_at : ℕ → Bool) (order : ℕ → ℕ) (b : ℕ) : Type 0 where
   pub step : ℕ
   pub there : order step ≡ b
@@ -34,6 +35,6 @@ module _ (states : List BucketState) (hash : ℕ) where
     pub there : probed (length states) hash step ≡ b
     pub goes_on : (before : ℕ) → before / 16 < step / 16 → state_probed before ≢ empty
 
-  -- the first bucket that is not full, among the buckets in the order of a search for the hash
+  -- in the order in which a search for the hash visits the buckets, b is the first bucket that is not full
   abbrev pub IsFirstFree : ℕ → Type 0
   IsFirstFree = IsFirst (λ b. is_full (bucket_at states b)) (probed (length states) hash)

@@ -10,9 +10,9 @@ module _ {N : Type 0} (number : N → ℕ) (none : N) where
   abbrev pub moved_to : List N → ℕ → ℕ
   moved_to links b = number (slice_index_or links b none)
 
--- Below, `old b` is the entry that was in the old bucket b, if there was one.
+-- Below, `old b` is the entry that was in the old bucket b, or `None` if there was no entry.
 module _ {T N : Type 0} (number : N → ℕ) (none : N) (old : ℕ → Option T) (new : List (Slot T)) (links : List N) where
-  -- each entry is in the new bucket that its link names, and no other new bucket is full
+  -- the entry of the old bucket b is now in bucket `moved_to b`, and no other new bucket is full
   pub record Moves : Type 0 where
     pub moved : (b : ℕ) (entry : T) → old b ≡ Some entry → entry_at new (moved_to number none links b) ≡ Some entry
     pub others : (b : ℕ) → old b ≡ None → slice_index_or links b none ≡ none
@@ -28,7 +28,7 @@ module _ {T N : Type 0} (number : N → ℕ) (none : N) (old : ℕ → Option T)
       → Fits new moved_hash_of
 
 module _ {T N : Type 0} (number : N → ℕ) (none : N) where
-  -- `links` contains one link for each old bucket, which says where the entry of this bucket moved
+  -- `links` contains one link for each old bucket; the link says to which new bucket the entry of the old bucket moved
   pub record IsRenumbering (old new : List (Slot T)) (links : List N) : Type 0 where
     pub one_each : length links ≡ length old
     pub moves : Moves number none (entry_at old) new links

@@ -17,8 +17,8 @@ module _ {T : Type 0} (slots : List (Slot T)) (hash : ℕ) where
   abbrev pub candidates : ℕ → List ℕ
   candidates steps = tagged slots (hash_tag hash) (probed (length slots) hash) steps
 
-  -- `asked` lists the candidates of the first `steps` steps of a search, each bucket once. No empty bucket ends the
-  -- search before these steps.
+  -- `asked` lists the candidates of the first `steps` steps of a search, and lists no bucket twice. The search makes
+  -- all these steps: no empty bucket ends the search earlier.
   pub record IsSearch (asked : List ℕ) : Type 0 where
     pub steps : ℕ
     pub within : steps ≤ length slots
@@ -34,11 +34,12 @@ module _ {T F : Type 0} (closure : Mut F (Bor T × Unit {0}) Bool) (slots : List
     pub there : entry_at slots b ≡ Some entry
     pub called : CalledAt closure f entry answer g
 
-  -- f was called with the entries in the buckets `asked`, in this order, and rejected each; after these calls, f is g
+  -- f was called with the entries in the buckets `asked`, in this order, and rejected each entry; after these calls, f
+  -- is g
   abbrev pub RejectsEach : F → List ℕ → F → Type 0
   RejectsEach f asked g = FoldsTo (λ p b q. Answers p b false q) f asked g
 
-  -- A search for the hash called f with the entries in the buckets `asked`, and f rejected each. Last, the search
+  -- A search for the hash called f with the entries in the buckets `asked`, and f rejected each entry. Then the search
   -- called f with the entry in bucket b, and f accepted this entry.
   pub record Finds (hash : ℕ) (f : F) (b : ℕ) : Type 0 where
     pub asked : List ℕ
@@ -48,9 +49,9 @@ module _ {T F : Type 0} (closure : Mut F (Bor T × Unit {0}) Bool) (slots : List
     pub last : F
     pub accepted : Answers between b true last
 
-  -- A search for the hash called f with the entries in the buckets `asked`, and f rejected each. `asked` contains each
-  -- bucket with the tag that a search reaches. For any hashes that fit the table, `asked` contains the bucket of each
-  -- entry with the searched hash.
+  -- A search for the hash called f with the entries in the buckets `asked`, and f rejected each entry. `asked` contains
+  -- each bucket that has the tag of the hash, if the search reaches this bucket. For any hashes that fit the table,
+  -- `asked` contains the bucket of each entry with the searched hash.
   pub record FindsNone (hash : ℕ) (f : F) : Type 0 where
     pub asked : List ℕ
     pub search : IsSearch slots hash asked

@@ -5,7 +5,7 @@ use Rattle.std.specs.Prelude.{Some, None}
 abbrev pub IsPowerFromFour : ℕ → Type 0
 IsPowerFromFour buckets = (k : ℕ) × (buckets ≡ 4 * 2 ^ k)
 
--- 0, or a power of two from 4 on
+-- 0, or a power of two that is at least 4
 abbrev pub IsBucketCount : ℕ → Type 0
 IsBucketCount buckets = (buckets ≡ 0) ⊎ IsPowerFromFour buckets
 
@@ -13,7 +13,7 @@ IsBucketCount buckets = (buckets ≡ 0) ⊎ IsPowerFromFour buckets
 unfoldable pub full_capacity : ℕ → ℕ
 full_capacity buckets = if nat_le buckets 8 then buckets - 1 else buckets / 8 * 7
 
--- the number `power`, doubled until it is at least n, but doubled at most `tries` times
+-- `power`, doubled at most `tries` times, until it is at least n
 abbrev pub first_power_from : ℕ → ℕ → ℕ → ℕ
 first_power_from zero n power = power
 first_power_from (suc tries) n power = if nat_le n power then power else first_power_from tries n (2 * power)
@@ -25,9 +25,9 @@ least_power n = first_power_from 64 n 1
 abbrev pub below : ℕ → ℕ → Option ℕ
 below limit n = if nat_lt n limit then Some n else None
 
--- How many buckets n entries need, or `None` if this number is not below `max`. 0 entries need 0 buckets, up to 3 need
--- 4, and up to 7 need 8. From 8 entries on, n entries need the least power of two that is at least 8 * n / 7, and 8 * n
--- must fit 64 bits.
+-- How many buckets n entries need, or `None` if n entries need `max` buckets or more. 0 entries need 0 buckets, 1 to 3
+-- entries need 4 buckets, and 4 to 7 entries need 8 buckets. If n is 8 or more, the number of buckets is the least
+-- power of two that is at least 8 * n / 7. If 8 * n does not fit 64 bits, the result is `None`.
 unfoldable pub buckets_for : ℕ → ℕ → Option ℕ
 buckets_for max entries =
     if entries == 0 then Some 0

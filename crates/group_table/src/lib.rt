@@ -1,4 +1,4 @@
-//! The bucket table of the LRU map, and the integer types that number its buckets.
+//! The bucket table of the LRU map, and the integer types of links to its buckets.
 #![tactic(auto)]
 
 // Marks code on hot paths that is never reached.

@@ -16,7 +16,7 @@ pub trait LinkType: Copy {
     /// The number of a link.
     ghost number: { Self → ℕ };
 
-    /// The link with this number, if the number is below the number of `MAX`.
+    /// The link with this number, if the number is less than the number that `MAX` has.
     ghost link: { ℕ → Self };
 
     /// Returns the link with this number. No bits are lost.
@@ -28,8 +28,8 @@ pub trait LinkType: Copy {
     fn into_usize(self) -> usize
         ensures { result ≡ number self };
 
-    /// States three laws. If n is below the number of `MAX`, the link of n has the number n. Links with equal numbers
-    /// are equal. A link has at least 8 bits.
+    /// States three laws. If n is below the number of `MAX`, `link n` has the number n. Links with equal numbers are
+    /// equal. A link has at least 8 bits.
     ghost laws: { IsLinkType number link MAX };
 }
 

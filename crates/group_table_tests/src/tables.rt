@@ -1,4 +1,4 @@
-//! Tables for tests, and the rules of docs/TABLE.md for a list with the key of each bucket.
+//! Tables for tests, and a list with the key of each bucket, which follows the rules of docs/TABLE.md.
 use group_table::{Table, buckets_for_capacity, full_capacity};
 use std::alloc::{AllocError, Global};
 use std::cell::Cell;

@@ -30,7 +30,7 @@ inserted_of code (Some old_value) evicted =
 abbrev pub noted_pair : Bool → Entry → Option (ℕ × ℕ)
 noted_pair noted place = if noted then Some (place.key, place.value) else None
 
--- the caller's slots after pairs were copied into them, as far as the slots reach
+-- the caller's slots, after pairs were copied into the slots until no pair or no slot was left
 abbrev pub filled : List (ℕ × ℕ) → List Entry → List Entry
 filled [] slots = slots
 filled (pair ∷ pairs) [] = []
@@ -41,7 +41,7 @@ fitting [] slots = 0
 fitting (pair ∷ pairs) [] = 0
 fitting (pair ∷ pairs) (slot ∷ slots) = suc (fitting pairs slots)
 
--- the noted pair, or else `pair` if its key is not `key`
+-- The pair that was noted before. If no pair was noted, the result is `pair`, or `None` if the key of `pair` is `key`.
 abbrev pub noting_other : ℕ → Option (ℕ × ℕ) → ℕ × ℕ → Option (ℕ × ℕ)
 noting_other key None pair = if nat_eq key pair.0 then None else Some pair
 noting_other key (Some noted) pair = Some noted
@@ -55,9 +55,9 @@ put_code (Ok true) = 0
 put_code (Ok false) = 1
 put_code (Err error) = 2
 
--- An insert, for which the caller passes an entry to write to. The entry is `place` before the insert, and `left` after
--- it. If pairs of other keys are evicted, `left` is the first of these pairs. If no pair of another key is evicted,
--- `left` is `place`.
+-- An insert that may write a pair to an entry of the caller. The entry is `place` before the insert, and `left` after
+-- the insert. If pairs of other keys are evicted, `left` is the first of these pairs. If no pair of another key is
+-- evicted, `left` is `place`.
 pub record Inserts (key value : ℕ) (old : Map) (answer : Inserted) (place left : Entry) (new : Map) : Type 0 where
   pub result : Result Bool AllocError
   pub passed : List (ℕ × ℕ)
@@ -68,15 +68,15 @@ pub record Inserts (key value : ℕ) (old : Map) (answer : Inserted) (place left
   pub one_evicted : old.limiter ≤ most_exact_length → length (others (nat_eq key) passed) ≤ 1
   pub returned : answer ≡ inserted_of (put_code result) (lookup (nat_eq key) old.pairs) answer.evicted
 
--- If the key is there, its pair becomes the newest, and its value is returned as the old value. If the key is not
--- there, the value is inserted.
+-- If the key is there, the pair of the key becomes the newest, and the value of this pair is returned as the old value.
+-- If the key is not there, the value is inserted.
 abbrev pub GetsOrInserts : ℕ → ℕ → Map → Inserted → Entry → Entry → Map → Type 0
 GetsOrInserts key value old answer place left new = MatchOption (lookup (nat_eq key) old.pairs)
     (Inserts key value old answer place left new)
     (λ there. (answer ≡ inserted_of 0 (Some there) false) × (left ≡ place) × (new ≡ promoted (nat_eq key) old))
 
--- If the handle has a map, the map changes as `step` says. If the handle has no map, it still has none after the call,
--- and `returns_nothing` is true.
+-- If the handle has a map, the map changes as `step` says. If the handle has no map, the handle has no map after the
+-- call either, and `returns_nothing` is true.
 abbrev pub OnMap : {M : Type 0} → Type 0 → (M → M → Type 0) → Option M → Option M → Type 0
 OnMap returns_nothing step None None = returns_nothing
 OnMap returns_nothing step None (Some after) = ⊥

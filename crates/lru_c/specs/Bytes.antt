@@ -1,7 +1,7 @@
--- The map from byte strings to byte strings, and what its calls do.
+-- The map from byte strings to byte strings, and what the calls of this map do.
 --     `names_bytes bytes k`: the key k has these bytes.
 --     `weight key value`: the weight of an entry with a key and a value of these lengths.
---     `poured bytes buffer`: the buffer, with a copy of the bytes at its front if they fit.
+--     `poured bytes buffer`: the buffer, after the bytes were copied to the beginning of the buffer if the bytes fit.
 use Rattle.std.specs.Prelude.{◌≡◌, ◌++◌, ◌<◌, ◌≤◌, ◌+◌, ◌&&◌, ℕ, Bool, true, false, List, length, drop, Option, Some}
 use Rattle.std.specs.Prelude.{None, nat_le, nat_lt, option_map, vec_items, vec_len, is_some, if◌then◌else◌, map}
 use Rattle.std.specs.Vec.{vec_ptr}
@@ -83,12 +83,12 @@ abbrev pub answer_of : Option Bytes → Value
 answer_of None = record { len = 0; found = false }
 answer_of (Some value) = record { len = length value.items; found = true }
 
--- If a look-up finds a value, it returns the length of the value. If the value fits into the buffer, it is copied
+-- A look-up that finds a value returns the length of the value. If the value fits into the buffer, the value is copied
 -- there.
 abbrev pub Reads : Option Bytes → Value → List ℕ → List ℕ → Type 0
 Reads value answer buffer left = (answer ≡ answer_of value) × (left ≡ poured_from value buffer)
 
--- If a look-up finds a value, `left` is the address of its bytes and their number.
+-- If a look-up finds a value, `left` contains the address and the length of the value.
 abbrev pub Lends : Option Bytes → Bool → Lent → Lent → Type 0
 Lends None found lent left = (found ≡ false) × (left ≡ lent)
 Lends (Some value) found lent left =
@@ -104,8 +104,8 @@ lengths_of pair removed =
 abbrev pub fits : Bytes × Bytes → List ℕ → List ℕ → Bool
 fits pair key value = nat_le (length pair.0.items) (length key) && nat_le (length pair.1.items) (length value)
 
--- If a look-up finds an entry, it returns the lengths of the entry's key and value. If both fit into their buffers,
--- both are copied there.
+-- A look-up that finds an entry returns the lengths of the key and the value. If the key and the value fit into the two
+-- buffers, the key and the value are copied.
 abbrev pub Shows : Option (Bytes × Bytes) → Popped → List ℕ → List ℕ → List ℕ → List ℕ → Type 0
 Shows None answer key key_left value value_left = (answer ≡ no_entry) × (key_left ≡ key) × (value_left ≡ value)
 Shows (Some pair) answer key key_left value value_left = (answer ≡ lengths_of pair false)
@@ -115,13 +115,14 @@ Shows (Some pair) answer key key_left value value_left = (answer ≡ lengths_of 
 abbrev pub texts : List (Bytes × Bytes) → List (List ℕ × List ℕ)
 texts pairs = map (λ pair. (pair.0.items, pair.1.items)) pairs
 
--- The entries of a copy have keys and values with the same bytes, in the same order, and everything else is equal.
+-- In the copy, the entries have the same order, and their keys and values have the same bytes. Everything else is
+-- equal.
 pub record Copies (old copy : BytesMap) : Type 0 where
   pub entries : texts copy.pairs ≡ texts old.pairs
   pub rest : copy ≡ record old { pairs = copy.pairs }
 
--- If the oldest entry fits into the two buffers, the entry is copied into them and removed. If the oldest entry does
--- not fit, only the lengths of its key and value are returned.
+-- If the oldest entry fits into the two buffers, the entry is copied into the buffers and removed. If the oldest entry
+-- does not fit, only the lengths of the key and the value are returned.
 pub data Pops (old : BytesMap) (answer : Popped) (key key_left value value_left : List ℕ)
     (new : BytesMap) : Type 0 where
   none : last old.pairs ≡ None → answer ≡ no_entry → key_left ≡ key → value_left ≡ value → new ≡ old →
@@ -136,7 +137,8 @@ pub data Pops (old : BytesMap) (answer : Popped) (key key_left value value_left 
 abbrev pub others_weight : List ℕ → BytesMap → ℕ
 others_weight key map = total_weight (without (names_bytes key) map.pairs)
 
--- Whether a put must evict: the new entry alone is within the budget, but not together with the entries of other keys.
+-- Whether a put must evict: the new entry alone is within the budget, but the new entry and the entries of other keys
+-- together are over the budget.
 abbrev pub must_evict : List ℕ → ℕ → BytesMap → Bool
 must_evict key value_len map = let added = weight (length key) value_len in
     nat_le added map.limiter.limit && nat_lt map.limiter.limit (others_weight key map + added)
@@ -146,8 +148,8 @@ pub data PopsFor (own : List ℕ) (n : ℕ) (old : BytesMap) (answer : Popped) (
     (new : BytesMap) : Type 0 where
   has_room : must_evict own n old ≡ false → answer ≡ no_entry → key_left ≡ key → value_left ≡ value → new ≡ old →
       PopsFor own n old answer key key_left value value_left new
-  -- The entry of the key `own` becomes the newest, so that the oldest entry has another key. The oldest entry is popped
-  -- if it fits into the buffers.
+  -- The entry of the key `own` becomes the newest, so the oldest entry has a key other than `own`. The oldest entry is
+  -- popped if it fits into the buffers.
   pops : must_evict own n old ≡ true → (pair : Bytes × Bytes) →
       last (without (names_bytes own) old.pairs) ≡ Some pair → last (front (names_bytes own) old.pairs) ≡ Some pair →
       Pops (promoted (names_bytes own) old) answer key key_left value value_left new →

@@ -35,8 +35,8 @@ pub fn insert(map: &mut Map, key: u64, value: u64, place: &mut Entry) -> Inserte
     }
 }
 
-/// If the map contains the key, returns its value as the replaced value, and makes its entry the newest. Otherwise
-/// calls `insert`.
+/// If the map contains the key, makes the key's entry the newest, and returns its value as the replaced value.
+/// Otherwise calls `insert`.
 #[inline]
 pub fn get_or_insert(map: &mut Map, key: u64, value: u64, place: &mut Entry) -> Inserted
     requires fits { FitsHandle map.old }

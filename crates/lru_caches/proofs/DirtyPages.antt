@@ -1,8 +1,8 @@
 use Rattle.std.proofs.Common.{◌≡◌, ◌≢◌, ℕ, Bool, true, false, cond, nat_eq, List, [], ◌∷◌, ◌++◌, Option}
-use Rattle.std.proofs.Common.{Some, None, unwrap_or, refl, sym, ap, ◌∙◌, subst}
+use Rattle.std.proofs.Common.{Some, None, refl, sym, ap, ◌∙◌, subst}
 use Rattle.std.proofs.lemmas.Bool.{eqb-true, eqb-false, true≢false}
 use Rattle.std.proofs.lemmas.Cmp.{nat_eq_equiv}
-use Rattle.std.proofs.lemmas.Option.{none-some}
+use Rattle.std.proofs.lemmas.Option.{none-some, same_Some}
 use Rattle.std.proofs.lemmas.List.Elements.{All-nil, All-cons, All-head, All-tail, All-contains, All-contains_itself, All-weaker}
 use Rattle.std.proofs.lemmas.List.Elements.{All-push, Contains-append_left, Contains-append_right, Contains-push}
 use Rattle.std.proofs.lemmas.List.Sorted.{Contains-permutation}
@@ -15,9 +15,6 @@ use Rattle.lru_caches.specs.declared.page_cache.pages.Page.{Page}
 use Rattle.lru_caches.specs.Pages.{is_dirty, dirty_numbers, block_or, block_at, AreClean, AreWritten, IsGood}
 
 module _ {B : Type 0} where
-  some_page : (p q : Page B) → Some p ≡ Some q → p ≡ q
-  some_page p q e = ap (λ o. unwrap_or o q) e
-
   abbrev pub IsDirtyAt : List (ℕ × Page B) → ℕ → Type 0
   IsDirtyAt pages n = is_dirty (lookup (nat_eq n) pages) ≡ true
 
@@ -65,7 +62,7 @@ module _ {B : Type 0} where
           → (lookup (nat_eq n) ps ≡ Some page → page.is_dirty ≡ true → Contains (dirty_numbers ps) n)
           → Contains (dirty_numbers (p ∷ ps)) n
       go true e found later = first p.1.is_dirty
-          (ap (λ (q : Page B). q.is_dirty) (some_page p.1 page found) ∙ dirty) (eqb-true n p.0 e)
+          (ap (λ (q : Page B). q.is_dirty) (same_Some p.1 page found) ∙ dirty) (eqb-true n p.0 e)
       go false e found later = more p.1.is_dirty (later found dirty)
 
 module _ {B D E S : Type 0} (d : device.Ghosts D B E S) where
@@ -88,7 +85,7 @@ module _ {B D E S : Type 0} (d : device.Ghosts D B E S) where
       All-push (IsBack pages new) done k (All-weaker (IsBack pages old) (IsBack pages new) kept done all) here
     where
       here : IsBack pages new k
-      here q there = is ∙ ap (λ (p : Page B). Some (d.seen p.block)) (some_page page q (sym found ∙ there))
+      here q there = is ∙ ap (λ (p : Page B). Some (d.seen p.block)) (same_Some page q (sym found ∙ there))
 
       kept : (m : ℕ) → IsBack pages old m → IsBack pages new m
       kept m was q there = go (nat_eq m k) refl

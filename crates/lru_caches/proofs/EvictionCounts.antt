@@ -1,10 +1,10 @@
 -- What a call on an uncached page counts. `mid` and `between` are the pages and the counts before the call looks for
 -- room, and `room` is left of the pages.
-use Rattle.std.proofs.Common.{◌≡◌, ◌⊎◌, ◌-◌, Bool, List, length, Option, None, is_some, Result, IfErr, OnOk, cond, sym}
+use Rattle.std.proofs.Common.{◌≡◌, ◌⊎◌, ◌-◌, List, length, Option, None, is_some, Result, IfErr, OnOk, cond, sym}
 use Rattle.std.proofs.Common.{ap, ◌∙◌, subst}
 use Rattle.lru_caches.specs.Pages.{evicts, hit, missed}
 use Rattle.lru_caches.specs.declared.page_cache.pages.Counts.{Counts}
-use Rattle.lru_caches.proofs.Outcomes.{on_ok}
+use Rattle.std.proofs.lemmas.Result.{on_ok_weaker}
 
 module _ {X T E : Type 0} (memory : E) (result : Result T E) (old mid left room new : List X)
     (counts between now : Counts) (stays : mid ≡ old) (same : between ≡ counts) (is : left ≡ room) where
@@ -23,7 +23,7 @@ module _ {X T E : Type 0} (memory : E) (result : Result T E) (old mid left room 
   pub missed-counts : {Y : Type 0} (found : Option Y) → found ≡ None
       → OnOk result (now ≡ missed (length mid - length left) between)
       → OnOk result (now ≡ cond (is_some found) (hit counts) (missed (length old - length room) counts))
-  missed-counts found none = on_ok result (λ h. h
+  missed-counts found none = on_ok_weaker result (λ h. h
       ∙ ap (missed (length mid - length left)) same
       ∙ ap (λ l. missed (length l - length left) counts) stays
       ∙ ap (λ l. missed (length old - length l) counts) is

@@ -30,11 +30,6 @@ module _ {B : Type 0} (keeps : Bool) where
   victim-goes pages p e = victim-push pages p
       ∙ ap (λ b. option_map (λ q. q.0) (cond b (Some p) (find goes (reverse pages)))) e
 
-  pub victim-stays : (pages : List (ℕ × Page B)) (p : ℕ × Page B) → may_go keeps p.1 ≡ false
-      → victim keeps (pages ++ p ∷ []) ≡ victim keeps pages
-  victim-stays pages p e = victim-push pages p
-      ∙ ap (λ b. option_map (λ q. q.0) (cond b (Some p) (find goes (reverse pages)))) e
-
   found_in : (xs : List (ℕ × Page B)) (p : ℕ × Page B) → find goes xs ≡ Some p
       → Contains xs p × (may_go keeps p.1 ≡ true)
   found_in [] p e = absurd (none-some p e)

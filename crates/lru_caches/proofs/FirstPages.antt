@@ -1,16 +1,14 @@
 -- What a cache shows, and its invariant, after a change of its newest page or the end of a pin.
 use Rattle.std.proofs.Common.{◌≡◌, ◌≢◌, ◌<◌, ◌≤◌, ℕ, Bool, true, false, cond, nat_eq, List, ◌∷◌, length, Option, Some, None}
-use Rattle.std.proofs.Common.{IsTrue, refl, sym, ap, ◌∙◌, subst, unwrap_or, ne_eqb}
+use Rattle.std.proofs.Common.{IsTrue, refl, sym, ap, ◌∙◌, subst, ne_eqb}
 use Rattle.std.proofs.lemmas.Cmp.{nat_eq_equiv}
+use Rattle.std.proofs.lemmas.Option.{same_Some}
 use Rattle.std.proofs.lemmas.Map.{length-set_value}
 use Rattle.std.specs.Map.{lookup}
 use Rattle.lru_caches.specs.declared.device.BlockDevice as device
 use Rattle.lru_caches.specs.declared.page_cache.pages.Page.{Page}
 use Rattle.lru_caches.specs.Pages.{block_or, block_at, with_no_pin, unpinned_at, AreClean, AreThere}
 use Rattle.lru_caches.proofs.SetPages.{clean-set, there-set, shown-set}
-
-some_page : {B : Type 0} (p q : Page B) → Some p ≡ Some q → p ≡ q
-some_page p q e = ap (λ o. unwrap_or o q) e
 
 module _ {B D E S : Type 0} (d : device.Ghosts D B E S) (it : D) where
   abbrev pub Holds : ℕ → ℕ → List (ℕ × Page B) → Type 0
@@ -49,7 +47,7 @@ module _ {B D E S : Type 0} (d : device.Ghosts D B E S) (it : D) where
               → p.is_dirty ≡ false → d.blocks it m ≡ Some (d.seen p.block))
               → cond b (Some with_it) (lookup (nat_eq m) others) ≡ Some q → d.blocks it m ≡ Some (d.seen q.block)
           go true before found =
-              let same = some_page with_it q found in
+              let same = same_Some with_it q found in
               let one = kept (subst (λ (p : Page B). p.is_dirty ≡ false) (sym same) is_clean) in
               before page refl one.0 ∙ ap Some one.1 ∙ ap (λ (p : Page B). Some (d.seen p.block)) same
           go false before found = before q found is_clean

@@ -1,7 +1,8 @@
 use Rattle.std.proofs.Common.{◌≡◌, ℕ, Bool, true, false, cond, nat_eq, List, length, Option, Some, None}
-use Rattle.std.proofs.Common.{IsTrue, refl, sym, ap, ◌∙◌, subst, unwrap_or}
+use Rattle.std.proofs.Common.{IsTrue, refl, sym, ap, ◌∙◌, subst}
 use Rattle.std.proofs.lemmas.Bool.{eqb-true}
 use Rattle.std.proofs.lemmas.Cmp.{nat_eq_equiv}
+use Rattle.std.proofs.lemmas.Option.{same_Some}
 use Rattle.std.proofs.lemmas.Map.{lookup-set_value, length-set_value}
 use Rattle.std.specs.Prelude.{IsSome}
 use Rattle.std.specs.Map.{lookup, set_value}
@@ -10,9 +11,6 @@ use Rattle.lru_caches.specs.declared.page_cache.pages.Page.{Page}
 use Rattle.lru_caches.specs.Pages.{block_or, with_clean, cleaned_at, AreClean, AreThere, IsGood}
 
 module _ {B : Type 0} where
-  some_page : (p q : Page B) → Some p ≡ Some q → p ≡ q
-  some_page p q e = ap (λ o. unwrap_or o q) e
-
   module _ (pages : List (ℕ × Page B)) (n : ℕ) (page with_it : Page B) (there : lookup (nat_eq n) pages ≡ Some page) where
     pub found_set : (m : ℕ) → lookup (nat_eq m) (set_value (nat_eq n) pages with_it)
         ≡ cond (nat_eq n m) (Some with_it) (lookup (nat_eq m) pages)
@@ -38,7 +36,7 @@ module _ {B D E S : Type 0} (d : device.Ghosts D B E S) (pages : List (ℕ × Pa
     where
       go : (b : Bool) → nat_eq n m ≡ b → cond b (Some with_it) (lookup (nat_eq m) pages) ≡ Some q
           → d.blocks it m ≡ Some (d.seen q.block)
-      go true e found = let same = some_page with_it q found in
+      go true e found = let same = same_Some with_it q found in
           subst (λ k. d.blocks it k ≡ Some (d.seen q.block)) (eqb-true n m e)
           (subst (λ (p : Page B). d.blocks it n ≡ Some (d.seen p.block)) same
           (is good (subst (λ (p : Page B). p.is_dirty ≡ false) (sym same) is_clean)))

@@ -15,7 +15,7 @@ use Rattle.lru_model.specs.Inserts.{Insert}
 use Rattle.lru_model.specs.Lists.{IsFront, lookup_entry}
 use Rattle.lru_model.specs.State.{State}
 use Rattle.lru_model.specs.Theorems.{EvictsOldest, InsertEnds, KeepsValues}
-use Rattle.std.specs.Prelude.{ℕ, Result, Ok, Err, IfOk}
+use Rattle.std.specs.Prelude.{ℕ, Result, Ok}
 use Rattle.lru_caches.specs.Answers.{IsAnswer, AreAnswers, Remembers, ReadsLoaded, loaded, failed}
 
 module _ {K V : Type 0} (eq : K → K → Bool) (laws : IsEquivalence eq) (post : K → V → Type 0) where
@@ -77,11 +77,6 @@ removed_there {K} {V} rules names old value new removes =
         ≡ is_some (option_map (λ p. p.1) o)
     left None = refl
     left (Some p) = refl
-
-pub of_ok : {T E : Type 0} {P Q : T → Type 0} (result : Result T E) → ((x : T) → P x → Q x) → IfOk result P
-    → IfOk result Q
-of_ok (Ok x) follows h = follows x h
-of_ok (Err e) follows h = h
 
 pub loaded_as_read : {V E : Type 0} {gives : Result V E → Type 0} {reads : V → V → Type 0} {result : Result V E}
     → ReadsLoaded gives reads result → ((value given : V) → reads value given → given ≡ value) → gives result

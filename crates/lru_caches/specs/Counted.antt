@@ -29,7 +29,7 @@ inserted (Ok false) n counts = record counts {
 }
 inserted (Err error) n counts = record counts { evictions = count_up counts.evictions n }
 
--- how many pairs of keys other than the named key were evicted
+-- how many evicted pairs have a key other than the named key
 abbrev pub evicted : {K V : Type 0} → (K → Bool) → List (K × V) → List (K × V) → ℕ
 evicted names old new = length (without names old) - length (without names new)
 

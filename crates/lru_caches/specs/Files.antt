@@ -1,12 +1,12 @@
--- What a record of the calls on a file says about the blocks of the file. A block is known if the record determines its
--- bytes.
+-- What a record of the calls on a file says about the blocks of the file. A block is known if the record determines the
+-- bytes of the block.
 use Rattle.std.specs.Prelude.{◌≡◌, ℕ, zero, suc, nat_eq, Bool, if◌then◌else◌, List, [], ◌∷◌, Option, Some, None, slice_index}
 
--- One call on a file: its kind, the number of the block, and the bytes that were read or written.
+-- One call on a file: the kind of the call, the number of the block, and the bytes that were read or written.
 abbrev pub Event : Type 0
 Event = ℕ × ℕ × List ℕ
 
--- The events of a read, a write and a sync, each failed or successful.
+-- The events of a failed and a successful read, write and sync.
 abbrev pub unread : ℕ → Event
 unread n = (0, n, [])
 
@@ -32,8 +32,8 @@ abbrev pub or_else : Option (List ℕ) → List ℕ → Option (List ℕ)
 or_else None bytes = Some bytes
 or_else (Some known) bytes = Some known
 
--- What is known of a block after an event, if `old` was known before it. `same` says whether the event is of this
--- block. A failed write may leave any bytes.
+-- What is known of a block after an event, if `old` was known before the event. `same` says whether the event is on
+-- this block. A failed write may leave any bytes.
 abbrev pub known_after : ℕ → Bool → List ℕ → Option (List ℕ) → Option (List ℕ)
 known_after zero same bytes old = old
 known_after (suc zero) same bytes old = if same then or_else old bytes else old
@@ -47,7 +47,7 @@ known [] n = None
 known (e ∷ earlier) n = known_after e.0 (nat_eq n e.1) e.2 (known earlier n)
 
 -- What a crash after an event leaves of a block, or `None` if the events do not determine this. `block` is what is
--- known of the block, and `old` what a crash before the event leaves.
+-- known of the block, and `old` is what a crash before the event leaves.
 abbrev pub left_after : ℕ → Bool → Option (List ℕ) → Option (List ℕ) → Option (List ℕ)
 left_after zero same block old = old
 left_after (suc zero) same block old = old
@@ -61,8 +61,7 @@ abbrev pub left : List Event → ℕ → Option (List ℕ)
 left [] n = None
 left (e ∷ earlier) n = left_after e.0 (nat_eq n e.1) (known earlier n) (left earlier n)
 
--- A crash may leave a block whose bytes contracts see as `block`. `seen` gives what contracts see of the bytes of a
--- block.
+-- A crash may leave a block that contracts see as `block`. `seen` maps the bytes of a block to what contracts see.
 abbrev pub IsLeft : (List ℕ → List ℕ) → Option (List ℕ) → List ℕ → Type 0
 IsLeft seen None block = Unit {0}
 IsLeft seen (Some only) block = block ≡ seen only

@@ -1,8 +1,9 @@
--- A page cache: which blocks it shows, which of its pages are dirty, and what a crash may leave.
---     `d`: the ghost members of the device, such as what its blocks are and what a crash may leave of them.
+-- A page cache: which blocks the cache shows, which pages are dirty, and what a crash may leave.
+--     `d`: the ghost members of the device, such as which blocks the device has, and what a crash may leave of these
+--         blocks.
 use Rattle.std.specs.Prelude.{◌≡◌, ◌≢◌, ◌⊎◌, ◌+◌, ◌-◌, ◌^◌, ◌<◌, ℕ, zero, suc, min, Bool, true, false, not, ◌&&◌, ◌||◌}
 use Rattle.std.specs.Prelude.{if◌then◌else◌, List, [], ◌∷◌, ◌++◌, map, length, reverse, filter, nat_eq, nat_lt, Option}
-use Rattle.std.specs.Prelude.{Some, None, option_map, is_some, IsTrue, IsPermutation, Result, Ok, Err, IfErr, OnOk, OnErr}
+use Rattle.std.specs.Prelude.{Some, None, option_map, is_some, IsTrue, IsPermutation, Result, Ok, Err, IfErr, OnOk}
 use Rattle.std.specs.List.{find}
 use Rattle.std.specs.List.Sorted.{IsStrictlyIncreasing}
 use Rattle.std.specs.Map.{lookup, keys_of, set_value}
@@ -19,8 +20,8 @@ pub record Cached (B D : Type 0) : Type 0 where
   pub pages : List (ℕ × Page B)
   pub capacity : ℕ
   pub keeps_dirty : Bool
-  -- how many successful reads, writes and pins found their page cached (hits), how many did not (misses), and how many
-  -- pages were evicted
+  -- The numbers of hits, misses and evicted pages. A successful read, write or pin is a hit if the page was in the
+  -- cache, or else a miss.
   pub counts : Counts
   pub device : D
 
@@ -50,7 +51,8 @@ module _ {B : Type 0} where
   abbrev pub unpinned_at : ℕ → List (ℕ × Page B) → List (ℕ × Page B)
   unpinned_at n pages = with_no_pin n (lookup (nat_eq n) pages) pages
 
-  -- A page may be evicted unless it is pinned, or dirty in a cache that keeps dirty pages.
+  -- A page may be evicted unless the page is pinned. If the cache keeps dirty pages, a dirty page may not be evicted
+  -- either.
   abbrev pub may_go : Bool → Page B → Bool
   may_go keeps_dirty page = not (page.is_pinned || keeps_dirty && page.is_dirty)
 
@@ -66,7 +68,7 @@ module _ {B : Type 0} where
   goes_dirty None pages = false
   goes_dirty (Some n) pages = is_dirty (lookup (nat_eq n) pages)
 
-  -- the pages that are left just before a new page is cached; a full cache evicts the oldest page that it may evict
+  -- The cached pages just before a new page is cached. A full cache first evicts the oldest page that may be evicted.
   abbrev pub with_room : ℕ → Bool → List (ℕ × Page B) → List (ℕ × Page B)
   with_room capacity keeps_dirty pages =
       if nat_lt (length pages) capacity then pages else evicted (victim keeps_dirty pages) pages
@@ -81,7 +83,7 @@ hit counts = record counts { hits = min (counts.hits + 1) (2 ^ 64 - 1) }
 abbrev pub evicts : ℕ → Counts → Counts
 evicts n counts = record counts { evictions = min (counts.evictions + n) (2 ^ 64 - 1) }
 
--- the counts after a miss, for which n pages were evicted
+-- the counts after a miss, if n pages were evicted for the missing page
 abbrev pub missed : ℕ → Counts → Counts
 missed n counts = record (evicts n counts) { misses = min (counts.misses + 1) (2 ^ 64 - 1) }
 
@@ -133,23 +135,24 @@ module _ {B D E S : Type 0} (d : device.Ghosts D B E S) where
   abbrev pub block_at : List (ℕ × Page B) → D → ℕ → Option S
   block_at pages device n = block_or (lookup (nat_eq n) pages) (d.blocks device n)
 
-  -- the block that a reader of the cache sees at number n
+  -- the block n as a reader of the cache sees this block
   abbrev pub shown : Cached B D → ℕ → Option S
   shown cache n = block_at cache.pages cache.device n
 
   abbrev pub IsGood : D → Type 0
   IsGood device = IsTrue (d.is_usable device) × d.IsHonest device
 
-  -- If the device is good (`IsGood`), the cache still shows each block that it showed before.
+  -- If the device is good (`IsGood`), the cache still shows each block that the cache showed before.
   abbrev pub ShowsTheSame : Cached B D → Cached B D → Type 0
   ShowsTheSame old new = IsGood new.device → (n : ℕ) (block : S) → shown old n ≡ Some block → shown new n ≡ Some block
 
-  -- the page was cached and dirty, and `block` is its block or a torn block
+  -- the page was cached and dirty, and `block` is the block of the page, or a torn block
   abbrev pub IsWritten : Option (Page B) → S → Type 0
   IsWritten None block = ⊥
   IsWritten (Some page) block = IsTrue page.is_dirty × ((block ≡ d.seen page.block) ⊎ d.IsTorn block)
 
-  -- A crash may leave only what a crash might leave before the call, and the blocks of dirty pages, whole or torn.
+  -- A crash may leave only the blocks that a crash might leave before the call, and the blocks of dirty pages, whole or
+  -- torn.
   abbrev pub CrashAdds : List (ℕ × Page B) → D → D → Type 0
   CrashAdds pages old new = (n : ℕ) (block : S) → d.may_leave new n block
       → d.may_leave old n block ⊎ IsWritten (lookup (nat_eq n) pages) block
@@ -157,7 +160,7 @@ module _ {B D E S : Type 0} (d : device.Ghosts D B E S) where
   abbrev pub CrashKeeps : D → D → Type 0
   CrashKeeps old new = (n : ℕ) (block : S) → d.may_leave new n block → d.may_leave old n block
 
-  -- If the device is good (`IsGood`), each clean page contains the block that the device has at its number.
+  -- If the device is good (`IsGood`), each clean page n contains the device's block n.
   abbrev pub AreClean : List (ℕ × Page B) → D → Type 0
   AreClean pages device = IsGood device → (n : ℕ) (page : Page B) → lookup (nat_eq n) pages ≡ Some page
       → page.is_dirty ≡ false → d.blocks device n ≡ Some (d.seen page.block)
@@ -170,13 +173,14 @@ module _ {B D E S : Type 0} (d : device.Ghosts D B E S) where
     pub usable : d.is_usable new ≡ d.is_usable old
     pub honest : d.IsHonest new → d.IsHonest old
 
-  -- The pages with these numbers were written to the device, one after another, and the device got no other call.
+  -- The pages with these numbers were written to the device, one after another. The device got no other call.
   abbrev pub AreWritten : List ℕ → List (ℕ × Page B) → D → D → Type 0
   AreWritten [] pages old new = new ≡ old
   AreWritten (n ∷ numbers) pages old new = (page : Page B) × (between : D) × (lookup (nat_eq n) pages ≡ Some page)
       × d.write_gives old n (d.seen page.block) between × AreWritten numbers pages between new
 
-  -- A flush wrote the dirty pages, each once, in the order of their numbers, and after this synced the device.
+  -- A flush wrote each dirty page once, in the order of the page numbers. After these writes, the flush synced the
+  -- device.
   pub record IsFlush (pages : List (ℕ × Page B)) (old new : D) : Type 0 where
     pub numbers : List ℕ
     pub all_dirty : IsPermutation (dirty_numbers pages) numbers
@@ -185,7 +189,7 @@ module _ {B D E S : Type 0} (d : device.Ghosts D B E S) where
     pub writes : AreWritten numbers pages old written
     pub synced : d.sync_gives written new
 
-  -- a flush that stopped after some of its writes, or in the `sync` after all its writes
+  -- a flush that stopped after some of the writes, or in the `sync` after all writes
   pub record IsCutOff (pages : List (ℕ × Page B)) (old new : D) : Type 0 where
     pub numbers : List ℕ
     pub rest : List ℕ
@@ -205,8 +209,8 @@ module _ {B D E S : Type 0} (d : device.Ghosts D B E S) where
   abbrev pub IsFlushCause : D → D → PageError E → Type 0
   IsFlushCause old new e = IsFault old new e ⊎ ((e ≡ Broken) × (d.is_usable old ≡ false))
 
-  -- Either a failed call does not change the pages and the counts, or memory ran out after an eviction, and the
-  -- eviction is counted.
+  -- A failed call changes neither the pages nor the counts, unless memory ran out after an eviction. In this case the
+  -- evicted page is gone, and the eviction is counted.
   abbrev pub Leaves : Cached B D → Cached B D → PageError E → Type 0
   Leaves old new e = ((new.pages ≡ old.pages) × (new.counts ≡ old.counts))
       ⊎ ((e ≡ Memory) × (new.pages ≡ with_room old.capacity old.keeps_dirty old.pages)
@@ -217,7 +221,7 @@ module _ {B D E S : Type 0} (d : device.Ghosts D B E S) where
   IsCause n old new e = IsFault old.device new e ⊎ ((e ≡ Broken) × (d.is_usable old.device ≡ false))
       ⊎ ((e ≡ NoBlock) × (d.has old.device n ≡ false)) ⊎ (e ≡ Memory) ⊎ ((e ≡ Full) × IsFull n old)
 
-  -- what every call does that reads, writes or pins page n
+  -- what every read, every write and every pin of page n does
   pub record UsesPage {A : Type 0} (n : ℕ) (old : Cached B D) (result : Result A (PageError E)) (new : Cached B D)
       : Type 0 where
     pub crash : CrashAdds old.pages old.device new.device
@@ -245,13 +249,14 @@ module _ {B D E S : Type 0} (d : device.Ghosts D B E S) where
     pub broken : d.is_usable old.device ≡ false → e ≡ Broken
     pub uses : UsesPage {A = Unit {0}} n old (Err e) new
 
-  -- `count` pages were read, one after another, beginning with page `start`
+  -- `count` pages, beginning with page `start`, were read one after another
   abbrev pub ReadsPages : ℕ → ℕ → Cached B D → Cached B D → Type 0
   ReadsPages start zero old new = new ≡ old
   ReadsPages start (suc count) old new =
       (between : Cached B D) × ReadsPages start count old between × ReadsPage (start + count) between new
 
-  -- the pages from `start` on were read one after another, until the read of a page below `end` failed
+  -- The pages from page `start` on were read one after another, until a read failed. The page of the failed read is
+  -- below `end`.
   abbrev pub ReadsUntil : ℕ → ℕ → Cached B D → Cached B D → PageError E → Type 0
   ReadsUntil start end old new e = (count : ℕ) × (start + count < end) × (between : Cached B D)
       × ReadsPages start count old between × ReadFails (start + count) between e new

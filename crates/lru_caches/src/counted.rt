@@ -12,7 +12,7 @@ use std::alloc::AllocError;
 use std::hash::Hash;
 use std::marker::Model;
 
-/// What operators watch of a cache. Each count stops at `u64::MAX`.
+/// The counts of a cache, which an operator may watch. Each count stops at `u64::MAX`.
 ///
 /// A call counts only if its documentation says so. Evictions by other calls, such as `set_budget`, are not counted.
 ///
@@ -54,7 +54,7 @@ impl Counts {
         }
     }
 
-    /// Counts an insert by its result, and the entries that it evicted.
+    /// Counts an insert with this result, and the entries that the insert evicted.
     ///
     /// ```
     /// let done: Result<bool, ()> = Ok(true);

@@ -60,7 +60,7 @@ impl<F: Read + Write + Seek, const N: usize> FileDevice<F, N> {
     /// let mut device: FileDevice<_, 4> = FileDevice::new(file, 3);
     /// ```
     ///
-    /// Cost: `O(1)`, and no call of the file.
+    /// Cost: `O(1)`, and no call on the file.
     pub fn new(file: F, count: u64) -> Self
         ensures count { result.count ≡ count }
         ensures usable { IsTrue result.is_usable }

@@ -190,7 +190,7 @@ impl<K: Eq + Hash + Drop, V: Drop, F: Fn(&K) -> V, L: Insertion<K, V, K>, S: Key
     /// assert_eq!(rt; (blocks.answer_with(3, |block| block.is_some()), blocks.len()), (true, 1));
     /// ```
     ///
-    /// Cost: as `answer`, and a call of the closure.
+    /// Cost: as `answer`, plus a call of the closure.
     pub fn answer_with<R, U: FnOnce(&V) -> R>(&mut self, key: K, read: U) -> R
         requires callable { F.IsAlwaysCallable self.old.function }
         requires readable { U.IsAlwaysCallable read }
@@ -246,7 +246,7 @@ impl<K: Eq + Hash + Drop, V: Drop, F: Fn(&K) -> V, L: Insertion<K, V, K>, S: Key
     /// assert_eq!(rt; lists.get_with(&3, |list| list.is_some()), Some(true));
     /// ```
     ///
-    /// Cost: as `get`, and a call of the closure.
+    /// Cost: as `get`, plus a call of the closure.
     pub fn get_with<Q: LookupKey<K>, R, U: FnOnce(&V) -> R>(
         &mut self,
         key: &Q,

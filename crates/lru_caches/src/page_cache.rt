@@ -245,7 +245,7 @@ impl<B: Copy, D: BlockDevice<B>, S: KeyHasher<u64>> PageCache<B, D, S> {
     /// assert_eq!(rt; cache.device().blocks, [10, 20, 12, 13]);
     /// ```
     ///
-    /// Cost: `O(len + n log n)` for n dirty pages, n writes of the device, and a `sync`, even if no page is dirty.
+    /// Cost, if n pages are dirty: `O(len + n log n)`, n writes of the device, and a `sync`, even if n is 0.
     ///
     /// # Errors
     ///

@@ -1,4 +1,4 @@
-//! The values that the examples of the docs begin with, and tests of the texts of errors.
+//! The values with which the examples of the docs begin, and tests of error texts.
 use crate::disk::Disk;
 use lru_caches::{CountedMap, Counts, FileError, OrderedMap, PageCache, PageError};
 use schnellru::ByLength;

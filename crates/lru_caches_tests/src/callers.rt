@@ -1,4 +1,4 @@
-//! Callers of a page cache, of an ordered map and of a map that counts, with contracts of their own.
+//! Functions with their own contracts, which call a page cache, an ordered map and a counted map.
 ghost use Rattle.std.specs.Prelude.{◌≡◌, ◌≢◌, ◌+◌, ◌^◌, ◌-◌, ◌<◌, ℕ, nat_eq, true, is_some, Some, OnOk, OnErr};
 ghost use Rattle.std.specs.Map.{lookup, set_value};
 ghost use Rattle.lru_caches.specs.Pages.{shown, ShowsTheSame};

@@ -1,4 +1,4 @@
-//! Random calls on the devices of a file, compared with a plain list of blocks.
+//! Random calls on file devices, compared with a plain list of blocks.
 use lru_caches::{BlockDevice, FileDevice, FileError, HashedFileDevice};
 use std::alloc::Global;
 use std::io::Cursor;

@@ -1,6 +1,7 @@
 -- Two limiters that limit one map.
---     `both_rules a b`: a map is over the limit if either limiter says so; a table is permitted if both permit it.
---     `both_terms a b`: an entry is accepted if both limiters accept it.
+--     `both_rules a b`: a map is over the limit if it is over one of the two limits; a table is permitted if both
+--         limiters permit the table.
+--     `both_terms a b`: an entry is accepted if both limiters accept the entry.
 --     `both-sums`: a running total of the first limiter is a running total of `Both`, too.
 use Rattle.std.specs.Prelude.{◌≡◌, ◌≤◌, ◌+◌, ◌-◌, ◌&&◌, ◌||◌, ℕ, Bool, true, false, Some, None, IsTrue}
 use Rattle.std.specs.Prelude.{if◌then◌else◌, refl}
@@ -13,7 +14,7 @@ use Rattle.lru_limits.specs.Stores.{ReturnsPairIf, given-adds, refused-keeps}
 use Rattle.lru_limits.specs.Admissions.{Terms, offers_of}
 
 module _ {K V A B : Type 0} where
-  -- the second limiter is notified of a removed entry as the first limiter left the entry
+  -- `on_removed` of the second limiter gets the key and the value that `on_removed` of the first limiter returned
   abbrev pub both_rules : Rules K V A → Rules K V B → Rules K V (Both A B)
   both_rules a b = record {
     is_over_the_limit = λ s n. a.is_over_the_limit s.0 n || b.is_over_the_limit s.1 n;
@@ -48,8 +49,8 @@ module _ {K V A B : Type 0} where
         then record { 0 = a.admit_in_place s.0 n k v w; 1 = b.admit_in_place s.1 n k v w } else s;
   }
 
--- `adds_if` and `exchanges_if` say what `given-adds` and `replaced-exchanges` of `Stores` say, but need their premise
--- only if the limiter accepts the entry.
+-- `adds_if` and `exchanges_if` are the lemmas `given-adds` and `replaced-exchanges` of `Stores`, but their premise need
+-- hold only if the limiter accepts the entry.
 module _ {K V S : Type 0} (cost : K → V → ℕ) (account : S → ℕ) where
   adds_if : (accepts : Bool) (s s' : S) (i : K) (v : V) (t : S) (k : K) (w : V)
       → (IsTrue accepts → account s' ≡ account s + cost i v)

@@ -1,13 +1,14 @@
 -- The limit and the sum of costs of a limiter by cost.
 --     `Budget`: the limit, and the sum of the costs of the entries.
 --     `can_add limit sum c`: whether the cost c is at most the limit, and sum + c fits 64 bits.
---     `charged b c`: the budget b after the cost c was added to its sum, or b if `can_add` is false.
---     `refunded b c`: the budget b after the cost c was subtracted from its sum, which stops at 0.
---     `exchanged b c d`: the budget b after the cost d replaced the cost c in its sum, or b if `can_add` is false.
---     `by_weight`, `weighs`: the rules and the offers of a limiter, for a given cost of an entry.
+--     `charged b c`: the budget b with its sum raised by the cost c, or b if `can_add` is false.
+--     `refunded b c`: the budget b with its sum lowered by the cost c, but not below 0.
+--     `exchanged b c d`: the budget b with its sum lowered by the cost c and raised by the cost d, or b if `can_add` is
+--         false.
+--     `by_weight`, `weighs`: the rules and the offers of a limiter; the function `weight` gives the cost of an entry.
 --     `budget_terms`: the terms of the offers `weighs`.
---     `by_cost`, `charges`: the rules and the offers of a limiter, for a given cost of a value.
---     `pair_cost o k v`: the cost of an entry: k + v + o, but at most `u64::MAX`.
+--     `by_cost`, `charges`: the rules and the offers of a limiter; the function `cost` gives the cost of a value.
+--     `pair_cost o k v`: the cost of an entry, which is k + v + o, but at most `u64::MAX`.
 --     `weighs-sums`, `charges-sums`: these limiters satisfy the laws of `Summing`.
 use Rattle.std.specs.Prelude.{◌+◌, ◌-◌, ◌^◌, ◌&&◌, ℕ, min, Bool, true, nat_lt, nat_le, if◌then◌else◌, refl}
 use Rattle.lru_limits.specs.Rules.{Rules, Offers}

@@ -32,7 +32,7 @@ pub record IsBudgeted {K V S : Type 0} (rules : Rules K V S) (offers : Offers K 
       → ((rules.on_removed s k v).key ≡ k) × ((rules.on_removed s k v).value ≡ v)
   pub replaces : (s : S) (n : ℕ) (k i : K) (v w : V) → let r = offers.on_replace s n k i v w in
       (r.key ≡ k) × (r.old_value ≡ v) × (r.new_value ≡ w)
-  -- a new limiter has its budget, and the running total 0
+  -- a new limiter has the given budget, and the running total 0
   pub made_budget : (b : ℕ) → budget (made b) ≡ b
   pub made_empty : (b : ℕ) → account (made b) ≡ 0
   -- `rebudgeted` sets the budget, and does not change the running total

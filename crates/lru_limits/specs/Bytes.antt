@@ -1,10 +1,11 @@
 -- The limiter by bytes.
 --     `in_word n`: n, but at most `u64::MAX`.
 --     `block_bytes n`: what a block of n bytes takes from the allocator.
---     `both_own of_k of_v`: what an entry owns: the bytes that its key owns, plus the bytes that its value owns.
+--     `both_own of_k of_v`: the bytes that the key of an entry owns, plus the bytes that the value owns.
 --     `Bytes`: the limit, and the two sums that the limiter keeps.
 --     `left_for_entries b`: the limit minus the bytes of the table, but at least 0.
---     `by_bytes`, `bytes_offers`, `bytes_terms`: the rules, the offers and the terms, for given bytes of an entry.
+--     `by_bytes`, `bytes_offers`, `bytes_terms`: the rules, offers and terms; `bytes_of` gives the bytes that an entry
+--         owns.
 --     `bytes-sums`: the limiter satisfies the laws of `Summing`.
 use Rattle.std.specs.Prelude.{◌≡◌, ◌+◌, ◌-◌, ◌*◌, ◌/◌, ◌^◌, ◌==◌, ℕ, min, Bool, true, false, nat_lt, nat_le, if◌then◌else◌, refl}
 use Rattle.lru_limits.specs.Rules.{Rules, Offers}
@@ -16,8 +17,8 @@ use Rattle.lru_limits.specs.Stores.{answers, given-adds, refused-keeps, replaced
 abbrev pub in_word : ℕ → ℕ
 in_word n = min n (2 ^ 64 - 1)
 
--- A block of n bytes takes n bytes, rounded up to a multiple of 16, plus 16, but at most 2 ^ 64 - 16. If n is 0, no
--- block is allocated, and the result is 0.
+-- A block of n bytes takes n bytes, rounded up to a multiple of 16, plus 16. The result is at most 2 ^ 64 - 16. If n is
+-- 0, no block is allocated, and the result is 0.
 abbrev pub block_bytes : ℕ → ℕ
 block_bytes n = if n == 0 then 0 else in_word (n + 31) / 16 * 16
 
@@ -29,7 +30,7 @@ pub record Bytes : Type 0 where
   pub limit : ℕ
   -- the sum of the bytes that the entries own
   pub owned : ℕ
-  -- the bytes of the table that the limiter permitted last
+  -- the bytes of the last table that the limiter permitted
   pub table : ℕ
 
 abbrev pub left_for_entries : Bytes → ℕ
@@ -41,7 +42,7 @@ grown_owns true b n = refl
 grown_owns false b n = refl
 
 module _ {K V : Type 0} (bytes_of : K → V → ℕ) where
-  -- A table is permitted if `owned` plus its bytes is at most the limit. The old table is not counted.
+  -- A table is permitted if `owned` plus the bytes of the table is at most the limit. The old table is not counted.
   abbrev pub by_bytes : Rules K V Bytes
   by_bytes = record {
     is_over_the_limit = λ b n. nat_lt (left_for_entries b) b.owned;
@@ -51,8 +52,8 @@ module _ {K V : Type 0} (bytes_of : K → V → ℕ) where
         answers (if fits then record b { table = bytes } else b) fits;
   }
 
-  -- An entry is accepted if its bytes are at most `left_for_entries`, and `owned` plus its bytes fits 64 bits. A new
-  -- value is accepted if its entry would be accepted after the removal of the old entry.
+  -- An entry that owns n bytes is accepted if n is at most `left_for_entries`, and `owned` plus n fits 64 bits. A new
+  -- value is accepted if the entry with this value would be accepted after the removal of the old entry.
   abbrev pub bytes_terms : Terms K V Bytes
   bytes_terms = record {
     accepts = λ b n k v. can_add (left_for_entries b) b.owned (bytes_of k v);

@@ -1,7 +1,7 @@
 -- Look-up keys that are numbers, fields or pairs.
 --     `number-lawful`: a look-up key that is a number names the equal number.
---     `field-lawful of_q of_k`: a look-up key names a key if its field names the key's field.
---     `both-lawful`: a look-up key of two parts names a key if both parts name it.
+--     `field-lawful of_q of_k`: a look-up key names a key if a field of the look-up key names a field of the key.
+--     `both-lawful`: a look-up key of two parts names a key if both parts name the key.
 use Rattle.std.specs.Prelude.{◌≡◌, ◌&&◌, ◌++◌, ℕ, Bool, true, false, List, IsTrue, nat_eq}
 use Rattle.std.proofs.Common.{refl, ap, arith}
 use Rattle.std.proofs.lemmas.Bool.Decides.{nat_tests}

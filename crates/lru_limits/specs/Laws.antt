@@ -1,14 +1,15 @@
 -- The laws of the traits.
---     `IsLookup names eq query_input key_input`: the laws of `LookupKey`: what a query and a key write to a hasher.
+--     `IsLookup names eq query_input key_input`: the laws of `LookupKey`. A query q writes `query_input q` to a hasher,
+--         and a key k writes `key_input k`.
 --     `IsInsertion names eq offers`: the laws of `Insertion`.
 --     `IsAccount rules offers cost account`: the laws of `Summing`.
---     `kept_value r`: the value that stays: the new value if r accepts it, or else the old value.
+--     `kept_value r`: the new value if r accepts the new value, or else the old value.
 use Rattle.std.specs.Prelude.{◌≡◌, ◌≤◌, ◌+◌, ◌-◌, ℕ, Bool, List, Some, None, IsTrue, if◌then◌else◌}
 use Rattle.lru_limits.specs.Rules.{Rules, Offers, Replaced}
 
 pub record IsLookup {Q K : Type 0} (names : Q → K → Bool) (eq : K → K → Bool) (query_input : Q → List (List ℕ))
     (key_input : K → List (List ℕ)) : Type 0 where
-  -- a query that names a key writes to a hasher what the key writes
+  -- if a query names a key, the query and the key write the same bytes to a hasher
   pub writes : (q : Q) (k : K) → IsTrue (names q k) → query_input q ≡ key_input k
   -- a query that names a key x names exactly the keys that equal x
   pub one : (q : Q) (x y : K) → IsTrue (names q x) → names q y ≡ eq x y
@@ -18,7 +19,7 @@ pub record IsInsertion {K V S I : Type 0} (names : I → K → Bool) (eq : K →
   -- the offered key names the key of the entry to store
   pub names_given : (s : S) (n : ℕ) (i : I) (v : V) (t : S) (k : K) (w : V) → offers.on_insert s n i v t (Some (k, w))
       → IsTrue (names i k)
-  -- `on_replace` leaves a stored key that equals the old stored key
+  -- the stored key after `on_replace` equals the stored key before `on_replace`
   pub keeps_key : (s : S) (n : ℕ) (k : K) (i : I) (v w : V) → IsTrue (names i k)
       → IsTrue (eq k (offers.on_replace s n k i v w).key)
 
@@ -31,8 +32,8 @@ pub record IsAccount {K V S I : Type 0} (rules : Rules K V S) (offers : Offers K
   pub adds : (s : S) (n : ℕ) (i : I) (v : V) (t : S) (k : K) (w : V) → offers.on_insert s n i v t (Some (k, w))
       → account t ≡ account s + cost k w
   pub refuses : (s : S) (n : ℕ) (i : I) (v : V) (t : S) → offers.on_insert s n i v t None → account t ≡ account s
-  -- a replacement lowers the total by the cost of the old entry, and raises it by the cost of the stored key with
-  -- `kept_value`
+  -- a replacement lowers the running total by the cost of the old entry, and raises the running total by the cost of
+  -- the stored key with `kept_value`
   pub exchanges : (s : S) (n : ℕ) (k : K) (i : I) (v w : V) → cost k v ≤ account s →
       let r = offers.on_replace s n k i v w in account r.limiter ≡ account s - cost k v + cost r.key (kept_value r)
   -- the removal of an entry lowers the running total by the cost of the entry

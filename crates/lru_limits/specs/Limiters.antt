@@ -1,4 +1,4 @@
--- What the limiters of this crate decide. `Budget` contains the limiters by cost, and `Bytes` the limiter by bytes.
+-- What the limiters of this crate decide. The limiters by cost are in `Budget`, and the limiter by bytes is in `Bytes`.
 --     `length_rules`, `length_terms`, `length_offers`: the limiter by length, whose state is the limit.
 --     `memory_rules`: the rules of the limiter by memory usage, whose state is the limit.
 --     `no_rules`: the rules of a limiter that limits nothing.

@@ -1,10 +1,11 @@
 -- Laws of a limiter that limits the length, or the bytes of the table. The limiter may do other things, too.
---     `IsFixed rules offers number`: no callback changes this number of the limiter.
+--     `IsFixed rules offers number`: no callback changes the `number` of the limiter.
 --     `LimitsLength rules offers most`: a map that is not over the limit has at most `most` entries.
 --     `LimitsMemory rules offers most`: a table that the limiter permits has at most `most` bytes.
 --     `length-limits`, `memory-limits`: `ByLength` and `ByMemoryUsage` satisfy these laws.
---     `storing-length`, `storing-memory`: if a limiter satisfies a law, `Storing` of this limiter satisfies it, too.
---     `both-first_length`, ..: if the first or second limiter satisfies a law, `Both` satisfies it, too.
+--     `storing-length`, `storing-memory`: if a limiter satisfies the law, `Storing` of this limiter satisfies the law,
+--         too.
+--     `both-first_length`, ..: if the first (or the second) limiter satisfies the law, `Both` satisfies the law, too.
 use Rattle.std.specs.Prelude.{◌≡◌, ◌≤◌, ◌&&◌, ◌||◌, ℕ, Bool, true, false, Option, Some, None, if◌then◌else◌, refl}
 use Rattle.std.proofs.Common.{ap, ◌∙◌, arith}
 use Rattle.std.proofs.lemmas.Bool.{true≢false}
@@ -37,7 +38,7 @@ module _ {K V S I : Type 0} (rules : Rules K V S) (offers : Offers K V S I) wher
     pub within : (s : S) (bytes : ℕ) → (rules.on_grow s bytes).allowed ≡ true → bytes ≤ most s
 
 module _ {K V : Type 0} where
-  -- no callback changes a number of a limiter that never changes
+  -- if a limiter never changes, no callback changes its `number`
   pub plain-fixed : {S : Type 0} {over grants : S → ℕ → Bool} {admits : S → K → V → Bool} (number : S → ℕ)
       → IsFixed (plain over grants) (offers_of (never_changes admits)) number
   plain-fixed number = record {
@@ -73,7 +74,7 @@ module _ {K V S I : Type 0} {rules : Rules K V S} {offers : Offers K V S I} {mos
   pub storing-memory : LimitsMemory rules offers most → LimitsMemory (stored rules) all_offers (λ s. most s.0)
   storing-memory limits = record { fixed = storing-fixed limits.fixed; within = λ s bytes. limits.within s.0 bytes }
 
--- if no callback changes a number of the limiter, `admit` and `admit_in_place` do not change this number
+-- if no callback changes the `number` of the limiter, `admit` and `admit_in_place` do not change it
 module _ {K V S : Type 0} {rules : Rules K V S} {terms : Terms K V S} {number : S → ℕ}
     (fixed : IsFixed rules (offers_of terms) number) where
   admit : (s : S) (n : ℕ) (k : K) (v : V) → number (terms.admit s n k v) ≡ number s

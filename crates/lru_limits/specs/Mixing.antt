@@ -1,9 +1,11 @@
 -- What the hasher computes, as functions.
---     `Mixer`: the hasher's state, its key for words of eight bytes, and its key for a rest of fewer than eight bytes.
+--     `Mixer`: the state of the hasher and two keys: a key for words of eight bytes, and a key for a rest of fewer
+--         bytes.
 --     `folded a b`: the xor of the two halves of the 128 bits of a * b.
---     `joined key state word`: the hasher's state after it got this word.
+--     `joined key state word`: the state of the hasher after the hasher got this word.
 --     `rest_word bytes`: a rest of fewer than eight bytes as a word, whose top byte is the number of bytes.
---     `written h bytes`: the hasher after a write, which passes it a word for each eight bytes and a word for the rest.
+--     `written h bytes`: the hasher h after the bytes were written. The hasher gets a word for each eight bytes, and a
+--         word for the rest.
 --     `closed h`: the hash that the hasher h returns.
 --     `seeded words`: the hasher with these four seeds, before the first write.
 use Rattle.std.specs.Prelude.{ℕ, ◌+◌, ◌*◌, ◌/◌, ◌%◌, ◌^◌, ◌==◌, List, length, drop, fold, bit_xor, slice_index}

@@ -17,7 +17,7 @@ pub record Allowed (S : Type 0) : Type 0 where
 
 pub record Replaced (K V S : Type 0) : Type 0 where
   pub limiter : S
-  -- whether the new value replaces the old one
+  -- whether the new value replaces the old value
   pub taken : Bool
   -- the stored key and both values after `on_replace`
   pub key : K
@@ -33,8 +33,9 @@ pub record Rules (K V S : Type 0) : Type 0 where
   pub on_grow : S → ℕ → Allowed S
 
 pub record Offers (K V S I : Type 0) : Type 1 where
-  -- Which limiter and which entry to store may result if an entry is offered to a map of n entries. `on_insert` is a
-  -- relation, not a function, because the stored key may be in newly allocated memory, whose address is not determined.
+  -- What may result if an entry is offered to a map of n entries: the limiter after the offer, and the entry to store.
+  -- `on_insert` is a relation, not a function, because the stored key may be in newly allocated memory, whose address
+  -- is not determined.
   pub on_insert : S → ℕ → I → V → S → Option (K × V) → Type 0
   pub may_run_out : S → ℕ → I → V → Type 0
   -- what `on_replace` does with the stored key, the offered key, the old value and the new value

@@ -1,12 +1,14 @@
 -- Definitions for limiters that accept an entry unchanged.
 --     `plain over grants`: the rules of a limiter that never changes.
---     `rules_at of to rules`: the rules of a wrapper; the function `of` unwraps the inner limiter, `to` wraps it.
---     `ReturnsPairIf accepts s k v t given`: t is s, and `given` is the entry, or `None` if the entry is rejected.
+--     `rules_at of to rules`: the rules of a wrapper; the function `of` unwraps the inner limiter, and `to` wraps the
+--         inner limiter.
+--     `ReturnsPairIf accepts s k v t given`: t is s. `given` is the entry, or `None` if the entry is rejected.
 --     `unmoved s k v`: the limiter s, and the unchanged entry, after `on_removed`.
 --     `answers s b`: the limiter s after `on_grow` returned b.
 --     `replaces s k v w`: the limiter s after `on_replace` accepted the new value w.
---     `given-is`, `given-names`: the returned entry is the offered one.
---     `given-adds`, `refused-keeps`, `replaced-exchanges`: lemmas for your own `Summing`, on the total after an offer.
+--     `given-is`, `given-names`: the returned entry is the offered entry.
+--     `given-adds`, `refused-keeps`, `replaced-exchanges`: lemmas on the running total after an offer, for your own
+--         impl of `Summing`.
 use Rattle.std.specs.Prelude.{◌≡◌, ◌≤◌, ◌+◌, ◌-◌, ℕ, Bool, true, false, Option, Some, None, IsTrue, if◌then◌else◌}
 use Rattle.std.specs.Prelude.{unwrap_or}
 use Rattle.std.proofs.Common.{ap, sym, ◌∙◌, subst, arith}
@@ -72,7 +74,7 @@ refused-keeps account true s s' i v t h = let e = h.pair in cc
 refused-keeps account false s s' i v t h = ap account h.limiter
 
 -- Suppose that the total of s' is the total of s, minus the old cost, plus the new cost. If a new value is offered, the
--- running total loses the old cost, and gains the cost of the value that stays.
+-- old cost is subtracted from the running total, and the cost of the value that stays is added.
 pub replaced-exchanges : {K V S : Type 0} (cost : K → V → ℕ) (account : S → ℕ) (accepts : Bool) (s s' : S) (k : K)
     (v w : V) → account s' ≡ account s - cost k v + cost k w
     → cost k v ≤ account s → account (if accepts then s' else s) ≡ account s - cost k v

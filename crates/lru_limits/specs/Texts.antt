@@ -3,7 +3,7 @@
 --     `names_text-lawful text`: the laws of a look-up key q that names the `String` with the bytes `text q`.
 --     `GivesText bytes v given`: `given` is an entry to store, with the value v and a key with these bytes.
 --     `given-names_text`: the bytes of `GivesText` name the key of the entry to store.
---     `same_text k`: the bytes of a key name this key.
+--     `same_text k`: the bytes of the key k name the key k.
 use Rattle.std.specs.Prelude.{◌≡◌, ℕ, Bool, List, Option, Some, IsTrue, IsSomeAnd, string_bytes}
 use Rattle.std.specs.declared.string.String.{String}
 use Rattle.std.specs.declared.alloc.Global.{Global}

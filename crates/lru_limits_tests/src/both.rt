@@ -1,4 +1,4 @@
-//! The examples of two limiters for one map from the docs.
+//! Examples of `Both` and `ByLength`, as in the docs.
 use lru_limits::{Admission, Both, ByCost, ByLength, Limiter};
 use test_helpers::check;
 

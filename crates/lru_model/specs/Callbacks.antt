@@ -1,6 +1,6 @@
 -- Which pairs a call passes to its callback: each evicted or removed pair, and each pair that the limiter returned but
--- the map could not store. The callback gets each pair as `on_removed` of the limiter leaves it, in the order of the
--- calls of `on_removed`.
+-- the map could not store. `on_removed` of the limiter may change a pair before the callback gets the pair. The
+-- callback gets the pairs in the order of the calls of `on_removed`.
 --     `rules`, `offers`: the limiter's `Rules` and `Offers` (`lru_limits`).
 --     `names i k`: the inserted key i names k.
 --     `closure`: how the callback may be called.
@@ -14,8 +14,8 @@ use Rattle.lru_model.specs.State.{State, Trims}
 use Rattle.lru_model.specs.Inserts.{Insert}
 
 module _ {K V S : Type 0} where
-  -- The rules of a limiter that also has a list in its state. `on_removed` appends each removed pair to this list, as
-  -- the limiter leaves the pair. The list affects nothing else.
+  -- The rules of a limiter that also has a list in its state. `on_removed` of this limiter does what `on_removed` of
+  -- the given limiter does, and then appends the removed pair to the list. The list affects nothing else.
   abbrev pub noting : Rules K V S → Rules K V (S × List (K × V))
   noting rules = record {
     is_over_the_limit = λ s n. rules.is_over_the_limit s.0 n;
@@ -63,8 +63,8 @@ CalledWith closure f pairs g = FoldsTo (λ p pair q. Called closure p (pair.0, (
 
 module _ {K V S H I : Type 0} (rules : Rules K V S) (offers : Offers K V S I) (names : I → K → Bool)
     (hash_of : H → K → ℕ) where
-  -- An insert that passes the pairs `passed` to its callback. In this definition, the limiter has a list (`noting`),
-  -- which is empty before the insert, and `passed` after it.
+  -- An insert that passes the pairs `passed` to its callback. In this definition, the limiter has a list (`noting`).
+  -- The list is empty before the insert, and equals `passed` after the insert.
   abbrev pub InsertPasses : I → V → State K V S H → Result Bool AllocError → List (K × V) → State K V S H → Type 0
   InsertPasses i v old result passed new = Insert (noting rules) (noting_offers offers) names hash_of i v (noted [] old)
       result (noted passed new)

@@ -1,4 +1,4 @@
--- How gets, writes, removals, pops and a clear change a map. Every other kind of call has a file of its own.
+-- How a map changes at a get, a write, a removal, a pop or a clear. Every other kind of call has a file of its own.
 --     `names`: whether a key is the looked-up key.
 use Rattle.std.specs.Prelude.{◌≡◌, Bool, List, [], Option, Some, None, option_map, replicate}
 use Rattle.std.specs.Map.{set_value}
@@ -9,14 +9,14 @@ use Rattle.lru_model.specs.Lists.{front_places, back, back_places}
 use Rattle.lru_model.specs.State.{State, buckets, Contents, contents, Leaves, after_removal}
 
 module _ {K V S H : Type 0} where
-  -- the map after the pair of the named key, if there is one, became the newest
+  -- the map after the pair of the named key became the newest, if the key is there
   abbrev pub promoted : (K → Bool) → State K V S H → State K V S H
   promoted names st = record st {
     pairs = front names st.pairs;
     table = record st.table { places = front_places names st.pairs st.table.places };
   }
 
-  -- the map after the pair of the named key, if there is one, became the oldest
+  -- the map after the pair of the named key became the oldest, if the key is there
   abbrev pub demoted : (K → Bool) → State K V S H → State K V S H
   demoted names st = record st {
     pairs = back names st.pairs;
@@ -27,8 +27,8 @@ module _ {K V S H : Type 0} where
   abbrev pub written : (K → Bool) → V → State K V S H → State K V S H
   written names value st = record st { pairs = set_value names st.pairs value }
 
-  -- A get lends the value of the named key, and makes its pair the newest. The caller may write through the loan, and
-  -- `left` is the value after the loan. If the key is not there, nothing changes.
+  -- A get lends the value of the named key, and makes the pair of this key the newest. The caller may write through the
+  -- loan, and `left` is the value after the loan. If the key is not there, nothing changes.
   pub data Get (names : K → Bool) (old : State K V S H) (result : Option V) (new : State K V S H) : Type 0 where
     found : (value left : V) → lookup names old.pairs ≡ Some value →
         result ≡ Some value → new ≡ written names left (promoted names old) →
@@ -38,21 +38,21 @@ module _ {K V S H : Type 0} where
         Get names old result new
 
 module _ {K V S : Type 0} (rules : Rules K V S) where
-  -- the removed pair as `on_removed` of the limiter leaves it, or `None` if no pair is removed
+  -- the removed pair after `on_removed` of the limiter, or `None` if no pair is removed
   abbrev pub left_of : S → Option (K × V) → Option (K × V)
   left_of s pair = option_map (λ p. ((rules.on_removed s p.0 p.1).key, (rules.on_removed s p.0 p.1).value)) pair
 
-  -- the contents without the pair of the named key, after the limiter was notified of its removal
+  -- the contents without the pair of the named key, after the limiter was notified of the removal
   abbrev pub removal : (K → Bool) → Contents K V S → Contents K V S
   removal names c = after_removal rules (lookup_entry names c.pairs) (without names c.pairs) c.limiter
 
-  -- the contents without the newest pair, after the limiter was notified of its removal
+  -- the contents without the newest pair, after the limiter was notified of the removal
   abbrev pub pop_first : Contents K V S → Contents K V S
   pop_first c = after_removal rules (first c.pairs) (without_first c.pairs) c.limiter
 
 module _ {K V S H : Type 0} (rules : Rules K V S) where
-  -- The pair `gone` is removed, if it is not `None`, and the pairs `left` stay. The result is the removed pair, as the
-  -- limiter leaves it.
+  -- If `gone` is a pair, this pair is removed, and the result is this pair after `on_removed` of the limiter. If `gone`
+  -- is `None`, the result is `None`. The pairs `left` stay.
   pub record TakesOut (gone : Option (K × V)) (left : List (K × V)) (old : State K V S H) (result : Option (K × V))
       (new : State K V S H) : Type 0 where
     pub pair : result ≡ left_of rules old.limiter gone
@@ -68,13 +68,13 @@ module _ {K V S H : Type 0} (rules : Rules K V S) where
   abbrev pub PopNewest : State K V S H → Option (K × V) → State K V S H → Type 0
   PopNewest old = TakesOut (first old.pairs) (without_first old.pairs) old
 
-  -- the pair of the named key is removed, and the call returns its value as the limiter leaves the value
+  -- The pair of the named key is removed. The call returns the value of the pair after `on_removed` of the limiter.
   pub record Remove (names : K → Bool) (old : State K V S H) (result : Option V) (new : State K V S H) : Type 0 where
     pub value : result ≡ option_map (λ p. p.1) (left_of rules old.limiter (lookup_entry names old.pairs))
     pub state : Leaves old (removal rules names (contents old)) new
 
-  -- The map after a clear: it has no pairs, and as many buckets as before, all empty. The limiter is notified once of
-  -- the clear, and not of each pair.
+  -- The map after a clear has no pairs, and all buckets are empty. The number of buckets stays. The limiter is notified
+  -- once of the clear, and not of each pair.
   abbrev pub cleared : State K V S H → State K V S H
   cleared st = record st {
     pairs = [];

@@ -1,4 +1,4 @@
--- A clone of a map is the same map with clones of its keys, values, limiter and hasher.
+-- A clone of a map has clones of the map's keys, values, limiter and hasher, and equals the map in all other fields.
 --     `same_key`, `same_value`, ..: whether the second argument is a clone of the first.
 use Rattle.std.specs.Prelude.{◌≡◌}
 use Rattle.std.specs.List.{AllZip}
@@ -14,5 +14,5 @@ module _ {K V : Type 0} (same_key : K → K → Type 0) (same_value : V → V �
       pub pairs : AllZip IsPairClone old.pairs new.pairs
       pub limiter : same_limiter old.limiter new.limiter
       pub hasher : same_hasher old.hasher new.hasher
-      -- the clone differs from the map in nothing else
+      -- apart from its pairs, its limiter and its hasher, the clone equals the map
       pub rest : new ≡ record old { pairs = new.pairs; limiter = new.limiter; hasher = new.hasher }

@@ -23,8 +23,8 @@ module _ {K V S : Type 0} (rules : Rules K V S) where
   oldest_given (suc n) c = option_to_list (left_of rules c.limiter (last c.pairs)) ++ oldest_given n (pop rules c)
 
 module _ {K V S H : Type 0} (rules : Rules K V S) where
-  -- A drain from its creation to its drop. The drain pops the newest pair `newest` times, after this the oldest pair
-  -- `oldest` times, and returns these pairs. When the drain is dropped, it clears the map.
+  -- A drain from its creation to its drop. The drain pops the newest pair `newest` times, and then the oldest pair
+  -- `oldest` times. It returns the popped pairs. When the drain is dropped, it clears the map.
   pub record Drained (newest oldest : ℕ) (old : State K V S H) (result : List (K × V))
       (new : State K V S H) : Type 0 where
     pub pairs : result ≡ newest_given rules newest (contents old)

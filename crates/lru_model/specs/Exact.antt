@@ -11,27 +11,28 @@ use Rattle.lru_model.specs.State.{State, buckets, growth_left, Contents, content
 use Rattle.lru_model.specs.Place.{table_for, IsOutgrown}
 use Rattle.lru_model.specs.Inserts.{make_room, replacement, with_replaced, with_removed, MayGive}
 
--- what the table reports when a pair is inserted into it
+-- what the table reports when a pair is inserted into the table
 pub record Report : Type 0 where
-  -- if the limiter was queried for a larger table, the bytes of this table
+  -- the bytes of the larger table for which the limiter was queried, or `None` if the limiter was not queried
   pub asked : Option ℕ
   -- how many of the oldest pairs were evicted because growth was refused
   pub evicted : ℕ
   -- whether there is a bucket for the pair
   pub has_bucket : Bool
 
--- the report of a table that has a bucket for the pair, without a query of the limiter or an eviction
+-- the report of a table that has a bucket for the pair, if the limiter was not queried and no pair was evicted
 abbrev pub at_once : Report
 at_once = record { asked = None; evicted = 0; has_bucket = true }
 
 module _ {K V S : Type 0} (rules : Rules K V S) where
   -- The report of a table whose growth is refused: the n oldest pairs of c are evicted. If c has no pairs, there is no
-  -- bucket for the new pair. If the limiter was queried for a larger table, `asked` has the bytes of this table.
+  -- bucket for the new pair. If the limiter was queried for a larger table, `asked` says how many bytes this table
+  -- takes.
   abbrev pub refusal : Option ℕ → ℕ → Contents K V S → Report
   refusal asked n c = record { asked = asked; evicted = n; has_bucket = not (is_empty c.pairs) }
 
-  -- What a table reports, by the `Target` into which it grows. If the growth is refused, the n oldest pairs of c are
-  -- evicted.
+  -- What a table reports, for each `Target` into which the table may grow. If the growth is refused, the n oldest pairs
+  -- of c are evicted.
   abbrev pub report_of : Target → ℕ → Contents K V S → Report
   report_of no_table n c = refusal None n c
   report_of same_table n c = at_once
@@ -39,21 +40,21 @@ module _ {K V S : Type 0} (rules : Rules K V S) where
       if (rules.on_grow c.limiter bytes).allowed then record { asked = Some bytes; evicted = 0; has_bucket = true }
       else refusal (Some bytes) n c
 
-  -- what the table of a map may report for a pair of this hash
+  -- what the table of a map may report for a pair with this hash
   pub data MayReport {H : Type 0} (hash : ℕ) (st : State K V S H) (report : Report) : Type 0 where
-    -- A bucket takes the pair at once. Growth is left, or a rehash is enough, or the table has more than 16 buckets and
-    -- a deleted bucket may take the pair.
+    -- A bucket takes the pair at once. Either growth is left, or a rehash is enough, or a deleted bucket of a table of
+    -- more than 16 buckets may take the pair.
     fits : (growth_left st ≡ 0 → full_capacity (buckets st) / 2 < length st.pairs + 1 → 16 < buckets st) →
         report ≡ at_once →
         MayReport hash st report
-    -- The table is too small. If its growth is refused, n pairs are evicted. In a table of up to 16 buckets, n is 1.
+    -- The table is too small. If growth is refused, n pairs are evicted. In a table of up to 16 buckets, n is 1.
     too_small : IsOutgrown hash st → (n : ℕ) → 0 < n → (buckets st ≤ 16 → n ≡ 1) →
         full_capacity (buckets st) / 2 + n ≤ length st.pairs + 1 →
         report ≡ report_of (table_for 1 st) n (contents st) →
         MayReport hash st report
 
   -- What a table of up to 16 buckets reports. The contents c are the contents of the map `st` after some pairs were
-  -- removed. Each removed pair raised the growth left by one.
+  -- removed. Each removed pair raised `growth_left` by one.
   abbrev pub small_report : {H : Type 0} → State K V S H → Contents K V S → Report
   small_report st c =
       if nat_lt 0 (growth_left st + length st.pairs - length c.pairs) then at_once
@@ -64,12 +65,12 @@ module _ {K V S : Type 0} (rules : Rules K V S) where
   queried None s = s
   queried (Some bytes) s = (rules.on_grow s bytes).limiter
 
-  -- the contents after the query and the evictions of the report
+  -- the contents after the limiter was queried and pairs were evicted, as the report says
   abbrev pub met : Report → Contents K V S → Contents K V S
   met report c = pops rules report.evicted (record { pairs = c.pairs; limiter = queried report.asked c.limiter })
 
-  -- The contents after the oldest pairs were evicted while the limiter was over its limit. The result is whether a pair
-  -- is left.
+  -- The contents after the oldest pairs were evicted while the limiter was over its limit. The result says whether the
+  -- map still has pairs.
   abbrev pub trimmed : Contents K V S → Result Bool AllocError × Contents K V S
   trimmed c = (Ok (not (is_empty (trim rules c).pairs)), trim rules c)
 
@@ -92,18 +93,18 @@ exchanged rules offers names i v c pair =
     if (replacement rules offers names pair i v c).taken then trimmed rules (with_replaced rules offers names pair i v c)
     else (Ok false, with_removed rules offers names pair i v c)
 
--- What an insert into a list of pairs returns and leaves. `Tells s pair report` means that the table may report
--- `report`, after `on_insert` returned the pair and left the limiter as s.
+-- What an insert into a list of pairs returns, and the list and the limiter after the insert. `Tells s pair report`
+-- means that the table may report `report` after `on_insert` returned `pair`. After `on_insert`, the limiter is s.
 module _ {K V S I : Type 0} (rules : Rules K V S) (offers : Offers K V S I) (names : I → K → Bool)
     (Tells : S → K × V → Report → Type 0) (i : I) (v : V) (old : Contents K V S) (result : Result Bool AllocError)
     (new : Contents K V S) where
   pub data InsertsNew : Type 0 where
-    -- The limiter runs out of memory when the key is offered, or returns no pair to store.
+    -- When the key is offered, the limiter either runs out of memory or returns no pair to store.
     not_offered : offers.may_run_out old.limiter (length old.pairs) i v → IsErr result → new ≡ old → InsertsNew
     not_admitted : (s : S) → MayGive rules offers names i v old s None →
         result ≡ Ok false → new ≡ record { pairs = old.pairs; limiter = s } → InsertsNew
-    -- The limiter returns a pair to store. The pair is stored if the table reports a bucket for it, unless the map runs
-    -- out of memory.
+    -- The limiter returns a pair to store. The pair is stored if the table reports a bucket for the pair, unless the
+    -- map runs out of memory.
     admitted : (s : S) (pair : K × V) → MayGive rules offers names i v old s (Some pair) →
         (report : Report) → Tells s pair report →
         stored rules report pair (make_room rules (record { pairs = old.pairs; limiter = s })) ≡ (result, new) →
@@ -118,7 +119,7 @@ module _ {K V S I : Type 0} (rules : Rules K V S) (offers : Offers K V S I) (nam
       (λ pair. exchanged rules offers names i v old pair ≡ (result, new))
 
 module _ {K V S I : Type 0} (rules : Rules K V S) (offers : Offers K V S I) (names : I → K → Bool) where
-  -- an insert into a list of pairs, if the table reports `reports s pair`
+  -- an insert into a list of pairs, if `reports s pair` is the report of the table
   abbrev pub InsertsGiven : (S → K × V → Report) → I → V → Contents K V S → Result Bool AllocError → Contents K V S →
       Type 0
   InsertsGiven reports = InsertsBy rules offers names (λ s pair report. report ≡ reports s pair)
@@ -128,7 +129,7 @@ module _ {K V S I : Type 0} (rules : Rules K V S) (offers : Offers K V S I) (nam
   InsertsInList = InsertsGiven (λ s pair. at_once)
 
   module _ {H : Type 0} (old : State K V S H) where
-    -- an insert into the map `old`, as its table reports
+    -- an insert into the map `old`, if the table of `old` makes the report
     abbrev pub InsertsAsReported : (H → K → ℕ) → I → V → Result Bool AllocError → Contents K V S → Type 0
     InsertsAsReported hash_of i v = InsertsBy rules offers names (λ s pair report. (ready : State K V S H)
         × Leaves (record old { limiter = s }) (make_room rules (record { pairs = old.pairs; limiter = s })) ready
@@ -139,7 +140,7 @@ module _ {K V S I : Type 0} (rules : Rules K V S) (offers : Offers K V S I) (nam
     InsertsInSmallTable i v = InsertsGiven (λ s pair. small_report rules old
         (make_room rules (record { pairs = old.pairs; limiter = s }))) i v (contents old)
 
--- the limiter and the arguments determine what `on_insert` returns, and how it leaves the limiter
+-- the limiter and the arguments determine what `on_insert` returns, and what the limiter is after `on_insert`
 abbrev pub IsDetermined : {K V S I : Type 0} → Offers K V S I → Type 0
 IsDetermined {K} {V} {S} {I} offers = (s : S) (n : ℕ) (i : I) (v : V) (t u : S) (given other : Option (K × V)) →
     offers.on_insert s n i v t given → offers.on_insert s n i v u other → (t ≡ u) × (given ≡ other)
@@ -149,7 +150,7 @@ abbrev pub AlwaysGrants : {K V S : Type 0} → Rules K V S → Type 0
 AlwaysGrants {K} {V} {S} rules = (s : S) (bytes : ℕ) →
     ((rules.on_grow s bytes).allowed ≡ true) × ((rules.on_grow s bytes).limiter ≡ s)
 
--- Some table can hold n pairs: its links can number its buckets, and it takes at most 2 ^ 63 - 16 bytes.
+-- There is a table for n pairs: links are wide enough for this table, and the table takes at most 2 ^ 63 - 16 bytes.
 pub record HasTableFor {K V S H : Type 0} (n : ℕ) (st : State K V S H) : Type 0 where
   pub count : ℕ
   pub bytes : ℕ

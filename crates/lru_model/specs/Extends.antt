@@ -7,7 +7,8 @@ use Rattle.lru_model.specs.Inserts.{Insert}
 
 module _ {K V S H I : Type 0} (rules : Rules K V S) (offers : Offers K V S I) (names : I → K → Bool)
     (hash_of : H → K → ℕ) (old : State K V S H) where
-  -- Each pair of the list was inserted, in the order of the list. No insert failed, and each insert left a sound table.
+  -- Each pair of the list was inserted, in the order of the list. No insert failed, and after each insert the table was
+  -- sound.
   pub data InsertsAll : List (I × V) → State K V S H → Type 0 where
     no_insert : InsertsAll [] old
     one_insert_more : {pairs : List (I × V)} {before : State K V S H} → InsertsAll pairs before
@@ -15,7 +16,7 @@ module _ {K V S H I : Type 0} (rules : Rules K V S) (offers : Offers K V S I) (n
         → Insert rules offers names hash_of key value before (Ok kept) new → IsSized new
         → InsertsAll (pairs ++ (key, value) ∷ []) new
 
-  -- each of `pairs` was inserted, in order, and the insert of the next pair, `failed`, ran out of memory
+  -- All `pairs` were inserted, in their order. The insert of the next pair, `failed`, ran out of memory.
   pub record FailsAt (pairs : List (I × V)) (failed : I × V) (new : State K V S H) : Type 0 where
     pub before : State K V S H
     pub inserted : InsertsAll pairs before

@@ -1,4 +1,4 @@
--- What `ensure_newest` and `get_or_insert` do: they look up a key, and insert the key if it is not there.
+-- What `ensure_newest` and `get_or_insert` do: they look up a key, and insert the key if the key is not there.
 --     `makes v`: the closure may return v.
 use Rattle.std.specs.Prelude.{◌≡◌, ℕ, Bool, true, Some, None, Result, Ok, OnErr}
 use Rattle.std.specs.declared.alloc.AllocError.{AllocError}
@@ -11,8 +11,8 @@ use Rattle.lru_model.specs.Theorems.{IsNewest}
 
 module _ {K V S H I : Type 0} (rules : Rules K V S) (offers : Offers K V S I) (names : I → K → Bool)
     (hash_of : H → K → ℕ) where
-  -- If the key is there, its pair becomes the newest. If the key is not there, it is inserted with a value that the
-  -- closure returns. The result says whether the key is there after the call.
+  -- If the key is there, the pair of the key becomes the newest. If the key is not there, the key is inserted with a
+  -- value that the closure returns. The result says whether the key is there after the call.
   pub data MakesNewest (makes : V → Type 0) (i : I) (old : State K V S H) (result : Result Bool AllocError)
       (new : State K V S H) : Type 0 where
     got : (w : V) → lookup (names i) old.pairs ≡ Some w →
@@ -27,7 +27,8 @@ module _ {K V S H I : Type 0} (rules : Rules K V S) (offers : Offers K V S I) (n
   IsOutOfMemoryFor makes i old new = (v : V) × makes v × IsOutOfMemory rules offers names hash_of i v old new
 
 module _ {K V S H E : Type 0} where
-  -- If the result is true, the pair of the key is the newest. If the result is false or an error, the key is not there.
+  -- If the result is true, the pair of the key is the newest. If the result is false, or if it is an error, the key is
+  -- not there.
   abbrev pub SaysNewest : (K → Bool) → Result Bool E → State K V S H → Type 0
   SaysNewest names (Ok true) new = IsNewest names new.pairs
   SaysNewest names result new = lookup_entry names new.pairs ≡ None

@@ -11,12 +11,11 @@ use Rattle.lru_model.specs.declared.results.Inserted.{Inserted}
 use Rattle.lru_model.specs.State.{State, buckets, growth_left, Contents, contents, Leaves, pop, trim}
 use Rattle.lru_model.specs.Place.{Place, Outcome, placed, refused, no_memory}
 
--- The value that the map does not keep: the old value if the limiter accepted the new one, and the new value if the
--- limiter rejected it.
+-- The value that the map does not keep: the old value if the limiter accepted the new value, or else the new value.
 abbrev pub unkept_of : {K V S : Type 0} → Replaced K V S → V
 unkept_of r = if r.taken then r.old_value else r.new_value
 
--- the result of an insert, of which only the flag `kept` remains
+-- the result of an insert, with the flag `kept` in place of the record `Inserted`
 abbrev pub kept_of : {V E : Type 0} → Result (Inserted V) E → Result Bool E
 kept_of (Ok inserted) = Ok inserted.kept
 kept_of (Err e) = Err e
@@ -27,8 +26,8 @@ make_room rules c = if rules.is_over_the_limit c.limiter (length c.pairs + 1) th
 
 module _ {K V S H : Type 0} (rules : Rules K V S) where
   -- How an insert goes on after the insertion into the table. If the pair was stored, the oldest pairs are evicted
-  -- while the limiter is over its limit, and the result is whether a pair is left. If the pair was not stored, nothing
-  -- more changes.
+  -- while the limiter is over its limit, and the result says whether the map still has pairs. If the pair was not
+  -- stored, nothing more changes.
   abbrev pub Settles : Outcome → State K V S H → Result Bool AllocError → State K V S H → Type 0
   Settles placed landed result new =
       (result ≡ Ok (not (is_empty new.pairs))) × Leaves landed (trim rules (contents landed)) new
@@ -50,11 +49,11 @@ module _ {K V S I : Type 0} (rules : Rules K V S) (offers : Offers K V S I) (nam
   abbrev pub replacement : K × V → I → V → Contents K V S → Replaced K V S
   replacement pair i v c = offers.on_replace c.limiter (length c.pairs) pair.0 i pair.1 v
 
-  -- the key of the pair and the new value, as the limiter leaves both
+  -- the key of the pair and the new value, both after `on_replace` of the limiter
   abbrev pub with_new_value : K × V → I → V → Contents K V S → K × V
   with_new_value pair i v c = let r = replacement pair i v c in (r.key, r.new_value)
 
-  -- the key of the pair and the old value, as the limiter leaves both
+  -- the key of the pair and the old value, both after `on_replace` of the limiter
   abbrev pub with_old_value : K × V → I → V → Contents K V S → K × V
   with_old_value pair i v c = let r = replacement pair i v c in (r.key, r.old_value)
 
@@ -70,12 +69,12 @@ module _ {K V S I : Type 0} (rules : Rules K V S) (offers : Offers K V S I) (nam
   with_removed pair i v c = let r = replacement pair i v c in
       record { pairs = without (names i) c.pairs; limiter = (rules.on_removed r.limiter r.key r.old_value).limiter }
 
-  -- the value that the map does not keep after an insert, if the key was there
+  -- the value that the map does not keep after an insert, or `None` if the key was not there
   abbrev pub unkept_value : I → V → Contents K V S → Option V
   unkept_value i v c = option_map (λ pair. unkept_of (replacement pair i v c)) (lookup_entry (names i) c.pairs)
 
-  -- if a new key is offered, `on_insert` of the limiter may return `given` (a pair to store, or `None`), and leave the
-  -- limiter as s
+  -- If a new key is offered, `on_insert` of the limiter may return `given` (a pair to store, or `None`). After this
+  -- `on_insert`, the limiter is s.
   abbrev pub MayGive : I → V → Contents K V S → S → Option (K × V) → Type 0
   MayGive i v c s given = offers.on_insert c.limiter (length c.pairs) i v s given
 
@@ -93,7 +92,8 @@ module _ {K V S I : Type 0} (rules : Rules K V S) (offers : Offers K V S I) (nam
           (replacement pair i v (contents old)).taken ≡ false →
           result ≡ Ok false → Leaves old (with_removed pair i v (contents old)) new →
           Insert i v old result new
-      -- The key is new, and the limiter runs out of memory, or returns no pair to store. All pairs of the map stay.
+      -- The key is new, and the limiter either runs out of memory or returns no pair to store. All pairs of the map
+      -- stay.
       no_memory_to_admit : lookup_entry (names i) old.pairs ≡ None →
           offers.may_run_out old.limiter (length old.pairs) i v →
           IsErr result → new ≡ old →
@@ -102,8 +102,8 @@ module _ {K V S I : Type 0} (rules : Rules K V S) (offers : Offers K V S I) (nam
           (s : S) → MayGive i v (contents old) s None →
           result ≡ Ok false → new ≡ record old { limiter = s } →
           Insert i v old result new
-      -- The key is new, and the limiter returns a pair. The pair is inserted into the table, unless this insertion
-      -- fails. The map may evict pairs before and after the insertion.
+      -- The key is new, and the limiter returns a pair. The pair is inserted into the table, but the insertion may
+      -- fail. The map may evict pairs before and after the insertion.
       admitted : lookup_entry (names i) old.pairs ≡ None →
           (s : S) (pair : K × V) → MayGive i v (contents old) s (Some pair) →
           PlacesNew rules hash_of pair (record old { limiter = s }) result new →
@@ -118,8 +118,8 @@ module _ {K V S I : Type 0} (rules : Rules K V S) (offers : Offers K V S I) (nam
       pub given : MayGive i v (contents old) s (Some pair)
       pub needed : (buckets old ≡ 0) ⊎ (0 < length (make_room rules (record { pairs = old.pairs; limiter = s })).pairs)
 
-    -- Why an insert runs out of memory. The key is new. Either `on_insert` of the limiter ran out of memory, and
-    -- nothing changed, or the table needed memory.
+    -- Why an insert runs out of memory. The key is new. Either `on_insert` of the limiter ran out of memory and nothing
+    -- changed, or the table needed memory.
     abbrev pub IsOutOfMemory : I → V → State K V S H → State K V S H → Type 0
     IsOutOfMemory i v old new = (lookup_entry (names i) old.pairs ≡ None)
         × ((offers.may_run_out old.limiter (length old.pairs) i v × (new ≡ old)) ⊎ NeedsMemory i v old)

@@ -16,9 +16,9 @@ pub record ChangesNoPair {K V S : Type 0} (rules : Rules K V S) : Type 0 where
   pub value : (s : S) (k : K) (v : V) → (rules.on_removed s k v).value ≡ v
 
 module _ {K V S H I : Type 0} (rules : Rules K V S) (offers : Offers K V S I) (names : I → K → Bool) where
-  -- An insert loses only a value that it replaces or rejects. After the insert, each old pair, and the pair that the
-  -- limiter returned for a new key, is in the map or was passed to the callback. `passed` lists the pairs that the
-  -- callback got, in order.
+  -- A value is lost only if the insert replaces or rejects the value. After the insert, each old pair, and the pair
+  -- that the limiter returned for a new key, is in the map or was passed to the callback. `passed` lists the pairs that
+  -- the callback got, in order.
   pub data LosesNothing (i : I) (v : V) (old : State K V S H) (result : Result Bool AllocError)
       (passed : List (K × V)) (new : State K V S H) : Type 0 where
     -- A pair is stored as the newest, in front of the old pairs of other keys. The oldest pairs may be evicted. If no
@@ -27,7 +27,7 @@ module _ {K V S H I : Type 0} (rules : Rules K V S) (offers : Offers K V S I) (n
         result ≡ Ok (not (is_empty new.pairs)) →
         new.pairs ++ reverse passed ≡ pair ∷ without (names i) old.pairs →
         LosesNothing i v old result passed new
-    -- The key is there, and the limiter rejects its new value. Only the pair of this key is passed to the callback,
+    -- The key is there, and the limiter rejects the new value. Only the pair of this key is passed to the callback,
     -- with the old value.
     value_rejected : (was : K × V) → lookup_entry (names i) old.pairs ≡ Some was →
         (replacement rules offers names was i v (contents old)).taken ≡ false →
@@ -35,7 +35,7 @@ module _ {K V S H I : Type 0} (rules : Rules K V S) (offers : Offers K V S I) (n
         passed ≡ with_old_value rules offers names was i v (contents old) ∷ [] →
         new.pairs ≡ without (names i) old.pairs →
         LosesNothing i v old result passed new
-    -- The key is new, and the limiter runs out of memory or returns no pair to store. All pairs of the map stay.
+    -- The key is new, and the limiter either runs out of memory or returns no pair to store. All pairs of the map stay.
     nothing_to_store : lookup_entry (names i) old.pairs ≡ None →
         (offers.may_run_out old.limiter (length old.pairs) i v × IsErr result)
         ⊎ ((s : S) × MayGive rules offers names i v (contents old) s None × (result ≡ Ok false)) →
@@ -48,7 +48,7 @@ module _ {K V S H I : Type 0} (rules : Rules K V S) (offers : Offers K V S I) (n
         (evicted : List (K × V)) → passed ≡ evicted ++ pair ∷ [] → new.pairs ++ reverse evicted ≡ old.pairs →
         LosesNothing i v old result passed new
 
-  -- the insert adds the pair, and all other pairs stay
+  -- the insert adds the pair, and all old pairs stay
   pub record IsAdded (i : I) (v : V) (pair : K × V) (old : State K V S H) (result : Result Bool AllocError)
       (new : State K V S H) : Type 0 where
     pub answer : result ≡ Ok true
@@ -58,8 +58,8 @@ module _ {K V S H I : Type 0} (rules : Rules K V S) (offers : Offers K V S I) (n
     pub growth_left : growth_left old ≤ growth_left new + 1
 
 module _ {K V S I : Type 0} (rules : Rules K V S) (offers : Offers K V S I) (names : I → K → Bool) where
-  -- If this key and value are offered, the limiter does not run out of memory, and returns this pair to store. With one
-  -- pair more, the limiter is not over its limit.
+  -- If this key and this value are offered, the limiter does not run out of memory, and returns the pair `pair` to
+  -- store. With one pair more, the map is not over the limit.
   pub record AcceptsNew (i : I) (v : V) (c : Contents K V S) (pair : K × V) : Type 0 where
     pub finds : offers.may_run_out c.limiter (length c.pairs) i v → ⊥
     pub gives : (s : S) (given : Option (K × V)) → MayGive rules offers names i v c s given →
@@ -69,26 +69,26 @@ module _ {K V S I : Type 0} (rules : Rules K V S) (offers : Offers K V S I) (nam
 abbrev pub stored_key : {K V : Type 0} → (K → Bool) → K → List (K × V) → K
 stored_key names key pairs = unwrap_or (option_map (λ pair. pair.0) (lookup_entry names pairs)) key
 
--- The pairs that are left after the pairs `inserted` were inserted into `old`, one after another. Each insert keeps the
+-- The pairs of the map after the pairs `inserted` were inserted into `old`, one after another. Each insert keeps the
 -- newest `most` pairs.
 abbrev pub newest_after : {K V : Type 0} → (K → K → Bool) → ℕ → List (K × V) → List (K × V) → List (K × V)
 newest_after eq most inserted old = fold
     (λ left pair. take most ((stored_key (eq pair.0) pair.0 left, pair.1) ∷ without (eq pair.0) left)) old inserted
 
--- What an insert leaves if the maximum length is `most`: the new pair, and the newest other pairs, up to `most` pairs
--- in all. If the insert runs out of memory, it leaves the newest `most` - 1 old pairs.
+-- Which pairs the map has after an insert, if the maximum length is `most`: the new pair, and the newest pairs of other
+-- keys, up to `most` pairs in all. If the insert runs out of memory, the newest `most` - 1 of the old pairs stay.
 pub record LeavesTheNewest {K V : Type 0} (eq : K → K → Bool) (most : ℕ) (key : K) (value : V) (old : List (K × V))
     (result : Result Bool AllocError) (new : List (K × V)) : Type 0 where
   pub answer : IsOk result → result ≡ Ok (nat_lt 0 most)
   pub newest : OnOk result (new ≡ take most ((stored_key (eq key) key old, value) ∷ without (eq key) old))
   pub others : OnErr result (new ≡ take (most - 1) old)
 
--- half of the number of entries that the largest table with links of 32 bits may hold
+-- half as many entries as the largest table with links of 32 bits may hold
 abbrev pub most_exact_length : ℕ
 most_exact_length = 939524096
 
--- The map is within its maximum length. The fields other than `within` imply that there is a table for each length up
--- to this maximum.
+-- The map is within its maximum length (`within`). The other fields together imply that there is a table for each
+-- length up to this maximum.
 pub record KeepsToLength {K V H : Type 0} (st : State K V ℕ H) : Type 0 where
   pub within : length st.pairs ≤ st.limiter
   pub half : st.limiter ≤ most_exact_length

@@ -18,13 +18,13 @@ MayTake {K} {V} {F} closure passes n f = (before : List (K × V)) (g : F) (pair 
     → All passes before → CalledWith closure f before g → passes pair → MayBeCalled closure g (pair.0, (pair.1, tt))
 
 module _ {K V S : Type 0} (rules : Rules K V S) where
-  -- `left` is what `on_removed` may leave of one of these pairs
+  -- `left` may be one of these pairs after `on_removed` of the limiter
   abbrev pub IsLeftOf : List (K × V) → K × V → Type 0
   IsLeftOf pairs left = (s : S) × (pair : K × V) × Contains pairs pair × (left_of rules s (Some pair) ≡ Some left)
 
   module _ {F : Type 0} (closure : Mut F (K × (V × Unit {0})) (Unit {0})) where
-    -- If the list has n pairs, f may be called n times, each time with any pair of the list, as the limiter leaves the
-    -- pair.
+    -- If the list has n pairs, f may be called n times, each time with any pair of the list after `on_removed` of the
+    -- limiter.
     abbrev pub MayTakeEach : List (K × V) → F → Type 0
     MayTakeEach pairs f = MayTake closure (IsLeftOf pairs) (length pairs) f
 
@@ -48,7 +48,7 @@ module _ {K V S : Type 0} (rules : Rules K V S) where
       MayTakeNew i v c f = lookup_entry (names i) c.pairs ≡ None → (s : S) (pair : K × V)
           → MayGive rules offers names i v c s (Some pair) → MayTakeEach (pair ∷ c.pairs) f
 
-      -- the callback f may be called with each pair that an insert may pass to it
+      -- the callback f may be called with each pair that an insert may pass to f
       pub record MayTakeInserted (i : I) (v : V) (c : Contents K V S) (f : F) : Type 0 where
         pub replaced : MayTakeReplaced i v c f
         pub new : MayTakeNew i v c f

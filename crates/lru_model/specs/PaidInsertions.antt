@@ -1,5 +1,4 @@
--- How many insertions into the table all calls together make. A reservation is included only if no growth was left
--- before it.
+-- How many insertions into the table all calls together make, if growth is reserved only when no growth is left.
 use Rattle.std.specs.Prelude.{◌≡◌, ℕ, ◌+◌, ◌-◌, ◌*◌, ◌^◌, ◌≤◌, ◌<◌, Bool, Result}
 use Rattle.lru_limits.specs.Rules.{Rules}
 use Rattle.lru_limits.specs.Admissions.{Terms, offers_of}
@@ -23,7 +22,7 @@ module _ {K V S H : Type 0} (terms : Terms K V S) (rules : Rules K V S) (eq : K 
   ReservesIfFull old new (calls (reserves n result h)) = growth_left old ≡ 0
   ReservesIfFull old new step = Unit {0}
 
-  -- A `try_insert`, or any other step. A reservation is allowed only if no growth was left before it.
+  -- A `try_insert`, or a step of `AnyStep`. If the step is a reservation, no growth was left before the reservation.
   pub data PaidStep (old new : State K V S H) : Type 0 where
     tries : (key : K) (value : V) (result : Result (Unit {0}) (K × V)) →
         TryInsert terms rules key value old eq hash_of result new → PaidStep old new

@@ -1,5 +1,5 @@
--- The insertion of a new pair into the table: what the growth left allows, what the limiter permits, and how many
--- entries move.
+-- The insertion of a new pair into the table: whether growth is left, what the limiter permits, and how many entries
+-- move.
 use Rattle.std.specs.Prelude.{◌≡◌, ℕ, zero, suc, ◌+◌, ◌-◌, ◌/◌, ◌≤◌, ◌<◌, ◌⊎◌, Bool, true, false, List, [], ◌∷◌}
 use Rattle.std.specs.Prelude.{length}
 use Rattle.std.specs.Prelude.{Result, Ok, Err, slice_set}
@@ -20,8 +20,8 @@ outcome_of (Ok true) = placed
 outcome_of (Ok false) = refused
 outcome_of (Err e) = no_memory
 
--- The new pair, now the newest, fills the first free bucket in a search for its hash. No other bucket changes. If the
--- bucket was empty, the growth left falls by one. If the bucket was deleted, the growth left stays, and the table has
+-- The new pair becomes the newest. It fills the first free bucket in a search for the hash. No other bucket changes. If
+-- the bucket was empty, `growth_left` falls by one. If the bucket was deleted, `growth_left` stays, and the table has
 -- more than 16 buckets.
 pub record FillsBucket (hash : ℕ) (old new : TableState) : Type 0 where
   pub bucket : ℕ
@@ -31,14 +31,13 @@ pub record FillsBucket (hash : ℕ) (old new : TableState) : Type 0 where
   pub spends : ((bucket_at old.states bucket ≡ empty) × (growth_left_of new.states + 1 ≡ growth_left_of old.states))
       ⊎ ((bucket_at old.states bucket ≡ deleted) × (16 < length old.states) × (growth_left_of new.states ≡ growth_left_of old.states))
 
--- No bucket of a table of n pairs takes a pair of this hash. No growth is left, and the first free bucket in a search
--- for the hash is empty (not deleted). A table without pairs is not searched, and takes no pair if it has no growth
--- left.
+-- No bucket of a table of n pairs takes a pair with this hash. No growth is left. If n is above 0, the first free
+-- bucket in a search for the hash is empty (not deleted). If n is 0, the table is not searched.
 pub record NoBucketTakes (hash n : ℕ) (states : List BucketState) : Type 0 where
   pub no_growth_left : growth_left_of states ≡ 0
   pub first_empty : 0 < n → FirstFreeIs empty hash states
 
--- No bucket takes a pair of this hash. A rehash is not enough: with one pair more, the table would be more than half
+-- No bucket takes a pair with this hash. A rehash is not enough: with one pair more, the table would be more than half
 -- full. The table has no buckets, or it contains pairs.
 pub record IsTooSmallFor (hash n : ℕ) (states : List BucketState) : Type 0 where
   pub no_bucket : NoBucketTakes hash n states
@@ -46,7 +45,7 @@ pub record IsTooSmallFor (hash n : ℕ) (states : List BucketState) : Type 0 whe
   pub begun : (length states ≡ 0) ⊎ (0 < n)
 
 module _ {K V S H : Type 0} where
-  -- The new pair is stored as the newest. The table now has `count` buckets, and its growth left is `spare`. The insert
+  -- The new pair is stored as the newest. The table now has `count` buckets, and `growth_left` is `spare`. The insert
   -- moved `moves` entries.
   pub record IsPlaced (pair : K × V) (count spare moves : ℕ) (old new : State K V S H) : Type 0 where
     pub table : buckets new ≡ count
@@ -57,7 +56,7 @@ module _ {K V S H : Type 0} where
       counts = count_insert moves old.counts;
     }
 
-  -- the pair was stored in a table of the same size, and no entry moved for it
+  -- the pair was stored in a table of the same size, and no entry moved
   abbrev pub IsPlacedInTable : K × V → State K V S H → State K V S H → Type 0
   IsPlacedInTable pair old new = IsPlaced pair (buckets old) (growth_left new) 0 old new
 
@@ -89,13 +88,14 @@ module _ {K V S H : Type 0} (rules : Rules K V S) where
   abbrev pub unstored : K × V → State K V S H → State K V S H
   unstored pair st = record st { limiter = (rules.on_removed st.limiter pair.0 pair.1).limiter }
 
-  -- The n oldest pairs were evicted, one after another. Before each eviction, no bucket could take a pair of this hash.
+  -- The n oldest pairs were evicted, one after another. Before each eviction, no bucket could take a pair with this
+  -- hash.
   abbrev pub OldestEvicted : ℕ → ℕ → State K V S H → State K V S H → Type 0
   OldestEvicted hash zero old new = new ≡ old
   OldestEvicted hash (suc n) old new = (before : State K V S H) × OldestEvicted hash n old before
       × HasNoBucket hash before × Leaves before (pop rules (contents before)) new
 
-  -- Either the pair is stored (`IsPlaced`), or the map ran out of memory, and its limiter was notified that the pair is
+  -- Either the pair is stored (`IsPlaced`), or the map ran out of memory and the limiter was notified that the pair is
   -- not stored.
   abbrev pub IsPlacedIfMemory : K × V → ℕ → ℕ → ℕ → State K V S H → Outcome → State K V S H → Type 0
   IsPlacedIfMemory pair count spare moves old placed new = IsPlaced pair count spare moves old new
@@ -108,8 +108,8 @@ module _ {K V S H : Type 0} (rules : Rules K V S) where
   IsPlacedByMove pair count old =
       IsPlacedIfMemory pair count (full_capacity count - length old.pairs - 1) (length old.pairs) old
 
-  -- Why a table cannot grow. Either there is no larger table (`table_for`), and `mid` is `old`, or the limiter refuses
-  -- the larger table, and `mid` is the map after the limiter was queried.
+  -- Why a table cannot grow. If there is no larger table (`table_for`), `mid` is `old`. If the limiter refuses the
+  -- larger table, `mid` is the map after the limiter was queried.
   pub data CannotGrow (old mid : State K V S H) : Type 0 where
     no_target : table_for 1 old ≡ no_table → mid ≡ old → CannotGrow old mid
     denied : (count bytes : ℕ) → table_for 1 old ≡ new_table count bytes → Denies bytes old →
@@ -154,8 +154,8 @@ module _ {K V S H : Type 0} (rules : Rules K V S) (hash_of : H → K → ℕ) wh
         (count bytes : ℕ) → table_for 1 old ≡ new_table count bytes → Grants rules bytes old →
         IsPlacedByMove rules pair count (asked rules bytes old) outcome new →
         Place pair old outcome new
-    -- The table is too small and cannot grow. One or more of the oldest pairs are evicted. If the map has no pairs, the
-    -- new pair is not stored.
+    -- The table is too small and cannot grow. If the map has pairs, one or more of the oldest pairs are evicted. If the
+    -- map has no pairs, the new pair is not stored.
     not_grown : IsOutgrown (hash_of old.hasher pair.0) old →
         (mid : State K V S H) → CannotGrow rules old mid →
         Evicts rules (hash_of old.hasher pair.0) pair old mid outcome new →

@@ -7,7 +7,7 @@ use Rattle.lru_model.specs.Lists.{last}
 use Rattle.lru_model.specs.State.{State}
 use Rattle.lru_model.specs.Calls.{PopOldest}
 
--- the closure may return `answer` when it is called with references to the key and the value of the pair
+-- a call of the closure with references to the key and the value of the pair may return `answer`
 abbrev pub Says : {K V A : Type 0} → (Bor K → Bor V → A → Type 0) → K × V → A → Type 0
 Says {K} {V} returns pair answer = (key : Bor K) × (value : Bor V)
     × (key.now ≡ pair.0) × (value.now ≡ pair.1) × returns key value answer

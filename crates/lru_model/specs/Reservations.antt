@@ -8,15 +8,15 @@ use Rattle.lru_model.specs.declared.results.ReserveError.{ReserveError}
 use Rattle.lru_model.specs.declared.results.ReserveError.TheVariants.{TooLarge, Refused, Memory}
 
 module _ {K V S H : Type 0} (n : ℕ) (st : State K V S H) where
-  -- the growth left is less than n, and the number of pairs plus n is below 2 ^ 64
+  -- `growth_left` is less than n, and the number of pairs plus n is below 2 ^ 64
   abbrev pub NeedsGrowthFor : Type 0
   NeedsGrowthFor = (growth_left st < n) × (length st.pairs + n < 2 ^ 64)
 
   -- why a reservation changes nothing
   pub data ReservesNothing (result : Result (Unit {0}) ReserveError) : Type 0 where
-    -- The growth left is enough for n pairs.
+    -- `growth_left` is enough for n pairs.
     enough_room : n ≤ growth_left st → length st.pairs + n < 2 ^ 64 → result ≡ Ok tt → ReservesNothing result
-    -- The number of pairs plus n does not fit 64 bits, or no table holds this number of pairs.
+    -- The number of pairs plus n does not fit 64 bits, or there is no table for this sum.
     too_many : 2 ^ 64 ≤ length st.pairs + n → result ≡ Err TooLarge → ReservesNothing result
     no_such_table : NeedsGrowthFor → table_for n st ≡ no_table → result ≡ Err TooLarge → ReservesNothing result
     -- The allocation for a rehash fails. A rehash needs memory only if the map has pairs.
@@ -39,7 +39,7 @@ module _ {K V S H : Type 0} (rules : Rules K V S) where
     rehashed : NeedsGrowthFor n old → table_for n old ≡ same_table →
         result ≡ Ok tt → MovesTo (buckets old) old new →
         Reserve n old result new
-    -- The limiter permits a larger table, and the table grows.
+    -- The limiter permits the larger table, and the table grows.
     reserved : NeedsGrowthFor n old → (count bytes : ℕ) → table_for n old ≡ new_table count bytes
         → Grants rules bytes old →
         result ≡ Ok tt → MovesTo count (asked rules bytes old) new →

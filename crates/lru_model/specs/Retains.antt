@@ -15,7 +15,7 @@ module _ {K V S : Type 0} (rules : Rules K V S) where
   answered (pair, true) c = record { pairs = pair ∷ c.pairs; limiter = c.limiter }
   answered (pair, false) c = record { pairs = c.pairs; limiter = notified_of rules (Some pair) c.limiter }
 
-  -- The contents that a retain leaves. The list contains each pair, newest first, with the flag that the closure
+  -- The contents after a retain. The given list contains each pair, newest first, with the flag that the closure
   -- returned for this pair. The closure was called with the oldest pair first.
   abbrev pub retained : List ((K × V) × Bool) → S → Contents K V S
   retained [] s = record { pairs = []; limiter = s }
@@ -36,7 +36,7 @@ module _ {K V F : Type 0} (closure : Mut F (Bor K × (Bor V × Unit {0})) Bool) 
     pub answers : Answers f asked last
     pub state : Leaves old (retained rules asked old.limiter) new
 
--- a retain that passes the removed pairs to its callback, as the limiter leaves them (`passed`)
+-- a retain that passes the pairs `passed` to its callback: the removed pairs after `on_removed` of the limiter
 abbrev pub RetainPasses : {K V S H F : Type 0} → Rules K V S → Mut F (Bor K × (Bor V × Unit {0})) Bool → F
     → State K V S H → List (K × V) → State K V S H → Type 0
 RetainPasses rules closure f old passed new = Retains closure (noting rules) f (noted [] old) (noted passed new)

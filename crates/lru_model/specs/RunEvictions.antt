@@ -1,4 +1,4 @@
--- What each insert of a run evicts, for any other calls in the run.
+-- What each insert of a run evicts, whatever other calls are in the run.
 use Rattle.std.specs.Prelude.{◌≡◌, ℕ, Bool, false}
 use Rattle.lru_limits.specs.Rules.{Rules, Offers}
 use Rattle.lru_model.specs.State.{State, contents}
@@ -15,8 +15,8 @@ module _ {K V S H : Type 0} {IsStep : State K V S H → State K V S H → Type 0
 
 module _ {K V S H I : Type 0} (rules : Rules K V S) (offers : Offers K V S I) (names : I → K → Bool)
     (hash_of : H → K → ℕ) where
-  -- An insert, or a get that inserts, evicts only the oldest pairs, or removes only the pair of its key, because the
-  -- limiter rejected the new value.
+  -- An insert, or a get that inserts, either evicts only the oldest pairs, or removes only the pair of the inserted key
+  -- because the limiter rejected the new value.
   abbrev pub InsertEvictsOldest : (old new : State K V S H) → AnyStep rules offers names hash_of old new → Type 0
   InsertEvictsOldest old new (calls (inserts key value result h)) = EvictsOldest (names key)
       (λ pair. (replacement rules offers names pair key value (contents old)).taken ≡ false) old.pairs new.pairs

@@ -1,4 +1,4 @@
--- How one call changes a map (`Step`), and how calls one after another change it (`Run`).
+-- How one call changes a map (`Step`), and how several calls, one after another, change a map (`Run`).
 --     `rules`, `offers`: the limiter's `Rules` and `Offers` (`lru_limits`).
 --     `names i k`: the key i of a call names k.
 --     `hash_of h k`: the hash of k by the hasher h.
@@ -24,9 +24,9 @@ AreAmong {K} named test = (key : K) → named key ≡ true → test key ≡ true
 
 module _ {K V S H I : Type 0} (rules : Rules K V S) (offers : Offers K V S I) (names : I → K → Bool)
     (hash_of : H → K → ℕ) where
-  -- How one call changes a map. `AnyStep` adds changes of the limiter and writes through references. A call that only
-  -- reads is no step. `gets` is a look-up, by a key of any type or by a hash, which promotes the pair that it finds.
-  -- All keys that calls insert or update have one type, I.
+  -- How one call changes a map. A step of `AnyStep` may also be a change of the limiter, or a write through a
+  -- reference. A call that only reads is no step. `gets` is a look-up by a hash, or by a key of any type. If the
+  -- look-up finds a pair, it promotes this pair. All inserted and updated keys have one type, I.
   pub data Step (old new : State K V S H) : Type 0 where
     inserts : (key : I) (value : V) (result : Result Bool AllocError)
         → Insert rules offers names hash_of key value old result new → Step old new
@@ -82,11 +82,11 @@ module _ {K V S H I : Type 0} (rules : Rules K V S) (offers : Offers K V S I) (n
   abbrev pub StepAmong : (K → Bool) → State K V S H → State K V S H → Type 0
   StepAmong test old new = (step : AnyStep old new) × NamesOnly test old new step
 
--- the `names` of calls that insert and update nothing, and so have no inserted key
+-- the `names` of calls that neither insert nor update a key
 abbrev pub no_keys : {K : Type 0} → ⊥ → K → Bool
 no_keys key k = false
 
--- the `offers` of calls that insert and update nothing, and so offer the limiter nothing
+-- the `offers` of calls that neither insert nor update a key, and so offer the limiter nothing
 abbrev pub no_offers : {K V S : Type 0} → Offers K V S ⊥
 no_offers = record {
   on_insert = λ limiter n key value left pair. ⊥;

@@ -1,30 +1,30 @@
--- Which buckets links can number, how many bytes a table takes, and into which table a map grows. Quotients are rounded
--- down.
+-- How many buckets the width of links permits, how many bytes a table takes, and into which table a map grows. Quotients
+-- are rounded down.
 use Rattle.std.specs.Prelude.{◌≡◌, ◌⊎◌, ℕ, ◌+◌, ◌-◌, ◌*◌, ◌/◌, ◌^◌, ◌<◌, ◌≤◌, ◌==◌, nat_lt, nat_le, if◌then◌else◌}
 use Rattle.std.specs.Prelude.{Option, Some, None}
 use Rattle.group_table.specs.Sizes.{IsPowerFromFour, full_capacity, buckets_for}
 
--- The number of the link `MAX`, for links of 32 bits and of 64 bits. Each bucket has a smaller number.
+-- The number of the link `MAX`, for links of 32 bits and of 64 bits. All bucket numbers are smaller.
 abbrev pub max_of_32_bits : ℕ
 max_of_32_bits = 2 ^ 32 - 1
 
 abbrev pub max_of_64_bits : ℕ
 max_of_64_bits = 2 ^ 64 - 1
 
--- the bytes of a table: the bytes of its entries, rounded up to a multiple of 16, plus a byte for each bucket, plus 16
+-- The bytes of a table: the bytes of the entries, rounded up to a multiple of 16, plus a byte for each bucket, plus 16.
 abbrev pub bytes_of : ℕ → ℕ → ℕ
 bytes_of entry_bytes buckets = (entry_bytes * buckets + 15) / 16 * 16 + buckets + 16
 
--- The bytes that a table of `buckets` buckets uses, or `None` if they are more than 2 ^ 63 - 16. A table without
--- buckets uses 0 bytes.
+-- The bytes that a table of `buckets` buckets uses, or `None` if the table would use more than 2 ^ 63 - 16 bytes. A
+-- table without buckets uses 0 bytes.
 unfoldable pub usage : ℕ → ℕ → Option ℕ
 usage entry_bytes buckets =
     if buckets == 0 then Some 0
     else (if nat_le (bytes_of entry_bytes buckets) (2 ^ 63 - 16) then Some (bytes_of entry_bytes buckets)
     else None)
 
--- `bytes` is the greatest usage within the budget, among the tables of fewer than `max` buckets, or 0 if each of these
--- tables uses more than the budget.
+-- Of the tables that have fewer than `max` buckets and fit the budget, the largest uses `bytes` bytes. If there is no
+-- such table, `bytes` is 0.
 pub record IsGreatestUsage (max entry_bytes budget bytes : ℕ) : Type 0 where
   pub within : bytes ≤ budget
   pub of_table : (bytes ≡ 0)
@@ -46,10 +46,10 @@ abbrev pub table_with : ℕ → Option ℕ → Target
 table_with entry_bytes None = no_table
 table_with entry_bytes (Some buckets) = table_of buckets (usage entry_bytes buckets)
 
--- A table of `buckets` buckets grows for `pairs` pairs, which need `need` buckets. If the table has fewer buckets, it
--- grows to `need` buckets. If the table has enough buckets, and `pairs` is at most half of its capacity, the table
--- keeps its size. If `pairs` is more than half of its capacity, the table grows to twice its buckets. If the new table
--- would be too large, the table does not grow (`no_table`).
+-- Into which table a table of `buckets` buckets grows for `pairs` pairs, if the pairs need `need` buckets. If the table
+-- has fewer buckets than `need`, it grows to `need` buckets. If the table has enough buckets, and `pairs` is at most
+-- half of the capacity, the table keeps its size. If `pairs` is more than half of the capacity, the number of buckets
+-- is doubled. If the new table would be too large, the table does not grow (`no_table`).
 abbrev pub target_from : ℕ → ℕ → ℕ → ℕ → Option ℕ → Target
 target_from max entry_bytes buckets pairs None = no_table
 target_from max entry_bytes buckets pairs (Some need) =
@@ -61,7 +61,7 @@ target_from max entry_bytes buckets pairs (Some need) =
 unfoldable pub target : ℕ → ℕ → ℕ → ℕ → Target
 target max entry_bytes buckets pairs = target_from max entry_bytes buckets pairs (buckets_for max pairs)
 
--- the `Target` with these numbers of buckets and bytes, or `no_table` if there are none
+-- the new table with these numbers of buckets and bytes, or `no_table` for `None`
 abbrev pub larger : Option (ℕ × ℕ) → Target
 larger None = no_table
 larger (Some table) = new_table table.0 table.1

@@ -27,9 +27,9 @@ abbrev pub empty_table : TableState
 empty_table = record { states = []; places = [] }
 
 pub record Counts : Type 0 where
-  -- how many insertions the table has made, of new and of moved entries together
+  -- how many insertions the table has made; new and moved entries both count
   pub insertions : ℕ
-  -- how many entries the inserts moved, and how many new entries the inserts stored
+  -- how many entries the inserts moved in all, and how many new entries the inserts stored in all
   pub moved : ℕ
   pub placed : ℕ
   -- how many entries all shrinks have rehashed
@@ -45,14 +45,15 @@ pub record State (K V S H : Type 0) : Type 0 where
   pub counts : Counts
   -- how many bytes an entry takes in the table; the constructor got or computed this number
   pub entry_bytes : ℕ
-  -- the number of the link `MAX`; each bucket has a smaller number
+  -- the number of the link `MAX`; all bucket numbers are smaller
   pub max : ℕ
 
--- A table is sound if it satisfies what holds for the bucket states and the counts of every map of n pairs.
+-- What holds for the bucket states and the counts of every map of n pairs. A table is sound if `IsSound` is true of the
+-- table.
 pub record IsSound (n entry_bytes max : ℕ) (states : List BucketState) (counts : Counts) : Type 0 where
   pub table : IsTable states
   pub taken : entry_count states ≡ n
-  -- a link can number every bucket
+  -- the links are wide enough for every bucket
   pub reachable : (length states ≡ 0) ⊎ (length states < max)
   -- the table takes at most 2 ^ 63 - 16 bytes
   pub usable : (bytes : ℕ) × (usage entry_bytes (length states) ≡ Some bytes)
@@ -70,8 +71,9 @@ pub record IsPaid (potential : ℕ) (counts : Counts) : Type 0 where
   pub moved : counts.moved ≤ 2 * counts.placed + counts.shrunk
   pub ahead : IsAhead potential counts
 
--- How the bucket states change when a map of `was` pairs keeps n pairs. The growth left never falls. For each removed
--- pair, the growth left rises by at most one, and by exactly one in a table of up to 16 buckets.
+-- How the bucket states change when a map of `was` pairs keeps n pairs, and the others are removed. `growth_left` never
+-- falls. For each removed pair, `growth_left` rises by at most one. In a table of up to 16 buckets, `growth_left` rises
+-- by exactly one for each removed pair.
 pub record GivesBack (was n : ℕ) (old new : List BucketState) : Type 0 where
   pub table : length new ≡ length old
   pub keeps : growth_left_of old ≤ growth_left_of new
@@ -84,9 +86,8 @@ pub record GivesBack (was n : ℕ) (old new : List BucketState) : Type 0 where
 abbrev pub FirstFreeIs : BucketState → ℕ → List BucketState → Type 0
 FirstFreeIs state hash states = (b : ℕ) × IsFirstFree states hash b × (bucket_at states b ≡ state)
 
--- The pair at `place` was removed, and its bucket is free now. The bucket is empty if each run of 16 neighbouring
--- buckets with this bucket contained an empty bucket, and deleted if one of these runs contained none. The other
--- buckets keep their states.
+-- The pair at `place` was removed, and its bucket is free now: deleted if it was in a run of 16 neighbouring buckets none
+-- of which was empty, and otherwise empty. The other buckets keep their states.
 pub record Frees (place : Option ℕ) (old new : TableState) : Type 0 where
   pub bucket : ℕ
   pub there : place ≡ Some bucket
@@ -163,16 +164,16 @@ module _ {K V S H : Type 0} where
     pub growth_left : FreesGrowth old new
 
 module _ {K V S : Type 0} (rules : Rules K V S) where
-  -- the limiter after it was notified of the removed pair, if a pair was removed
+  -- the limiter after the limiter was notified of the removed pair, if a pair was removed
   abbrev pub notified_of : Option (K × V) → S → S
   notified_of None s = s
   notified_of (Some pair) s = (rules.on_removed s pair.0 pair.1).limiter
 
-  -- the pairs `left`, and the limiter after it was notified of the removed pair `gone`, if `gone` is not `None`
+  -- The contents with the pairs `left`. If `gone` is a pair, the limiter was notified that this pair was removed.
   abbrev pub after_removal : Option (K × V) → List (K × V) → S → Contents K V S
   after_removal gone left s = record { pairs = left; limiter = notified_of gone s }
 
-  -- the contents without the oldest pair, after the limiter was notified of its removal
+  -- the contents without the oldest pair, after the limiter was notified of the removal
   abbrev pub pop : Contents K V S → Contents K V S
   pop c = after_removal (last c.pairs) (without_last c.pairs) c.limiter
 

@@ -1,4 +1,5 @@
--- Definitions for the laws in `src/laws`: what an insert evicts and stores, what its result says, and what moves cost.
+-- Definitions for the laws in `src/laws`: what an insert evicts and stores, what the result of an insert says, and the
+-- cost of moves.
 use Rattle.std.specs.Prelude.{◌≡◌, ℕ, ◌+◌, ◌-◌, ◌*◌, ◌/◌, ◌^◌, ◌≤◌, ◌<◌, Bool, true, false, List, ◌∷◌, length}
 use Rattle.std.specs.Prelude.{sum_by, not}
 use Rattle.std.specs.List.{filter}
@@ -58,8 +59,8 @@ pub record IsNewest {K V : Type 0} (names : K → Bool) (pairs : List (K × V)) 
 -- limiter rejects the new value for this pair.
 pub data EvictsOldest {K V : Type 0} (names : K → Bool) (refuses : K × V → Type 0) (old new : List (K × V))
     : Type 0 where
-  -- The pair of the inserted key is the newest, followed by the newest pairs of other keys, in their order; or no pair
-  -- is left.
+  -- Either the pair of the inserted key is the newest, and the newest pairs of other keys follow in their order, or the
+  -- map has no pairs.
   behind : (newest : K × V) → names newest.0 ≡ true → IsFront new (newest ∷ without names old) →
       EvictsOldest names refuses old new
   -- The inserted key was not there, and its pair is not stored. The oldest pairs may have been evicted.
@@ -69,7 +70,8 @@ pub data EvictsOldest {K V : Type 0} (names : K → Bool) (refuses : K × V → 
       EvictsOldest names refuses old new
 
 module _ {K V S H : Type 0} (rules : Rules K V S) where
-  -- the table has pairs but no growth left, would be more than half full with one pair more, and cannot grow
+  -- The table has pairs but no growth left, and it cannot grow. With one pair more, the table would be more than half
+  -- full.
   pub record IsRefusedGrowth (st : State K V S H) : Type 0 where
     pub is_full : HasPairsButNoGrowth st
     pub above_half : full_capacity (buckets st) / 2 < length st.pairs + 1
@@ -78,15 +80,15 @@ module _ {K V S H : Type 0} (rules : Rules K V S) where
     pub refused : CannotGrow rules st mid
 
   -- What the result of an insert says. If the result is true, the pair of the key is the newest, and the limiter is not
-  -- over its limit. If the result is false or an error, the map does not contain the key.
+  -- over its limit. If the result is false, or if it is an error, the map does not contain the key.
   abbrev pub SaysWhether : (K → Bool) → Result Bool AllocError → State K V S H → Type 0
   SaysWhether names (Ok true) new =
       IsNewest names new.pairs × (rules.is_over_the_limit new.limiter (length new.pairs) ≡ false)
   SaysWhether names result new = lookup_entry names new.pairs ≡ None
 
 module _ {K V S H I : Type 0} (rules : Rules K V S) (offers : Offers K V S I) (names : I → K → Bool) where
-  -- The pair that an insert stores. If the key was there, this pair is the stored key with the new value, as
-  -- `on_replace` left both. If the key is new, it is the pair that the limiter returned.
+  -- The pair that an insert stores. If the key was there, this pair is the stored key with the new value, both after
+  -- `on_replace` of the limiter. If the key is new, this pair is the pair that the limiter returned.
   pub data Stores (i : I) (v : V) (old : State K V S H) (pair : K × V) : Type 0 where
     left : (was : K × V) → lookup_entry (names i) old.pairs ≡ Some was
         → (replacement rules offers names was i v (contents old)).taken ≡ true →

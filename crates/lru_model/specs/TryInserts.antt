@@ -10,8 +10,8 @@ use Rattle.lru_model.specs.Inserts.{Insert}
 use Rattle.lru_model.specs.Runs.{Step, Run}
 use Rattle.lru_model.specs.declared.results.ReserveError.{ReserveError}
 
--- `ready` is the map just before the insert, which is the map `old` if growth is left, or else `old` after a
--- reservation.
+-- `ready` is the map just before the insert. If growth is left, `ready` is `old`. If no growth is left, `ready` is
+-- `old` after a reservation of growth.
 pub data IsReady {K V S H : Type 0} (rules : Rules K V S) (old ready : State K V S H) : Type 0 where
   has_growth : 0 < growth_left old → ready ≡ old →
       IsReady rules old ready
@@ -19,7 +19,7 @@ pub data IsReady {K V S H : Type 0} (rules : Rules K V S) (old ready : State K V
       IsReady rules old ready
 
 module _ {K V S : Type 0} (terms : Terms K V S) (rules : Rules K V S) where
-  -- whether the limiter accepts the pair of a new key, and is not over its limit when the pair is stored
+  -- whether the limiter accepts the pair of a new key, and the map would not be over the limit with this pair
   abbrev pub can_store : K → V → Contents K V S → Bool
   can_store key value c = if terms.accepts c.limiter (length c.pairs) key value
       then not (rules.is_over_the_limit (terms.admit c.limiter (length c.pairs) key value) (length c.pairs + 1))
@@ -53,10 +53,10 @@ module _ {K V S : Type 0} (terms : Terms K V S) (rules : Rules K V S) where
             result ≡ Ok tt → Insert rules (offers_of terms) eq hash_of key value ready (Ok true) new →
             TryInsert result new
 
-      -- How `try_insert` ends. At an `Ok`, the pair is the newest, nothing is evicted (`added`), and the limiter is
-      -- within its limit (`within`). At an `Err`, the call returns the key and the value (`returned`), and the pairs
-      -- stay (`keeps`). If growth was left before an `Err`, nothing has changed (`unchanged`). In a run, the call
-      -- counts as at most two steps: a reservation, and an insert (`calls`).
+      -- How `try_insert` ends. If the result is `Ok`, the pair is the newest, nothing is evicted (`added`), and the
+      -- limiter is within its limit (`within`). If the result is `Err`, the call returns the key and the value
+      -- (`returned`), and the pairs stay (`keeps`). If growth was left and the result is `Err`, nothing has changed
+      -- (`unchanged`). In a run, the call counts as at most two steps: a reservation, and an insert (`calls`).
       pub record TryInsertEnds (result : Result (Unit {0}) (K × V)) (new : State K V S H) : Type 0 where
         pub calls : Run (Step rules (offers_of terms) eq hash_of) new old
         pub added : OnOk result (new.pairs ≡ (key, value) ∷ old.pairs)

@@ -98,9 +98,9 @@ pub fn small_inserts_are_exact<
 {}
 
 /// An insert changes the entries as the `Report` of the table says (`exact`; see `small_inserts_are_exact`). Every
-/// insert has a report (`given`). Two inserts that return `Ok` return the same, and leave the same entries and limiter,
-/// if their arguments, their reports, and the entries and limiters before them are equal (`alike`). The limiter and the
-/// arguments must determine what `on_insert` does (`IsDetermined`).
+/// insert has a report (`given`). Two inserts that return `Ok` return equal results, and leave equal entries and
+/// limiters, if their arguments, their reports, and the entries and limiters before them are equal (`alike`). The
+/// limiter and the arguments must determine what `on_insert` does (`IsDetermined`).
 pub fn inserts_are_exact_unless_refused<
     K: Eq + Hash,
     V,
@@ -157,8 +157,8 @@ pub fn inserts_grow_little<
 
 /// Suppose that the map has entries, but no growth left. If the first free bucket in the search for the new key is
 /// deleted, the new entry fills this bucket, without a query of the limiter or a move (`served`). If the limiter also
-/// accepts the new entry, and is not over its limit with it, an insert evicts nothing (`added`). Conversely, if an
-/// insertion keeps the number of buckets, and evicts and moves nothing, the first free bucket was deleted (`only`).
+/// accepts the new entry, and is not over its limit with this entry, an insert evicts nothing (`added`). Conversely, if
+/// an insertion keeps the number of buckets, and evicts and moves nothing, the first free bucket was deleted (`only`).
 pub fn deleted_buckets_serve<
     K: Eq + Hash,
     V,
@@ -210,9 +210,9 @@ pub fn inserts_pay_for_moves<
         CountsInsertions old.counts new.counts }
 {}
 
-/// If growth is refused (`IsRefusedGrowth`), the map has at least half as many entries after the insertion as the table
-/// may hold, including the new entry (`half`). If memory runs out, the map may have one entry fewer (`without_memory`).
-/// If the table has up to 16 buckets, only the oldest entry is evicted (`one`).
+/// If growth is refused (`IsRefusedGrowth`), the entries after the insertion, including the new entry, are at least
+/// half as many as the table may hold (`half`). If memory runs out, the map may have one entry fewer
+/// (`without_memory`). If the table has up to 16 buckets, only the oldest entry is evicted (`one`).
 pub fn refused_growth_keeps_half<K: Eq + Hash, V, L: Limiter<K, V>, S: KeyHasher<K>>()
     ensures half { (pair : K × V) (old new : State K V L S) →
         IsRefusedGrowth L.rules old →

@@ -55,7 +55,7 @@ pub enum Updated<V> {
 /// ```
 #[derive(Clone, Copy, Debug, PartialEq, Eq, Error)]
 pub enum ReserveError {
-    /// No table can hold the entries plus the reserved entries, or the sum of their numbers overflows.
+    /// No table can hold the entries plus the reserved entries, or the sum of the two numbers overflows.
     #[error("too large")]
     TooLarge = 1,
     /// The limiter refused the larger table.

@@ -1,7 +1,7 @@
 -- Pops at one end of a map, one after another. If there are n pairs, more than n pops leave the same map as n pops.
 use Rattle.std.proofs.Common.{◌≡◌, ℕ, zero, suc, ◌+◌, ◌-◌, ◌<◌, ◌≤◌, List, [], ◌∷◌, ◌++◌, length, option_to_list}
 use Rattle.std.proofs.Common.{refl, sym, ap, ◌∙◌, subst, arith, add-one, append_assoc}
-use Rattle.std.proofs.lemmas.List.{append-nil}
+use Rattle.std.proofs.lemmas.List.{append-nil, nil_from_length}
 use Rattle.lru_limits.specs.Rules.{Rules}
 use Rattle.lru_model.specs.Lists.{first, last}
 use Rattle.lru_model.specs.State.{State, Contents, contents, Leaves, pop, pops}
@@ -18,8 +18,8 @@ module _ {K V S : Type 0} where
     pub nothing : (c : Contents K V S) → all 0 c ≡ []
     pub given : (n : ℕ) (c : Contents K V S) → all (suc n) c ≡ gives c ++ all n (one c)
     pub shorter : (c : Contents K V S) → length (one c).pairs ≡ length c.pairs - 1
-    pub still : (c : Contents K V S) → length c.pairs ≤ 0 → one c ≡ c
-    pub without : (c : Contents K V S) → length c.pairs ≤ 0 → gives c ≡ []
+    pub still : (s : S) → one (record { pairs = []; limiter = s }) ≡ record { pairs = []; limiter = s }
+    pub without : (s : S) → gives (record { pairs = []; limiter = s }) ≡ []
 
 module _ {K V S : Type 0} {one : Contents K V S → Contents K V S} {gives : Contents K V S → List (K × V)}
     {many : ℕ → Contents K V S → Contents K V S} {all : ℕ → Contents K V S → List (K × V)}
@@ -42,19 +42,25 @@ module _ {K V S : Type 0} {one : Contents K V S → Contents K V S} {gives : Con
   length-many (suc n) c = omega
       (arith, ap (λ d. length d.pairs) (p.more n c), length-many n (one c), p.shorter c)
 
-  none_left : (n : ℕ) (c : Contents K V S) → length c.pairs ≤ 0 → many n c ≡ c
-  none_left zero c few = p.none c
-  none_left (suc n) c few = p.more n c ∙ ap (many n) (p.still c few) ∙ none_left n c few
+  none_left : (n : ℕ) (c : Contents K V S) → c.pairs ≡ [] → many n c ≡ c
+  none_left zero c empty = p.none c
+  none_left (suc n) c empty = p.more n c
+      ∙ ap (many n) (subst (λ l. one (record c { pairs = l }) ≡ record c { pairs = l }) (sym empty) (p.still c.limiter))
+      ∙ none_left n c empty
 
-  nothing_given : (n : ℕ) (c : Contents K V S) → length c.pairs ≤ 0 → all n c ≡ []
-  nothing_given zero c few = p.nothing c
-  nothing_given (suc n) c few =
-      p.given n c ∙ ap (λ l. l ++ all n (one c)) (p.without c few) ∙ ap (all n) (p.still c few) ∙ nothing_given n c few
+  nothing_given : (n : ℕ) (c : Contents K V S) → c.pairs ≡ [] → all n c ≡ []
+  nothing_given zero c empty = p.nothing c
+  nothing_given (suc n) c empty = p.given n c
+      ∙ ap (λ l. l ++ all n (one c)) (subst (λ l. gives (record c { pairs = l }) ≡ []) (sym empty)
+      (p.without c.limiter))
+      ∙ ap (all n) (subst (λ l. one (record c { pairs = l }) ≡ record c { pairs = l }) (sym empty) (p.still c.limiter))
+      ∙ nothing_given n c empty
 
   pub many_enough : (n k : ℕ) (c : Contents K V S) → k ≤ n → (k < n → length c.pairs ≤ k) → many k c ≡ many n c
   many_enough zero zero c most enough = refl
   many_enough zero (suc k) c most enough = absurd (omega arith)
-  many_enough (suc n) zero c most enough = p.none c ∙ sym (none_left (suc n) c (enough (omega arith)))
+  many_enough (suc n) zero c most enough = p.none c ∙ sym (none_left (suc n) c
+      (nil_from_length c.pairs (omega (arith, enough (omega arith)))))
   many_enough (suc n) (suc k) c most enough =
       p.more k c ∙ many_enough n k (one c) (omega arith)
       (λ less. let few = enough (omega arith) in omega (arith, p.shorter c, few)) ∙ sym (p.more n c)
@@ -62,7 +68,8 @@ module _ {K V S : Type 0} {one : Contents K V S → Contents K V S} {gives : Con
   pub all_enough : (n k : ℕ) (c : Contents K V S) → k ≤ n → (k < n → length c.pairs ≤ k) → all k c ≡ all n c
   all_enough zero zero c most enough = refl
   all_enough zero (suc k) c most enough = absurd (omega arith)
-  all_enough (suc n) zero c most enough = p.nothing c ∙ sym (nothing_given (suc n) c (enough (omega arith)))
+  all_enough (suc n) zero c most enough = p.nothing c ∙ sym (nothing_given (suc n) c
+      (nil_from_length c.pairs (omega (arith, enough (omega arith)))))
   all_enough (suc n) (suc k) c most enough =
       p.given k c ∙ ap (λ l. gives c ++ l) (all_enough n k (one c) (omega arith)
       (λ less. let few = enough (omega arith) in omega (arith, p.shorter c, few))) ∙ sym (p.given n c)
@@ -94,16 +101,6 @@ module _ {K V S : Type 0} (rules : Rules K V S) where
   first_shorter [] s = omega arith
   first_shorter (x ∷ xs) s = omega arith
 
-  first_still : (pairs : List (K × V)) (s : S) → length pairs ≤ 0
-      → pop_first rules (record { pairs = pairs; limiter = s }) ≡ record { pairs = pairs; limiter = s }
-  first_still [] s few = refl
-  first_still (x ∷ xs) s few = absurd (omega (arith, few))
-
-  first_without : (pairs : List (K × V)) (s : S) → length pairs ≤ 0
-      → newest_pair (record { pairs = pairs; limiter = s }) ≡ []
-  first_without [] s few = refl
-  first_without (x ∷ xs) s few = absurd (omega (arith, few))
-
   pub from_newest : ArePops (pop_first rules) newest_pair (pops_first rules) (newest_given rules)
   from_newest = record {
     none = λ c. refl;
@@ -111,19 +108,9 @@ module _ {K V S : Type 0} (rules : Rules K V S) where
     nothing = λ c. refl;
     given = λ n c. refl;
     shorter = λ c. first_shorter c.pairs c.limiter;
-    still = λ c few. first_still c.pairs c.limiter few;
-    without = λ c few. first_without c.pairs c.limiter few;
+    still = λ s. refl;
+    without = λ s. refl;
   }
-
-  last_still : (pairs : List (K × V)) (s : S) → length pairs ≤ 0
-      → pop rules (record { pairs = pairs; limiter = s }) ≡ record { pairs = pairs; limiter = s }
-  last_still [] s few = refl
-  last_still (x ∷ xs) s few = absurd (omega (arith, few))
-
-  last_without : (pairs : List (K × V)) (s : S) → length pairs ≤ 0
-      → oldest_pair (record { pairs = pairs; limiter = s }) ≡ []
-  last_without [] s few = refl
-  last_without (x ∷ xs) s few = absurd (omega (arith, few))
 
   pub from_oldest : ArePops (pop rules) oldest_pair (pops rules) (oldest_given rules)
   from_oldest = record {
@@ -132,6 +119,6 @@ module _ {K V S : Type 0} (rules : Rules K V S) where
     nothing = λ c. refl;
     given = λ n c. refl;
     shorter = λ c. length-without_last c.pairs;
-    still = λ c few. last_still c.pairs c.limiter few;
-    without = λ c few. last_without c.pairs c.limiter few;
+    still = λ s. refl;
+    without = λ s. refl;
   }

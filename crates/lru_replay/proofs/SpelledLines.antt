@@ -1,12 +1,13 @@
 -- The word and the numbers of a line determine its meaning. So one can decide whether a line has a meaning.
 use Rattle.std.proofs.Common.{◌≡◌, ℕ, ◌<◌, ◌^◌, Bool, true, false, List, [], ◌∷◌, ◌++◌, refl, sym, ap, ◌∙◌, subst, inl}
-use Rattle.std.proofs.Common.{inr, ◌⊎◌, decimal, ◌==◌, Option, Some, None, IfSome, IfNone}
+use Rattle.std.proofs.Common.{inr, ◌⊎◌, decimal, ◌==◌, Option, Some, None, IfNone}
 use Rattle.std.proofs.lemmas.Bool.{ne_eqb}
 use Rattle.std.proofs.lemmas.Bool.Decides.{Decides-ltb, Decides-eqb, not_from_Decides}
 use Rattle.std.proofs.lemmas.Fmt.{decimal_is_IsNumeral}
 use Rattle.std.proofs.lemmas.List.{append-nil}
 use Rattle.std.proofs.lemmas.List.Elements.{All-from_recursion}
 use Rattle.std.proofs.lemmas.List.Splits.{slice_split_none, slice_split_at}
+use Rattle.std.proofs.lemmas.Option.{same_Some}
 use Rattle.std.proofs.lemmas.Slice.Eq.{bytes_eq-Decides}
 use Rattle.std.specs.List.{All, AllByRecursion, slice_split}
 use Rattle.std.specs.Str.{bytes_eq}
@@ -106,10 +107,6 @@ module _ {X : Type 0} (words : Words X) (line : List ℕ) where
         ap (λ p. said_of words p.0 p.1) (sym (split_once line word given is) ∙ split_once line other others split)
         ∙ means
 
-    pub meant_some : (r : Option X) → r ≡ said_of words word given → IfSome r (λ x. Spells words line x)
-    meant_some None means = tt
-    meant_some (Some x) means = (word, given, is, sym means)
-
     pub meant_none : (r : Option X) → r ≡ said_of words word given → IfNone r ((x : X) → Spells words line x → ⊥)
     meant_none None means = λ x spells. let k = means ∙ one_meaning x spells in absurd (cc)
     meant_none (Some x) means = tt
@@ -135,9 +132,6 @@ fits_limit : (limit : Limit) → FitsLimit limit ⊎ (FitsLimit limit → ⊥)
 fits_limit (limits.Length n) = lt_or n (2 ^ 32)
 fits_limit limit = inl tt
 
-same_some : {X : Type 0} (x y : X) → Some x ≡ Some y → x ≡ y
-same_some x y e = cc
-
 pub limit_or : (line : List ℕ) → ((limit : Limit) × SpellsLimit line limit)
     ⊎ ((limit : Limit) → SpellsLimit line limit → ⊥)
 limit_or line = elim (spells_or limit_words line) [
@@ -149,7 +143,7 @@ limit_or line = elim (spells_or limit_words line) [
         → ((limit : Limit) × SpellsLimit line limit) ⊎ ((limit : Limit) → SpellsLimit line limit → ⊥)
     by limit spells (inl fits) = inl (limit, (fits, spells))
     by limit (word, given, is, means) (inr none) = inr (λ other named. none (subst FitsLimit
-        (same_some other limit (sym (one_meaning limit_words line word given is other named.1) ∙ means)) named.0))
+        (same_Some other limit (sym (one_meaning limit_words line word given is other named.1) ∙ means)) named.0))
 
 pub limit_none : (line word : List ℕ) (given : Numbers) → IsSplit line word given → (r : Option Limit)
     → IfNone r ((limit : Limit) → FitsLimit limit → said_of limit_words word given ≡ Some limit → ⊥)

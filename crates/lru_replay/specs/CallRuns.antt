@@ -20,14 +20,14 @@ module _ {S C R : Type 0} (IsStep : S → C → R → S → Type 0) (Holds : S �
   IsRun old (call ∷ calls) [] new = ⊥
 
 module _ {K V S : Type 0} where
-  -- the call returns a list of pairs, for which it must allocate memory
+  -- the call returns a list of pairs, and must allocate memory for this list
   abbrev pub StoresPairs : Call K V S → Type 0
   StoresPairs (calls.InsertWith key v) = Unit {0}
   StoresPairs calls.List = Unit {0}
   StoresPairs (calls.Drain front back) = Unit {0}
   StoresPairs call = ⊥
 
-  -- the call makes its step, or the allocation of the returned list fails, and nothing changes
+  -- either the call makes its step, or the allocation of the returned list fails and nothing changes
   abbrev pub StepIfMemory : {A : Type 0} → (A → Call K V S → Reply K V → A → Type 0) → A → Call K V S → Reply K V → A
       → Type 0
   StepIfMemory IsStep old call reply new = IsStep old call reply new
@@ -63,13 +63,13 @@ module _ {K V S H : Type 0} (rules : Rules K V S) (offers : Offers K V S K) (eq 
   CallStep = StepIfMemory (ReplyStep rules offers eq hash_of)
 
   module _ (cost : K → V → ℕ) (account : S → ℕ) where
-    -- If the call keeps the cost (`KeepsCost`), it does what `CallStep` says. If the call does not keep the cost, the
-    -- reply is `cost_differs`, and nothing changes.
+    -- If the call keeps the cost (`KeepsCost`), the call does what `CallStep` says. If the call does not keep the cost,
+    -- the reply is `cost_differs`, and nothing changes.
     abbrev pub SummingStep : State K V S H → Call K V S → Reply K V → State K V S H → Type 0
     SummingStep old call reply new = (KeepsCost eq cost account (contents old) call × CallStep old call reply new)
         ⊎ ((KeepsCost eq cost account (contents old) call → ⊥) × (reply ≡ cost_differs) × (new ≡ old))
 
-  -- The calls make a run of steps of the map. Calls that change nothing are no steps.
+  -- The calls, one after another, are steps of the map. A call that changes nothing is no step.
   pub record AreSteps (calls : List (Call K V S)) (old new : State K V S H) : Type 0 where
     pub any : Run (AnyStep rules offers eq hash_of) new old
     -- if the calls name only keys that pass a test, the steps name only such keys, too

@@ -1,4 +1,4 @@
--- Runs over lines. Each line is a step of the map, and is answered with a text.
+-- Runs over lines. Each line makes a step of the map, and the answer to each line is a text.
 use Rattle.std.specs.Prelude.{◌≡◌, ℕ, nat_eq, List, ◌⊎◌, flat_map, Option, OnSome, IfSome, Result, Ok, Err}
 use Rattle.std.specs.Io.KnownBytes.{Appends, IsAtEnd}
 use Rattle.lru_limits.specs.Rules.{Rules, Offers}
@@ -15,13 +15,13 @@ use Rattle.lru_replay.specs.Output.{reply_text, bad_text, Writes, Begins}
 use Rattle.lru_replay.specs.Replies.{Reply, no_memory}
 use Rattle.lru_replay.specs.Steps.{ReplyStep}
 
--- the call returns a list of pairs, for which it must allocate memory
+-- the call returns a list of pairs, and must allocate memory for this list
 abbrev pub StoresFirst : {S : Type 0} → Call ℕ ℕ S → Type 0
 StoresFirst (calls.InsertWith k v) = Unit {0}
 StoresFirst call = ⊥
 
 module _ {S : Type 0} (rules : Rules ℕ ℕ S) (offers : Offers ℕ ℕ S ℕ) where
-  -- the call makes its step, or the allocation of the list of pairs fails, and nothing changes
+  -- either the call makes its step, or the allocation of the list of pairs fails and nothing changes
   abbrev pub AnswersCall : Map S → Call ℕ ℕ S → Reply ℕ ℕ → Map S → Type 0
   AnswersCall old call reply new = ReplyStep rules offers nat_eq hash_of old call reply new
       ⊎ (StoresFirst call × (reply ≡ no_memory) × (new ≡ old))
@@ -36,7 +36,8 @@ module _ {S : Type 0} (rules : Rules ℕ ℕ S) (offers : Offers ℕ ℕ S ℕ) 
   LineStep old line text new = ((call : Call ℕ ℕ S) × SpellsCall line call × TextStep old call text new)
       ⊎ (((call : Call ℕ ℕ S) → SpellsCall line call → ⊥) × (text ≡ bad_text) × (new ≡ old))
 
-  -- The answer to the line and a line feed were written. If a write failed, only a beginning of the answer was written.
+  -- The answer to the line was written, followed by a line feed. If a write failed, only a beginning of this text was
+  -- written.
   abbrev pub AnswersLine : Map S → List ℕ → Map S → Option (List ℕ) → Option (List ℕ) → Result (Unit {0}) ReplayError
       → Type 0
   AnswersLine before line after old new result =
@@ -51,25 +52,25 @@ module _ {S : Type 0} (rules : Rules ℕ ℕ S) (offers : Offers ℕ ℕ S ℕ) 
   abbrev pub IsTextOf : Map S → List (List ℕ) → List ℕ → Type 0
   IsTextOf old lines text = (new : Map S) × IsLineRun old lines text new
 
--- Below, `IsText` says which texts answer lines, and `Wrote` how much of a text was written. The reader had the bytes
--- `from` left before, and has the bytes `to` left now, if these are known. The writer's bytes were `old` before, and
--- are `new` now.
+-- Below, `IsText` says which texts are answers to lines. `Wrote` says how much of a text was written. `from` lists the
+-- bytes that were left to read before, and `to` lists the bytes that are left to read now. `old` lists the bytes that
+-- were written before, and `new` lists all bytes that are written now. Each list may be unknown (`None`).
 module _ (IsText : List (List ℕ) → List ℕ → Type 0) (from : Option (List ℕ)) where
   abbrev pub OfAll : (List ℕ → Type 0) → Type 0
   OfAll Wrote = IfSome from (λ input. (text : List ℕ) × IsText (lines_of input) text × Wrote text)
 
-  -- Some whole lines were read, and a part of the next line. `Wrote` is true of a text that answers the whole lines.
+  -- Some whole lines and a part of the next line were read. `Wrote` is true of the answers to the whole lines.
   abbrev pub OfRead : Option (List ℕ) → (List ℕ → Type 0) → Type 0
   OfRead to Wrote = (lines : List (List ℕ)) × (text part : List ℕ)
       × IsText lines text × TakesLines from to lines part × Wrote text
 
 module _ (IsText IsTextSoFar : List (List ℕ) → List ℕ → Type 0) (from to old new : Option (List ℕ)) where
-  -- All lines or some whole lines were read, and a beginning of the answers to these lines was written.
+  -- Either all lines or some whole lines were read. A beginning of the answers to these lines was written.
   abbrev pub BeginsText : Type 0
   BeginsText = (OfAll IsText from (Begins old new) × OnSome from (IsAtEnd to))
       ⊎ OfRead IsTextSoFar from to (Begins old new)
 
--- what was read and written, if the answers ended with this result
+-- what a call read and wrote, if it returned this result
 abbrev pub Answers : (List (List ℕ) → List ℕ → Type 0) → Option (List ℕ) → Option (List ℕ) → Option (List ℕ)
     → Option (List ℕ) → Result (Unit {0}) ReplayError → Type 0
 Answers IsText from to old new (Ok _) = OfAll IsText from (Appends old new) × OnSome from (IsAtEnd to)

@@ -23,7 +23,8 @@ lines_of (b ∷ bytes) = if b == 10 then [] ∷ lines_of bytes else onto_first b
 abbrev pub fed : List ℕ → List ℕ
 fed line = line ++ 10 ∷ []
 
--- The reader had the bytes `old` left before, and has the bytes `new` left now, if these are known.
+-- `old` lists the bytes that were left to read before, and `new` lists the bytes that are left to read now. Each list
+-- may be unknown (`None`).
 module _ (old new : Option (List ℕ)) where
   abbrev pub TakesPart : List ℕ → Type 0
   TakesPart bytes = Lacks 10 bytes × Consumes old new bytes
@@ -34,7 +35,7 @@ module _ (old new : Option (List ℕ)) where
   abbrev pub TakesRest : List ℕ → Type 0
   TakesRest bytes = Lacks 10 bytes × Consumes old new bytes × OnSome old (IsAtEnd new)
 
-  -- what was taken from the reader by one look at its buffer
+  -- what a call of `take_piece` took from the reader
   abbrev pub TakesPiece : Piece → List ℕ → Type 0
   TakesPiece pieces.Part bytes = TakesPart bytes
   TakesPiece pieces.Last bytes = TakesFed bytes
@@ -48,7 +49,7 @@ module _ (old new : Option (List ℕ)) where
   abbrev pub TakesFirst : Type 0
   TakesFirst = (line : List ℕ) × (TakesFed line ⊎ TakesRest line)
 
-  -- these lines were read with their line feeds, and after them a part of the next line
+  -- these lines with their line feeds, and a part of the next line, were read
   abbrev pub TakesLines : List (List ℕ) → List ℕ → Type 0
   TakesLines lines part = AllByRecursion (Lacks 10) lines × Lacks 10 part
       × Consumes old new (flat_map fed lines ++ part)

@@ -21,7 +21,7 @@ Begins old new text = (part : List ℕ) × IsFront part text × Appends old new 
 abbrev pub Fails : ReplayError → Option (List ℕ) → Option (List ℕ) → List ℕ → Type 0
 Fails e old new text = (e ≡ errors.Write) × Begins old new text
 
--- the whole text was written, or a write failed after a beginning of the text
+-- the whole text was written, or a write failed after a beginning of the text was written
 abbrev pub Writes : {A : Type 0} → Option (List ℕ) → Option (List ℕ) → Result A ReplayError → List ℕ → Type 0
 Writes old new (Ok _) text = Appends old new text
 Writes old new (Err e) text = Fails e old new text
@@ -34,7 +34,7 @@ abbrev pub rest_text : List (ℕ × ℕ) → List ℕ
 rest_text [] = []
 rest_text (p ∷ pairs) = 32 ∷ pair_text p ++ rest_text pairs
 
--- the text of the next pair, with a space in front if a pair was written before
+-- the text of the next pair, with a space in front if this pair is not the first
 abbrev pub taken_text : Bool → Option (ℕ × ℕ) → List ℕ
 taken_text any None = []
 taken_text false (Some p) = pair_text p
@@ -49,7 +49,7 @@ abbrev pub value_text : Option ℕ → List ℕ
 value_text None = codes "none"
 value_text (Some v) = decimal v
 
--- the text of a removed pair, such as `3:30`, or `none`
+-- the text of a removed pair, such as `3:30`, or `none` if no pair was removed
 abbrev pub left_text : Option (ℕ × ℕ) → List ℕ
 left_text None = codes "none"
 left_text (Some p) = pair_text p
@@ -97,8 +97,8 @@ figures_text figures = named_text (codes "len ") figures.len ++ (named_text (cod
     ++ (named_text (codes " memory ") figures.memory ++ (named_text (codes " moved ") figures.moved
     ++ placed_text figures.placed figures.shrunk)))
 
--- The text of a reply. `cost` is the running total of the limiter, if the limiter keeps one. No line gets the reply
--- `cost_differs`.
+-- The text of a reply. `cost` is the running total of the limiter, or `None` if the limiter keeps no running total. No
+-- line gets the reply `cost_differs`.
 abbrev pub reply_text : Option ℕ → Reply ℕ ℕ → List ℕ
 reply_text cost (flag there) = flag_text there
 reply_text cost (given result out) = insert_text result ++ rest_text out

@@ -24,13 +24,13 @@ pub record Cache (K V S H : Type 0) : Type 1 where
   -- what holds for the map before and after each reference
   pub Keeps : State K V S H → Type 0
 
--- equal keys have equal costs, and with each value equal weights
+-- equal keys have equal costs, and pairs with equal keys and the same value have equal weights
 pub record CostsAlike {K V : Type 0} (eq : K → K → Bool) (weight : K → V → ℕ) (cost : K → ℕ) : Type 0 where
   pub keys : (key other : K) → eq key other ≡ true → cost key ≡ cost other
   pub pairs : (key other : K) (value : V) → eq key other ≡ true → weight key value ≡ weight other value
 
--- Each pair costs what its key costs (`each`). A list of keys that together cost at most the limit has at most `most`
--- keys, some of which may be equal (`few`). The map can have a table for 8 * (most + 1) pairs (`tables`).
+-- Each pair costs what its key costs (`each`). If the keys of a list together cost at most the limit, the list has at
+-- most `most` keys, even if some are equal (`few`). The map can have a table for 8 * (most + 1) pairs (`tables`).
 pub record KeepsToCost {K V H : Type 0} (weight : K → V → ℕ) (cost : K → ℕ) (st : State K V Budget H) : Type 0 where
   pub each : AllByRecursion (λ pair. weight pair.0 pair.1 ≡ cost pair.0) st.pairs
   pub summed : IsSummed weight (λ budget. budget.cost) st
@@ -62,8 +62,9 @@ module _ {K V S H : Type 0} (cache : Cache K V S H) where
     pub limit : cache.limit new.limiter ≡ cache.limit old.limiter
     pub keeps : cache.Keeps old → cache.Keeps new
 
-  -- After a reference, its key is the newest, and the other keys follow in their order, as far as the limit permits
-  -- (`does`). If the limit permits an entry, and the key was not in the map, an entry was stored (`stored`).
+  -- After a reference, the referenced key is the newest, and the old keys follow in their order. The oldest keys are
+  -- evicted while the cache is over its limit (`does`). If the limit permits an entry, and the key was not in the map,
+  -- an entry was stored (`stored`).
   pub record Reference (key : K) (old new : State K V S H) : Type 0 where
     pub does : LeavesKeys (cache.refer (cache.limit old.limiter) key (keys_of old.pairs)) old new
     pub stored : cache.Stores (cache.limit old.limiter)
@@ -74,8 +75,8 @@ module _ {K V S H : Type 0} (cache : Cache K V S H) where
     pub does : LeavesKeys (keys_of old.pairs) old new
     pub stored : new.counts.placed ≡ old.counts.placed
 
-  -- The program made the references of a trace on the map `old`, and left the map `new`. The number of references that
-  -- did not find their key is `missed`. Between references, the program may have read the map or written values
+  -- The program made the references of a trace, and the map changed from `old` to `new`. `missed` is the number of
+  -- references that did not find their key. Between references, the program may have read the map or written values
   -- (`Reads`).
   pub data Referenced (old : State K V S H) : (trace : List K) (missed : ℕ) (new : State K V S H) → Type 0 where
     begins : Referenced old [] 0 old

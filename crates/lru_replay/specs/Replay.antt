@@ -21,7 +21,7 @@ use Rattle.lru_replay.specs.LineRuns.{IsTextOf, OfAll, OfRead, BeginsText}
 abbrev pub plain_entry_bytes : ℕ
 plain_entry_bytes = 32
 
--- The text answers the lines, if their calls are made on an empty map with this limit.
+-- The text consists of the answers to the lines, if the calls are made on an empty map with this limit.
 abbrev pub IsTextUnder : Limit → List (List ℕ) → List ℕ → Type 0
 IsTextUnder (limits.Length most) =
     IsTextOf length_rules length_offers no_cost (empty most plain_entry_bytes max_of_32_bits)
@@ -51,8 +51,9 @@ abbrev pub SoFar : (List (List ℕ) → List ℕ → Type 0) → List (List ℕ)
 SoFar IsText [] text = text ≡ []
 SoFar IsText (first ∷ others) text = IsText (first ∷ others) text
 
--- How a replay ended. The reader had the bytes `from` left before, and has the bytes `to` left now. The writer's bytes
--- were `old` before, and are `new` now.
+-- How a replay ended. `from` lists the bytes that were left to read before, and `to` lists the bytes that are left to
+-- read now. `old` lists the bytes that were written before, and `new` lists all bytes that are written now. Each list
+-- may be unknown (`None`).
 module _ (from to old new : Option (List ℕ)) where
   pub record Finished : Type 0 where
     pub named : IfSome from (λ input. NamesNoLimit (lines_of input) → ⊥)
@@ -65,11 +66,11 @@ module _ (from to old new : Option (List ℕ)) where
     pub reads : TakesFirst from to
     pub writes : Appends old new no_limiter_text
 
-  -- The answers to the lines that were read whole were written, and nothing else.
+  -- The answers to all lines that were read whole were written, and no other text.
   abbrev pub ReadFailed : Type 0
   ReadFailed = OfRead (SoFar IsReplay) from to (Appends old new)
 
-  -- What was written is a beginning of the output for all lines, and also a beginning of the output for the lines that
+  -- The written text is a beginning of the output for all lines, and also a beginning of the output for the lines that
   -- were read.
   pub record WriteFailed : Type 0 where
     pub cut : OfAll IsOutput from (Begins old new)

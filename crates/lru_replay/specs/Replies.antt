@@ -3,7 +3,6 @@ use Rattle.std.specs.Prelude.{Bool, true, false, List, [], ◌∷◌, Option, No
 use Rattle.std.specs.declared.alloc.AllocError.{AllocError}
 use Rattle.lru_model.specs.Lists.{newest_value}
 use Rattle.lru_model.specs.declared.results.ReserveError.{ReserveError}
-use Rattle.lru_model.specs.declared.results.ReserveError.TheVariants.{Memory}
 use Rattle.lru_model.specs.declared.results.Updated.{Updated}
 use Rattle.lru_replay.specs.declared.calls.Answer.{Answer}
 use Rattle.lru_replay.specs.declared.calls.Answer.TheVariants as answers
@@ -12,7 +11,7 @@ use Rattle.lru_replay.specs.declared.lines.figures.Figures.{Figures}
 pub data Reply (K V : Type 0) : Type 0 where
   -- whether the key is in the map after the call
   flag : Bool → Reply K V
-  -- what an insert returned, and the pairs that it passed to its callback, in order
+  -- what an insert returned, and the pairs that the insert passed to its callback, in order
   given : Result Bool AllocError → List (K × V) → Reply K V
   updated : Updated V → Reply K V
   value : Option V → Reply K V
@@ -28,20 +27,7 @@ pub data Reply (K V : Type 0) : Type 0 where
   -- the call was not made, because the running total would be wrong after the call
   cost_differs : Reply K V
 
-pub data MemoryReport : Type 0 where
-  found_all : MemoryReport
-  runs_out : MemoryReport
-  -- an insert ran out of memory; the reply also lists the pairs that the insert passed to its callback
-  runs_out_with_pairs : MemoryReport
-
 module _ {K V : Type 0} where
-  abbrev pub memory_report : Reply K V → MemoryReport
-  memory_report no_memory = runs_out
-  memory_report (reserved (Err Memory)) = runs_out
-  memory_report (shrunk (Err e)) = runs_out
-  memory_report (given (Err e) out) = runs_out_with_pairs
-  memory_report reply = found_all
-
   abbrev pub said : Answer K V → Reply K V
   said (answers.Flag b) = flag b
   said (answers.Given result out) = given result out.items
@@ -71,7 +57,7 @@ module _ {K V : Type 0} where
   insert_reply (Ok there) = flag there
   insert_reply (Err e) = no_memory
 
-  -- the reply to a get that inserts, made from the result of the get and the pairs after it
+  -- the reply to a get that inserts, if the get returned this result and left these pairs
   abbrev pub made_reply : Result Bool AllocError → List (K × V) → Reply K V
   made_reply (Ok true) pairs = value (newest_value pairs)
   made_reply (Ok false) pairs = value None

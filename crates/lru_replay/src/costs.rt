@@ -1,5 +1,5 @@
-//! The theorems of `references`, for a map with a limit of cost, such as `ByCost` or `ByWeight`, and any `weight` of an
-//! entry.
+//! The theorems of `references`, for a map whose limiter limits the cost, as `ByCost` and `ByWeight` do, and for any
+//! `weight` of an entry.
 ghost use Rattle.std.specs.Prelude.{◌≡◌, ℕ, ◌-◌, ◌*◌, ◌^◌, ◌≤◌, ◌<◌, Bool, List, length, take, true};
 ghost use Rattle.std.specs.Prelude.{Some, Ok, Result, IsOk};
 ghost use Rattle.std.specs.declared.alloc.AllocError.{AllocError};
@@ -19,9 +19,9 @@ ghost use Rattle.lru_replay.specs.References.{KeepsToCost, CostsAlike, Reference
 use lru_limits::KeyHasher;
 use std::hash::Hash;
 
-/// A new map keeps to its cost (`KeepsToCost`) under these premises. The limit is below 2 ^ 63, and for each key below
-/// 234,881,023 times the cost of the key. An entry takes fewer than 2 ^ 32 - 1 bytes, and the link type can number 2 ^
-/// 31 buckets.
+/// A new map keeps to its cost (`KeepsToCost`) under these premises. The limit is below 2 ^ 63, and below 234,881,023
+/// times the cost of each key. An entry takes fewer than 2 ^ 32 - 1 bytes, and the links are wide enough for 2 ^ 31
+/// buckets.
 pub fn maps_keep_to_their_cost<K: Eq + Hash + Drop, V: Drop, S: KeyHasher<K>>()
     ensures { (weight : K → V → ℕ) (cost : K → ℕ) (limit entry_bytes max : ℕ) (hasher : S) →
         limit < 2 ^ 63 → ((key : K) → limit < 234881023 * cost key) → entry_bytes < 2 ^ 32 - 1 →

@@ -58,7 +58,7 @@ pub fn calls_make_references<K: Eq + Hash + Drop, V: Drop, S: KeyHasher<K>>()
     laws::calls_keep_the_length::<K, V, ByLength, S>();
 }
 
-/// If `ensure_newest` or `get_or_insert`, with the closure `make`, returns `Ok`, it makes a reference.
+/// If `ensure_newest` or `get_or_insert`, with the closure `make`, returns `Ok`, the call makes a reference.
 pub fn gets_that_insert_make_references<
     K: Eq + Hash + Drop,
     V: Drop,
@@ -75,7 +75,7 @@ pub fn gets_that_insert_make_references<
     laws::calls_keep_the_length::<K, V, ByLength, S>();
 }
 
-/// If the fallible form of `ensure_newest` or `get_or_insert` returns `Ok`, it makes a reference.
+/// If the fallible form of `ensure_newest` or `get_or_insert` returns `Ok`, the call makes a reference.
 pub fn gets_that_insert_if_made_make_references<
     K: Eq + Hash + Drop,
     V: Drop,

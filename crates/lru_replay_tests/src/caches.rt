@@ -1,4 +1,4 @@
-//! References by calls of `lru_caches`: of a memo, a loader and a page cache.
+//! Calls of a memo, of a loader and of a page cache that are references.
 ghost use Rattle.std.specs.Prelude.{◌≡◌, ◌≤◌, ◌∷◌, ℕ, Bool, false, IfOk, IsOk, List, OnOk, Result, nat_eq, take};
 ghost use Rattle.std.specs.Fn.{FnReturnsAt};
 ghost use Rattle.std.specs.String.{string_eq};
@@ -44,8 +44,8 @@ fn load<F: Fn(&String) -> Result<u64, u64>>(
 }
 
 /// Reads a block through a page cache that has no pins and may evict dirty pages. A successful read is a reference to
-/// the number: the numbers of the pages change like the keys of an LRU cache (`refers`). If the cached numbers were the
-/// numbers read last, they still are afterwards (`newest`).
+/// the block number: the numbers of the pages change like the keys of an LRU cache (`refers`). If the cached numbers
+/// were the numbers that were read last, they still are afterwards (`newest`).
 fn read<D: BlockDevice<u8>>(cache: &mut PageCache<u8, D>, n: u64) -> Result<u8, PageError<D::Error>>
     requires plain { cache.old.keeps_dirty ≡ false }
     requires unpinned { (m : ℕ) → pinned cache.old m ≡ false }

@@ -1,4 +1,4 @@
-//! Callers of runs, whose contracts follow from laws on runs, as in docs/CALLING.md.
+//! Functions that make runs, as in docs/CALLING.md. Their contracts follow from laws on runs.
 ghost use Rattle.std.specs.Prelude.{◌≡◌, ◌≤◌, ◌+◌, ◌*◌, ℕ, Bool, true, length, IfOk, OnOk, nat_eq};
 ghost use Rattle.std.specs.List.{IsDistinct, sum_by};
 ghost use Rattle.lru_model.specs.Exact.{HasTableFor};

@@ -1,4 +1,4 @@
-//! Programs with `String` keys under a limit of cost, whose contracts say how often they load a value.
+//! Programs with `String` keys under a limit of cost. Their contracts say how often they load a value.
 ghost use Rattle.std.specs.Prelude.{◌≡◌, ◌≤◌, ◌<◌, ◌+◌, ◌*◌, ◌^◌, ℕ, [], true, length, take, IfOk, OnOk, string_len, vec_len};
 ghost use Rattle.std.specs.Prelude.{Ok, Vec};
 ghost use Rattle.std.specs.List.{All};
@@ -133,7 +133,7 @@ fn read_both<L: Source>(
 }
 
 /// Makes a text the newest. If the text is not there, inserts it with a value from `make`. If each text determines how
-/// many bytes its value has, and these are within the limit, a successful call is a reference.
+/// many bytes its value has, and this number is within the limit, a successful call is a reference.
 fn remember<F: FnOnce() -> Vec<u8>>(
     map: &mut LruMap<String, Vec<u8>, ByCost>,
     text: String,

@@ -1,4 +1,4 @@
-//! Programs with `String` keys, whose contracts say how often they miss.
+//! Programs with `String` keys. Their contracts say how often they miss.
 ghost use Rattle.std.specs.Prelude.{◌≡◌, ◌≤◌, ◌<◌, ◌-◌, ◌+◌, ◌*◌, ℕ, [], List, IfOk, OnOk};
 ghost use Rattle.std.specs.String.{string_eq};
 ghost use Rattle.lru_model.specs.Kept.{KeepsToLength};

@@ -16,14 +16,14 @@ pub record ByteCache (N K V S : Type 0) : Type 0 where
   pub limit : ℕ
   pub hasher : S
 
--- the bytes of a map's table; the `usage` of a map is always `Some`
+-- the bytes of the table of a map; the `usage` of a map is always `Some`
 abbrev pub table_bytes : {K V L S : Type 0} → State K V L S → ℕ
 table_bytes map = unwrap_or (usage map.entry_bytes (buckets map)) 0
 
 abbrev pub limit_of : {K V S : Type 0} → State K V Bytes S → ℕ
 limit_of map = map.limiter.limit
 
--- the empty map with which a tenant opens
+-- the empty map of a newly opened tenant
 abbrev pub fresh : {K V S : Type 0} → ℕ → S → ℕ → State K V Bytes S
 fresh entry_bytes hasher own =
     empty_map (record { limit = own; owned = 0; table = 0 }) hasher entry_bytes max_of_32_bits
@@ -32,14 +32,16 @@ module _ {N K V S : Type 0} where
   abbrev pub tenant : (N → Bool) → ByteCache N K V S → Option (State K V Bytes S)
   tenant named cache = lookup named cache.tenants
 
-  -- the bytes that a tenant's name owns, the bytes of its table, and the bytes that its entries own
+  -- the sum of the bytes that a tenant's name owns, the bytes of the tenant's table, and the bytes that the tenant's
+  -- entries own
   abbrev pub taken : (N → ℕ) → (K → V → ℕ) → N × State K V Bytes S → ℕ
   taken of_name of_pair t = of_name t.0 + table_bytes t.1 + sum_by (λ pair. of_pair pair.0 pair.1) t.1.pairs
 
   abbrev pub IsWithin : (N → ℕ) → (K → V → ℕ) → ByteCache N K V S → Type 0
   IsWithin of_name of_pair cache = cache.table + sum_by (taken of_name of_pair) cache.tenants ≤ cache.limit
 
-  -- the bytes of the table of tenants, plus for each tenant its own limit and the bytes that its name owns
+  -- the bytes of the table of tenants, plus, for each tenant, the tenant's limit and the bytes that the tenant's name
+  -- owns
   abbrev pub reserved : (N → ℕ) → ByteCache N K V S → ℕ
   reserved of_name cache = cache.table + sum_by (λ t. both_own of_name limit_of t.0 t.1) cache.tenants
 

@@ -34,21 +34,21 @@ module _ {N K V L S : Type 0} where
   abbrev pub tenant : (N → Bool) → Cache N K V L S → Option (State K V L S)
   tenant named cache = lookup named cache.tenants
 
-  -- the empty map of a new tenant, whose limiter `made` makes; an entry takes `entry_bytes` bytes, and `max` is the
-  -- number of the link `MAX`
+  -- The empty map of a new tenant. `made` makes the limiter, an entry takes `entry_bytes` bytes, and `max` is the
+  -- number of the link `MAX`.
   abbrev pub fresh : (ℕ → L) → ℕ → ℕ → Cache N K V L S → ℕ → State K V L S
   fresh made entry_bytes max cache budget = empty_map (made budget) cache.hasher entry_bytes max
 
   pub record Leaves (eq : N → N → Bool) (names : N → Bool) (left : Option (State K V L S)) (old new : Cache N K V L S)
       : Type 0 where
-    -- if the call names the tenant x, it names exactly the tenants whose names equal x
+    -- if the call names the tenant x, the call names exactly the tenants whose names equal x
     pub one : (x y : N) → names x ≡ true → names y ≡ eq x y
     pub own : tenant names new ≡ left
     pub tenants : (other : N) → tenant (eq other) new ≡ cond (names other) left (tenant (eq other) old)
     pub hasher : new.hasher ≡ old.hasher
     pub total_limit : new.total_limit ≡ old.total_limit
 
-  -- a call changes the named tenant as `Does` says, and no other tenant
+  -- a call changes the named tenant as `Does` says, and does not change the other tenants
   abbrev pub On : {R : Type 0} → (N → N → Bool) → (N → Bool)
       → (Option (State K V L S) → R → Option (State K V L S) → Type 0) → Cache N K V L S → R → Cache N K V L S → Type 0
   On eq names Does old answer new =

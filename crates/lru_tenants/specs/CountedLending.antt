@@ -1,4 +1,4 @@
--- What a cache that counts is after the loan of one of its values has ended.
+-- What a counting cache is after the loan of one of its values has ended.
 use Rattle.std.specs.Borrow.{Fml, RattleType, MutBor}
 use Rattle.std.specs.HashMap.Lent.{HashMembers}
 use Rattle.std.specs.declared.hash.Hasher as hasher

@@ -1,5 +1,5 @@
 -- A limiter that carries the counts of its map, and what counted calls do.
---     rules, terms        the `Rules` and `Terms` of the limiter inside
+--     `rules`, `terms`: the `Rules` and `Terms` of the limiter inside.
 use Rattle.std.specs.Prelude.{◌≡◌, ℕ, Bool, true, false, Option, Some, is_some, Result, Ok, Err}
 use Rattle.std.specs.Result.{result_map_both}
 use Rattle.std.proofs.Common.{ap}
@@ -22,7 +22,7 @@ module _ {L : Type 0} where
   with_inside s limiter = record s { limiter = limiter }
 
 module _ {K V L : Type 0} where
-  -- no callback changes the counts
+  -- the rules of the limiter inside; no callback changes the counts
   abbrev pub counting_rules : Rules K V L → Rules K V (Counting L)
   counting_rules rules = record {
     is_over_the_limit = λ s. rules.is_over_the_limit s.limiter;
@@ -39,7 +39,7 @@ module _ {K V L : Type 0} where
     admit_in_place = λ s n k v w. with_inside s (terms.admit_in_place s.limiter n k v w);
   }
 
-  -- the limiter inside gives what the limiter gives
+  -- for an offer, the limiter inside returns what the outer limiter returns
   gives-inside : (s t : Counting L) {accepts : Bool} {limiter : L} {k : K} {v : V} {given : Option (K × V)}
       → ReturnsPairIf accepts (with_inside s limiter) k v t given → ReturnsPairIf accepts limiter k v t.limiter given
   gives-inside s t h = record { limiter = ap (λ t. t.limiter) h.limiter; pair = h.pair }
@@ -84,8 +84,8 @@ abbrev pub is_kept : {E : Type 0} → Result Bool E → Bool
 is_kept (Ok kept) = kept
 is_kept (Err e) = false
 
--- The counts after a get that inserts an absent key: a hit, or a miss and the insert, which evicted n entries. `found`
--- says whether the key was there.
+-- The counts after a get that inserts an absent key: a hit, or a miss and an insert. The insert evicted n entries.
+-- `found` says whether the key was there.
 abbrev pub got_or_put : {E : Type 0} → (found : Bool) → Result Bool E → ℕ → Counts → Counts
 got_or_put true answer n counts = looked_up true counts
 got_or_put false answer n counts = looked_up false (inserted answer n counts)
@@ -94,7 +94,7 @@ module _ {K V L S : Type 0} where
   abbrev pub with_counts : Counts → State K V (Counting L) S → State K V (Counting L) S
   with_counts counts map = with_limiter (record map.limiter { counts = counts }) map
 
-  -- the counts of the map changed by f
+  -- the map with f applied to its counts
   abbrev pub counted : (Counts → Counts) → State K V (Counting L) S → State K V (Counting L) S
   counted f map = with_counts (f map.limiter.counts) map
 
@@ -122,21 +122,21 @@ module _ {K V L S : Type 0} where
   CountsInsert Inserts names old answer new = (left : State K V (Counting L) S) × Inserts old answer left
       × (new ≡ counted (inserted answer (evicted names old.pairs left.pairs)) left)
 
-  -- a put that does so
+  -- a put that counts an insertion or a rejection, and the evictions
   abbrev pub CountsPut : (Puts : State K V (Counting L) S → Result Bool TenantError
       → Option (State K V (Counting L) S) → Type 0)
       → (K → Bool) → State K V (Counting L) S → Result Bool TenantError → Option (State K V (Counting L) S) → Type 0
   CountsPut Puts names old answer new = (left : State K V (Counting L) S) × Puts old answer (Some left)
       × (new ≡ Some (counted (inserted answer (evicted names old.pairs left.pairs)) left))
 
-  -- a get that inserts an absent key, and counts; the answer says whether the key is there afterwards
+  -- a counted get that inserts an absent key; the answer says whether the key is there afterwards
   abbrev pub CountsGetOrInsert : {E : Type 0}
       → (Gets : State K V (Counting L) S → Result Bool E → State K V (Counting L) S → Type 0)
       → (K → Bool) → State K V (Counting L) S → Result Bool E → State K V (Counting L) S → Type 0
   CountsGetOrInsert Gets names old answer new = (left : State K V (Counting L) S) × Gets old answer left
       × (new ≡ counted (got_or_put (is_some (lookup names old.pairs)) answer (evicted names old.pairs left.pairs)) left)
 
-  -- the same, but the answer is the value, if the key is there afterwards
+  -- a counted get that inserts an absent key; the answer is the value, if the key is there afterwards
   abbrev pub CountsGetOrPut : (Gets : State K V (Counting L) S → Result (Option V) TenantError
       → Option (State K V (Counting L) S) → Type 0)
       → (K → Bool) → State K V (Counting L) S → Result (Option V) TenantError → Option (State K V (Counting L) S)

@@ -28,7 +28,7 @@ abbrev pub has_entries : {K V L S : Type 0} → Option (Part K V L S) → Bool
 has_entries None = false
 has_entries (Some own) = not (is_empty own.1.pairs)
 
--- `tenants` is the map from the names to the maps of the tenants
+-- `tenants` maps the name of each tenant to the map of this tenant
 pub record HoldsBytes {N K V S : Type 0} (of_name : N → ℕ) (of_pair : K → V → ℕ)
     (tenants : State N (State K V Bytes S) Bytes S) : Type 0 where
   pub each : All (KeepsBytes of_pair) (values_of tenants.pairs)

@@ -1,12 +1,12 @@
--- What calls of any kind on a cache, one after another, do to one tenant.
+-- How calls of any kind on a cache, one after another, change one tenant.
 --     `names name`: whether the call names the tenant of this name.
 --     `named call`: the tenant that the call names.
---     `Does call old answer new`: what the call may do to this tenant, and may return.
+--     `Does call old answer new`: what the call may do to this tenant, and what the call may return.
 use Rattle.std.specs.Prelude.{◌≡◌, ◌⊎◌, Bool, true, false, List, [], ◌∷◌, Option}
 use Rattle.lru_model.specs.State.{State}
 use Rattle.lru_tenants.specs.Cache.{Cache, tenant, Leaves}
 
--- what a call did: which tenant it names, and this tenant before and after the call
+-- what a call did: which tenant the call names, and this tenant before and after the call
 pub record Did (N K V L S : Type 0) : Type 0 where
   pub names : N → Bool
   pub found : Option (State K V L S)
@@ -19,8 +19,8 @@ module _ {N K V L S : Type 0} where
   CacheRun eq old (did ∷ more) new = (mid : Cache N K V L S) × (did.found ≡ tenant did.names old)
       × Leaves eq did.names did.left old mid × CacheRun eq mid more new
 
-  -- Each call on this tenant finds what the previous call on this tenant left. The first of these calls finds `old`,
-  -- and the last leaves `new`.
+  -- Before the first call on this tenant, the tenant is `old`, and after the last call it is `new`. Between two calls
+  -- on this tenant, the tenant does not change.
   abbrev pub Chain : N → Option (State K V L S) → List (Did N K V L S) → Option (State K V L S) → Type 0
   Chain name old [] new = new ≡ old
   Chain name old (did ∷ more) new = ((did.names name ≡ true) × (did.found ≡ old) × Chain name did.left more new)
@@ -28,7 +28,7 @@ module _ {N K V L S : Type 0} where
 
 module _ {N K V L S C R : Type 0} (named : C → N)
     (Does : C → Option (State K V L S) → R → Option (State K V L S) → Type 0) where
-  -- The calls that name this tenant, with their answers, change the tenant from `old` to `new`.
+  -- The calls that name this tenant change the tenant from `old` to `new`, and return these answers.
   abbrev pub OwnRun : (N → Bool) → Option (State K V L S) → List C → List R → Option (State K V L S) → Type 0
   OwnRun own old [] [] new = new ≡ old
   OwnRun own old (call ∷ calls) (answer ∷ answers) new =

@@ -1,8 +1,8 @@
--- A pool: tenants with their shares of one limit.
+-- A pool: tenants that share one limit. Each tenant has a share of the limit.
 --     `names name`: whether the call names the tenant of this name.
 --     `rules`, `offers`: the limiter's `Rules` and `Offers` (`lru_limits`).
 --     `own.0`, `own.1`: the share and the map of a tenant.
---     `account s`: the sum of the costs of the entries, by the limiter s.
+--     `account s`: the running total of the limiter s, which is the sum of the costs of the entries.
 use Rattle.std.specs.Prelude.{◌≡◌, ℕ, ◌≤◌, ◌<◌, ◌+◌, ◌-◌, Bool, false, List, [], ◌∷◌, length, Option, Some, None}
 use Rattle.std.specs.Prelude.{option_map, is_some, sum_by, nat_lt, Result, Ok, Err, OnErr}
 use Rattle.std.specs.declared.alloc.AllocError.{AllocError}
@@ -23,7 +23,7 @@ Part K V L S = ℕ × State K V L S
 pub record Pool (N K V L S : Type 0) : Type 0 where
   -- the open tenants by their names, in no particular order
   pub tenants : List (N × Part K V L S)
-  -- the limit of the total of all costs, and also of the total of all shares
+  -- the limit of the sum of all costs, and also of the sum of all shares
   pub limit : ℕ
   pub hasher : S
 
@@ -34,8 +34,8 @@ module _ {K V L S : Type 0} (account : L → ℕ) where
   abbrev pub excess : Part K V L S → ℕ
   excess own = cost own - own.0
 
-  -- What calls that name other tenants may do to a tenant: if the cost of its entries is above its share, they may
-  -- evict its oldest entries.
+  -- What a call may do to a tenant that the call does not name. If the tenant's entries cost more than the tenant's
+  -- share, the call may evict the oldest of these entries.
   pub record Spares (own left : Part K V L S) : Type 0 where
     pub share : left.0 ≡ own.0
     pub front : IsFront left.1.pairs own.1.pairs
@@ -60,8 +60,8 @@ abbrev pub with_map : {K V L S : Type 0} → State K V L S → Part K V L S → 
 with_map map own = (own.0, map)
 
 module _ {N K V L S : Type 0} (rules : Rules K V L) (account : L → ℕ) (eq : N → N → Bool) where
-  -- The oldest entry of the tenant furthest above its share is evicted. If several tenants are equally far above their
-  -- shares, any of these may lose its oldest entry.
+  -- The tenant that is furthest above its share loses its oldest entry. If several tenants are equally far above their
+  -- shares, one of these tenants loses its oldest entry.
   pub record Evicts (old new : List (N × Part K V L S)) : Type 0 where
     pub name : N
     pub own : Part K V L S
@@ -73,7 +73,7 @@ module _ {N K V L S : Type 0} (rules : Rules K V L) (account : L → ℕ) (eq : 
     pub pops : PopOldest rules own.1 (Some gone) left
     pub is : new ≡ set_value (eq name) old (with_map left own)
 
-  -- evictions, one after another, while the total is above the limit
+  -- evictions, one after another, while the sum of all costs is above the limit
   pub data Evictions (limit : ℕ) (new : List (N × Part K V L S)) : List (N × Part K V L S) → Type 0 where
     ends : total_cost account new ≤ limit → Evictions limit new new
     evicts : {old : List (N × Part K V L S)} (mid : List (N × Part K V L S)) → limit < total_cost account old
@@ -143,8 +143,8 @@ module _ {N K V L S : Type 0} where
   PoolRun account eq old (names ∷ more) new =
       (mid : Pool N K V L S) × SparesOthers account eq names old mid × PoolRun account eq mid more new
 
-  -- A put inserts the entry into the tenant's map. If the insert does not fail, entries are evicted while the total is
-  -- above the limit.
+  -- A put inserts the entry into the tenant's map. If the insert does not fail, entries are evicted while the sum of
+  -- all costs is above the limit.
   pub record Puts (rules : Rules K V L) (offers : Offers K V L K) (account : L → ℕ) (eq : N → N → Bool)
       (same : K → K → Bool) (hash_of : S → K → ℕ) (names : N → Bool) (key : K) (value : V) (own : Part K V L S)
       (old : Pool N K V L S) (answer : Result Bool TenantError) (new : Pool N K V L S) : Type 0 where

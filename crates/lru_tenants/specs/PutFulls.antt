@@ -10,8 +10,8 @@ module _ {K V L S : Type 0} (accepts : L → K → V → Bool) (eq : K → K →
   abbrev pub rejects : State K V L S → Bool
   rejects map = not (accepts map.limiter key value) && not (is_some (lookup (eq key) map.pairs))
 
-  -- The value that the map does not keep: the value of a new key if the key is rejected, or else the `unkept_value` of
-  -- the insert.
+  -- The value that the map does not keep: the given value if the key is new and the limiter rejects the entry, or else
+  -- the `unkept_value` of the insert.
   abbrev pub comes_back : Rules K V L → Offers K V L K → State K V L S → Option V
   comes_back rules offers map =
       if rejects map then Some value else unkept_value rules offers eq key value (contents map)

@@ -1,5 +1,5 @@
 -- What a call does to the tenant that it names, and what a run of calls does to each tenant.
---     `fresh budget`: the empty map with which a tenant opens.
+--     `fresh budget`: the empty map of a newly opened tenant.
 use Rattle.std.specs.Prelude.{◌≡◌, ◌≤◌, ◌⊎◌, ℕ, Bool, true, false, List, [], length, reverse, Option, Some, None}
 use Rattle.std.specs.Prelude.{option_map, IfSome}
 use Rattle.std.specs.Prelude.{Result, Ok, Err}
@@ -31,10 +31,10 @@ abbrev pub put_answer : {R : Type 0} → Result R AllocError → Result R Tenant
 put_answer (Ok inserted) = Ok inserted
 put_answer (Err e) = Err Memory
 
--- The definitions below say what each call may return, and how it leaves the tenant that it names. `None` stands for a
--- tenant that is not open.
+-- The definitions below say what each call may return, and what the named tenant may be after the call. `None` stands
+-- for a tenant that is not open.
 
--- If the sum of the budgets would be over the limit, or memory runs out, the tenant stays closed.
+-- If the sum of the budgets would be over the limit, or if memory runs out, the tenant stays closed.
 abbrev pub Opens : {X : Type 0} → Bool → X → Option X → Result (Unit {0}) TenantError → Option X → Type 0
 Opens over fresh (Some map) answer new = (answer ≡ Err AlreadyOpen) × (new ≡ Some map)
 Opens true fresh None answer new = (answer ≡ Err OverTotal) × (new ≡ None)
@@ -51,14 +51,14 @@ module _ {K V L S : Type 0} where
   read_of reads None = Err NotOpen
   read_of reads (Some map) = Ok (reads map)
 
-  -- a call that never fails on an open tenant, and leaves the tenant open
+  -- a call that does not fail if the tenant is open, and does not close the tenant
   abbrev pub IfOpen : {R : Type 0} → (State K V L S → R → State K V L S → Type 0) → Option (State K V L S)
       → Result R TenantError → Option (State K V L S) → Type 0
   IfOpen {R} does = OfOpen (λ map answer new.
       (result : R) × (left : State K V L S) × does map result left × (answer ≡ Ok result) × (new ≡ Some left))
 
-  -- If the total limit permits the new budget, the tenant gets this budget, and its oldest entries above the budget are
-  -- evicted.
+  -- If the total limit permits the new budget, the tenant gets this budget, and the tenant's oldest entries are evicted
+  -- while the tenant is over the budget.
   abbrev pub SetsBudget : Rules K V L → (L → L) → Bool → State K V L S → Result (Unit {0}) TenantError
       → Option (State K V L S) → Type 0
   SetsBudget rules rebudgeted true map answer new = (answer ≡ Err OverTotal) × (new ≡ Some map)
@@ -87,7 +87,7 @@ module _ {K V L S : Type 0} where
   abbrev pub Closes : State K V L S → Result ℕ TenantError → Option (State K V L S) → Type 0
   Closes map answer new = (answer ≡ Ok (length map.pairs)) × (new ≡ None)
 
-  -- a put, which does not change the tenant's budget
+  -- A put does not change the budget of the tenant.
   module _ (rules : Rules K V L) (offers : Offers K V L K) (budget_of : L → ℕ) (eq : K → K → Bool)
       (hash_of : S → K → ℕ) (key : K) (value : V) where
     pub record Puts (old : State K V L S) (answer : Result Bool TenantError) (new : Option (State K V L S))
@@ -108,8 +108,8 @@ module _ {K V L S : Type 0} where
 module _ {N K V L S : Type 0} (rules : Rules K V L) (offers : Offers K V L K) (cost : K → V → ℕ)
     (account budget_of : L → ℕ) (eq : K → K → Bool) (hash_of : S → K → ℕ) (fresh : ℕ → State K V L S)
     (total_limit : Option ℕ) where
-  -- The call may return `answer`, and leave the tenant that it names as `new`. `sum` is the sum of all budgets, the new
-  -- budget included. The sum depends on the other tenants, so the step only says that the sum is at least the new
+  -- The call may return `answer` and change the named tenant from `old` to `new`. `sum` is the sum of all budgets, the
+  -- new budget included. The sum depends on the other tenants, so the step only says that the sum is at least the new
   -- budget.
   abbrev pub TenantStep : TenantCall N K V → Option (State K V L S) → TenantAnswer V → Option (State K V L S) → Type 0
   TenantStep (calls.Open name budget) old answer new = (result : Result (Unit {0}) TenantError) × (sum : ℕ)

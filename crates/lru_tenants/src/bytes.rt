@@ -28,8 +28,8 @@ use tenant::ByteTenant;
 ///
 /// Each tenant's map has its own limit, as under [`ByBytes`]. While a table grows, the old table is not counted.
 ///
-/// In the examples of the calls, `bytes` has a limit of 4,000 bytes, and tenant 1 with a limit of 500 bytes and the
-/// entry (7, 2).
+/// In the examples of the calls, `bytes` has a limit of 4,000 bytes, and one tenant, 1, with a limit of 500 bytes and
+/// the entry (7, 2).
 ///
 /// ```
 /// let mut bytes: ByteTenants<u64, u64, u64> = ByteTenants::new(alloc, [1, 2, 3, 4], 4000);
@@ -124,7 +124,7 @@ impl<
         }
     }
 
-    /// Opens a tenant with an empty map, and reserves its limit until it is closed.
+    /// Opens a tenant with an empty map, and reserves the tenant's limit until the tenant is closed.
     ///
     /// ```
     /// assert_eq!(rt; (bytes.open(1, 100), bytes.open(2, 100)), (Err(TenantError::AlreadyOpen), Ok(())));

@@ -8,7 +8,8 @@ use lru_limits::{Admission, Budgeted, Limiter, Summing};
 /// In a `TenantCache` with this limiter, call `get_counted`, `put_counted` and `get_or_put_counted`. No other call
 /// counts.
 ///
-/// In the examples of the calls, `counted` has one tenant, 1, with a budget of 3, the entry (7, 2) and its insertion.
+/// In the examples of the calls, `counted` has one tenant, 1, with a budget of 3, the entry (7, 2) and the count of its
+/// insertion.
 ///
 /// ```
 /// assert_eq!(rt; counted.get_counted(&1, &7), Ok(Some(&2)));

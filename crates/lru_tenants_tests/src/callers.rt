@@ -1,4 +1,4 @@
-//! Functions that call a cache and a pool, with contracts of their own.
+//! Functions with their own contracts, which call a cache and a pool.
 ghost use Rattle.std.specs.Prelude.{◌≡◌, ℕ, nat_eq, string_eq, false};
 ghost use Rattle.lru_limits.specs.Texts.{names_text};
 ghost use Rattle.lru_tenants.specs.Cache.{tenant};

@@ -1,5 +1,4 @@
-//! The caches of numbers in the examples of the docs. Tests of the texts of errors, and of names and keys
-//! that are texts.
+//! The caches of numbers in the examples of the docs. Tests of error texts, and of texts as names and keys.
 use lru_tenants::{
     ByCost, ByteTenants, Counting, TenantCache, TenantError, TenantPool,
     costs_are_within_the_total_limit,

@@ -1,6 +1,7 @@
 -- MIN is a policy that stores each referenced key. MIN with bypass is a policy that need not store each one.
 use Rattle.std.proofs.Common.{◌≡◌, ℕ, zero, suc, ◌+◌, ◌≤◌, ◌<◌, Bool, true, false, cond, List, [], ◌∷◌, length, take}
 use Rattle.std.proofs.Common.{refl, ap, arith}
+use Rattle.std.proofs.lemmas.Bool.{or_right}
 use Rattle.std.proofs.lemmas.List.{length-take}
 use Rattle.std.specs.Cmp.{IsEquivalence}
 use Rattle.std.specs.Prelude.{◌||◌, nat_le}
@@ -27,11 +28,7 @@ module _ {K : Type 0} {eq : K → K → Bool} (laws : IsEquivalence eq) where
       go : (b : Bool) → is_in eq key (put eq trace key xs) ≡ true
           → is_in eq key (cond b (key ∷ (x ∷ xs)) (x ∷ put eq trace key xs)) ≡ true
       go true ih = rw (laws.refl key) refl
-      go false ih = rw ih (or_true (eq key x))
-        where
-          or_true : (b : Bool) → (b || true) ≡ true
-          or_true true = refl
-          or_true false = refl
+      go false ih = or_right (eq key x) (is_in eq key (put eq trace key xs)) ih
 
   outside_put : (old trace : List K) (key : K) (xs : List K)
       → outside eq old (put eq trace key xs) ≡ fault eq key old + outside eq old xs

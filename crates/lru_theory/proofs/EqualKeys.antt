@@ -1,20 +1,16 @@
 -- Lists that are equal key by key.
 use Rattle.std.proofs.Common.{◌≡◌, ℕ, zero, suc, ◌+◌, Bool, true, false, cond, List, [], ◌∷◌, length, take}
 use Rattle.std.proofs.Common.{refl, ap, ◌∙◌}
-use Rattle.std.proofs.lemmas.Bool.{and_parts}
+use Rattle.std.proofs.lemmas.Bool.{and_from, and_parts}
 use Rattle.std.proofs.lemmas.Cmp.{lists_equiv}
 use Rattle.std.specs.Cmp.{IsEquivalence}
 use Rattle.std.specs.Cmp.Lexicographic.{pointwise}
-use Rattle.std.specs.Prelude.{◌||◌, ◌&&◌}
+use Rattle.std.specs.Prelude.{◌||◌}
 use Rattle.std.specs.List.{AllByRecursion, IsDistinct}
 use Rattle.std.proofs.lemmas.Map.Keys.{IsDistinct-tail, IsDistinct-head}
 use Rattle.std.specs.Set.{remove_key}
 use Rattle.lru_theory.specs.Inclusion.{KeyCall, refers, promotes, removes, clears, looks, after_call}
 use Rattle.lru_theory.specs.Traces.{is_in, recency, refer, cached_by, faults_by, AreEqual}
-
-and_both : (b d : Bool) → b ≡ true → d ≡ true → (b && d) ≡ true
-and_both true d e h = h
-and_both false d e h = e
 
 module _ {K : Type 0} (eq : K → K → Bool) where
   pub head_equal : (x : K) (xs : List K) (y : K) (ys : List K) → AreEqual eq (x ∷ xs) (y ∷ ys) → eq x y ≡ true
@@ -25,7 +21,7 @@ module _ {K : Type 0} (eq : K → K → Bool) where
 
   pub both_equal : (x : K) (xs : List K) (y : K) (ys : List K) → eq x y ≡ true → AreEqual eq xs ys
       → AreEqual eq (x ∷ xs) (y ∷ ys)
-  both_equal x xs y ys e h = and_both (eq x y) (pointwise eq xs ys) e h
+  both_equal x xs y ys e h = and_from (eq x y) (pointwise eq xs ys) e h
 
   pub taken_equal : (n : ℕ) (xs ys : List K) → AreEqual eq xs ys → AreEqual eq (take n xs) (take n ys)
   taken_equal zero xs ys e = refl

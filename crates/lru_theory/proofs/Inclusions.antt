@@ -1,9 +1,9 @@
 -- Any call keeps a smaller cache included in a larger one.
 use Rattle.std.proofs.Common.{◌≡◌, ℕ, zero, suc, ◌+◌, ◌-◌, ◌≤◌, Bool, true, false, cond, List, [], ◌∷◌, length, take}
 use Rattle.std.proofs.Common.{refl, ap, ◌∙◌, subst, arith}
-use Rattle.std.proofs.lemmas.Bool.{or_parts}
 use Rattle.std.proofs.lemmas.List.{length-take}
 use Rattle.std.proofs.lemmas.Map.Made.{length-remove_key}
+use Rattle.std.proofs.lemmas.Bool.{or_right}
 use Rattle.std.specs.Cmp.{IsEquivalence}
 use Rattle.std.specs.Prelude.{◌||◌}
 use Rattle.std.specs.Set.{remove_key}
@@ -11,6 +11,7 @@ use Rattle.lru_theory.specs.Traces.{is_in, refer, faults, AreEqual}
 use Rattle.lru_theory.specs.Inclusion.{KeyCall, refers, promotes, removes, clears, looks, after_call, after_calls}
 use Rattle.lru_theory.specs.Inclusion.{IsSubsequence, none, both, skips, IsIncluded}
 use Rattle.lru_theory.proofs.EqualKeys.{head_equal, tail_equal, named_alike, equal_long}
+use Rattle.lru_theory.proofs.Nexts.{without_absent}
 
 pub clash : {b : Bool} {A : Type 0} → b ≡ false → b ≡ true → A
 clash e h = absurd cc
@@ -91,24 +92,14 @@ module _ {K : Type 0} {eq : K → K → Bool} (laws : IsEquivalence eq) where
       go b true is e ih = refl
       go true false is e ih = clash is refl
       go false false is e ih = ih e
-  sub_in key _ _ (skips y xs ys h) e = go (eq key y) (sub_in key xs ys h e)
-    where
-      go : (b : Bool) → is_in eq key ys ≡ true → (b || is_in eq key ys) ≡ true
-      go true ih = refl
-      go false ih = ih
-
-  pub without_missing : (key : K) (xs : List K) → is_in eq key xs ≡ false → remove_key (eq key) xs ≡ xs
-  without_missing key [] e = refl
-  without_missing key (x ∷ xs) e =
-      let parts = or_parts (eq key x) (is_in eq key xs) e in
-      rw parts.0 (ap (λ ys. x ∷ ys) (without_missing key xs parts.1))
+  sub_in key _ _ (skips y xs ys h) e = or_right (eq key y) (is_in eq key ys) (sub_in key xs ys h e)
 
   without_few : (key : K) (xs : List K) → length (remove_key (eq key) xs) ≤ length xs
   without_few key xs = go (is_in eq key xs) refl
     where
       go : (b : Bool) → is_in eq key xs ≡ b → length (remove_key (eq key) xs) ≤ length xs
       go true e = omega (arith, length-remove_key (eq key) xs e)
-      go false e = omega (arith, ap length (without_missing key xs e))
+      go false e = omega (arith, ap length (without_absent laws key xs e))
 
   gap_without : (d : ℕ) (key : K) (xs ys : List K) → Sub xs ys → length ys ≤ length xs + d
       → length (remove_key (eq key) ys) ≤ length (remove_key (eq key) xs) + d
@@ -122,7 +113,7 @@ module _ {K : Type 0} {eq : K → K → Bool} (laws : IsEquivalence eq) where
         length-remove_key (eq key) ys
             (sub_in key xs ys h e),
       )
-      go false e = omega (arith, few, ap length (without_missing key xs e), without_few key ys)
+      go false e = omega (arith, few, ap length (without_absent laws key xs e), without_few key ys)
 
   one_call : (n m : ℕ) → n ≤ m → (call : KeyCall K) (xs ys : List K) → IsIncluded eq n m xs ys
       → IsIncluded eq n m (after_call eq n call xs) (after_call eq m call ys)
@@ -155,7 +146,7 @@ module _ {K : Type 0} {eq : K → K → Bool} (laws : IsEquivalence eq) where
       go true false e f = clash f (sub_in key xs ys h.keys e)
       go false true e f = record {
         keys = skips key xs (remove_key (eq key) ys) (subst (λ zs. Sub zs (remove_key (eq key) ys))
-            (without_missing key xs e) (sub_without key xs ys h.keys));
+            (without_absent laws key xs e) (sub_without key xs ys h.keys));
         more = omega (arith, h.more, length-remove_key (eq key) ys f);
       }
       go false false e f = h

@@ -1,7 +1,7 @@
 -- Recency lists: what a cache of n places contains, and when a reference misses in it.
 use Rattle.std.proofs.Common.{◌≡◌, ℕ, zero, suc, ◌+◌, ◌≤◌, ◌<◌, Bool, true, false, cond, List, [], ◌∷◌, length, take}
 use Rattle.std.proofs.Common.{refl, sym, ap, ◌∙◌, arith, ◌⊎◌, inl, inr}
-use Rattle.std.proofs.lemmas.Bool.{lt-ltb, le-ltb, le-leb, lt-leb, cases_lt}
+use Rattle.std.proofs.lemmas.Bool.{both_ways, lt-ltb, le-ltb, le-leb, lt-leb, cases_lt}
 use Rattle.std.proofs.lemmas.List.{take-take}
 use Rattle.std.specs.Cmp.{IsEquivalence}
 use Rattle.std.specs.Prelude.{not, ◌||◌, ◌&&◌, nat_lt, nat_le}
@@ -94,10 +94,7 @@ module _ {K : Type 0} {eq : K → K → Bool} (laws : IsEquivalence eq) where
       go : (b d : Bool) → eq a x ≡ b → eq key x ≡ d
           → since eq key (remove_key (eq a) xs) ≡ remove_key (eq a) (since eq key xs)
           → since eq key (cond b xs (x ∷ remove_key (eq a) xs)) ≡ remove_key (eq a) (cond d [] (x ∷ since eq key xs))
-      go true true same found ih = absurd (both (apart_too laws key a x apart same) found)
-        where
-          both : {b : Bool} → b ≡ false → b ≡ true → ⊥
-          both e h = absurd cc
+      go true true same found ih = absurd (both_ways _ (apart_too laws key a x apart same) found)
       go true false same found ih = rw same refl
       go false true same found ih = rw found refl
       go false false same found ih = rw (found, same) (ap (λ ys. x ∷ ys) ih)

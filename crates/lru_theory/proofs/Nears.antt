@@ -1,7 +1,7 @@
 -- How many different keys of another cache are among the first references of a trace.
 use Rattle.std.proofs.Common.{◌≡◌, ℕ, zero, suc, ◌+◌, ◌≤◌, Bool, true, false, cond, List, [], ◌∷◌, length}
 use Rattle.std.proofs.Common.{refl, sym, ap, ◌∙◌, arith, ◌<◌, inl, inr, ◌⊎◌}
-use Rattle.std.proofs.lemmas.Bool.{lt-ltb, le-ltb, cases_lt, and_parts}
+use Rattle.std.proofs.lemmas.Bool.{lt-ltb, le-ltb, cases_lt, and_parts, and_from, or_right, not-true, not_from_false}
 use Rattle.std.proofs.lemmas.Map.Made.{length-remove_key}
 use Rattle.std.specs.Cmp.{IsEquivalence}
 use Rattle.std.specs.Prelude.{◌||◌, ◌&&◌, not, nat_lt}
@@ -12,6 +12,7 @@ use Rattle.lru_theory.specs.Best.{until}
 use Rattle.lru_theory.proofs.Inclusions.{clash}
 use Rattle.lru_theory.proofs.EqualKeys.{named_alike}
 use Rattle.lru_theory.proofs.Nexts.{soon}
+use Rattle.lru_theory.proofs.Windows.{in_named}
 
 module _ {K : Type 0} (eq : K → K → Bool) where
   -- how many of the first d references of the trace are the first reference to a key that passes the test
@@ -23,10 +24,6 @@ module _ {K : Type 0} (eq : K → K → Bool) where
 bit : (b d : Bool) → (b ≡ true → d ≡ true) → cond b 1 0 ≤ cond d 1 0
 bit false d h = omega arith
 bit true d h = rw (h refl) (omega arith)
-
-both : (b d : Bool) → b ≡ true → d ≡ true → (b && d) ≡ true
-both true d e h = h
-both false d e h = e
 
 shifted : (n d : ℕ) → cond {A = ℕ} (nat_lt (suc n) (suc d)) 1 0 ≡ cond (nat_lt n d) 1 0
 shifted n d = go (cases_lt n d)
@@ -46,7 +43,8 @@ module _ {K : Type 0} {eq : K → K → Bool} (laws : IsEquivalence eq) where
   near_fewer (suc d) [] p q h = omega arith
   near_fewer (suc d) (x ∷ trace) p q h =
       let later = near_fewer d trace (λ z. p z && not (eq x z)) (λ z. q z && not (eq x z))
-      (λ z e. both (q z) (not (eq x z)) (h z (and_parts (p z) (not (eq x z)) e).0) (and_parts (p z) (not (eq x z)) e).1)
+      (λ z e. and_from (q z) (not (eq x z)) (h z (and_parts (p z) (not (eq x z)) e).0)
+      (and_parts (p z) (not (eq x z)) e).1)
       in
       omega (arith, bit (p x) (q x) (h x), later)
 
@@ -55,21 +53,9 @@ module _ {K : Type 0} {eq : K → K → Bool} (laws : IsEquivalence eq) where
   near_none (suc d) [] p h = refl
   near_none (suc d) (x ∷ trace) p h = rw (h x) (omega (arith, near_none d trace (λ z. p z && not (eq x z)) (λ z. rw (h z) refl)))
 
-  not_true : (b : Bool) → not b ≡ true → b ≡ false
-  not_true true e = absurd cc
-  not_true false e = refl
-
-  false_not : (b : Bool) → b ≡ false → not b ≡ true
-  false_not true e = absurd cc
-  false_not false e = refl
-
-  or_right : (b d : Bool) → d ≡ true → (b || d) ≡ true
-  or_right true d e = refl
-  or_right false d e = e
-
   split : (b c e : Bool) → (b || c) ≡ true → e ≡ true → (b || (c && e)) ≡ true
   split true c e h k = refl
-  split false c e h k = both c e h k
+  split false c e h k = and_from c e h k
 
   more_now : (d : ℕ) (x : K) (trace : List K) (key : K) (p : K → Bool) → eq key x ≡ true
       → near eq (suc d) (x ∷ trace) (λ z. eq key z || p z)
@@ -82,8 +68,8 @@ module _ {K : Type 0} {eq : K → K → Bool} (laws : IsEquivalence eq) where
       let rest = near_fewer d trace (λ z. (eq key z || p z) && not (eq x z)) (λ z. p z && not (eq x z))
       (λ z e.
       let parts = and_parts (eq key z || p z) (not (eq x z)) e in
-      let other : eq key z ≡ false = laws.congr key x z same ∙ not_true (eq x z) parts.1 in
-      both (p z) (not (eq x z)) (sym (ap (λ b. b || p z) other) ∙ parts.0) parts.1) in
+      let other : eq key z ≡ false = laws.congr key x z same ∙ not-true (eq x z) parts.1 in
+      and_from (p z) (not (eq x z)) (sym (ap (λ b. b || p z) other) ∙ parts.0) parts.1) in
       omega (arith, one, first, rest)
 
   more_later : (d : ℕ) (x : K) (trace : List K) (key : K) (p : K → Bool) → eq key x ≡ false
@@ -155,10 +141,6 @@ module _ {K : Type 0} {eq : K → K → Bool} (laws : IsEquivalence eq) where
         length-remove_key (eq key) xs at,
       )
 
-  pub named_also : (x y : K) (xs : List K) → eq x y ≡ true → is_in eq x xs ≡ is_in eq y xs
-  named_also x y [] same = refl
-  named_also x y (z ∷ zs) same = λ i. laws.congr x y z same i || named_also x y zs same i
-
   module _ (key : K) (old : List K) where
     abbrev pub others : K → Bool
     others z = is_in eq z old && not (eq key z)
@@ -179,7 +161,8 @@ module _ {K : Type 0} {eq : K → K → Bool} (laws : IsEquivalence eq) where
         let none : eq key u ≡ false = sym (named_alike laws key z u same) ∙ apart in
         let at : is_in eq u old ≡ true = or_first (is_in eq u old) (eq key u) none held in
         or_right (b && eq key z) (others z)
-        (both (is_in eq z old) (not (eq key z)) (named_also z u old same ∙ at) (false_not (eq key z) apart)))
+        (and_from (is_in eq z old) (not (eq key z)) (in_named laws z u old same ∙ at)
+        (not_from_false (eq key z) apart)))
       where
         or_first : (b d : Bool) → d ≡ false → (b || d) ≡ true → b ≡ true
         or_first true d e h = refl
@@ -219,7 +202,7 @@ module _ {K : Type 0} {eq : K → K → Bool} (laws : IsEquivalence eq) where
     fresh_few [] = omega arith
     fresh_few (u ∷ us) =
         bits (eq key u) (is_in eq key us) (is_in eq key old) (is_in eq u old) (fresh us) (outside eq old us)
-        (λ same. sym (named_also key u old same)) (fresh_few us)
+        (λ same. sym (in_named laws key u old same)) (fresh_few us)
       where
         bits : (same later was at : Bool) (f o : ℕ) → (same ≡ true → at ≡ was) → f + cond (later && not was) 1 0 ≤ o
             → (cond (at || same) 0 1 + f) + cond ((same || later) && not was) 1 0 ≤ cond at 0 1 + o
@@ -245,7 +228,7 @@ module _ {K : Type 0} {eq : K → K → Bool} (laws : IsEquivalence eq) where
         )
       where
         in_new : (u : K) → is_in eq u new ≡ true → eq key u ≡ true → is_in eq key new ≡ true
-        in_new u at same = named_also key u new same ∙ at
+        in_new u at same = in_named laws key u new same ∙ at
 
         near_kept : (d : ℕ) (trace : List K) (b : Bool)
             → near eq d trace (kept b) ≤ cond b (soon eq d trace key) 0 + near eq d trace others

@@ -1,6 +1,7 @@
 -- What policies pay for at one reference.
 use Rattle.std.proofs.Common.{◌≡◌, ℕ, zero, suc, ◌+◌, ◌≤◌, ◌<◌, Bool, true, false, cond, List, [], ◌∷◌, ◌++◌, length, take}
 use Rattle.std.proofs.Common.{refl, ap, ◌∙◌, arith}
+use Rattle.std.proofs.lemmas.Bool.{or_right}
 use Rattle.std.specs.Cmp.{IsEquivalence}
 use Rattle.std.specs.Prelude.{◌||◌}
 use Rattle.std.specs.Set.{remove_key}
@@ -34,11 +35,7 @@ module _ {K : Type 0} {eq : K → K → Bool} (laws : IsEquivalence eq) where
           → is_in eq key (cond b (gained old xs) (x ∷ gained old xs) ++ old) ≡ true
       go rest true at true same e =
           in_either eq key (gained old xs) old
-          ∙ go_or (is_in eq key (gained old xs)) (in_named laws key x old same ∙ at)
-        where
-          go_or : (b : Bool) → is_in eq key old ≡ true → (b || is_in eq key old) ≡ true
-          go_or true e = refl
-          go_or false e = e
+          ∙ or_right (is_in eq key (gained old xs)) (is_in eq key old) (in_named laws key x old same ∙ at)
       go rest true at false same e = rest e
       go rest false at true same e = rw same refl
       go rest false at false same e = rw same (rest e)
@@ -81,69 +78,40 @@ module _ {K : Type 0} {eq : K → K → Bool} (laws : IsEquivalence eq) where
       keys : List K
       keys = gained old new
 
+      gains : (extra : List K) → length extra ≤ one → Within eq new (extra ++ old) → is_in eq key (extra ++ old) ≡ true
+          → Gains laws k h 0 (Bypasses eq h) key old one new
+      gains extra few held named = record {
+        fits = is.fits;
+        room = omega arith;
+        extra = extra;
+        few = few;
+        held = held;
+        named = named;
+        start = [];
+        long = refl;
+        apart = tt;
+        within = λ other e. absurd cc;
+        front = λ some xs. none (refer eq k key xs);
+      }
+
       go : (b : Bool) → is_in eq key new ≡ b → (d : Bool) → is_in eq key old ≡ d
           → Gains laws k h 0 (Bypasses eq h) key old one new
-      go true at d was = record {
-        fits = is.fits;
-        room = omega arith;
-        extra = keys;
-        few = omega (arith, gained_length old new, is.stored at);
-        held = held_gained old new;
-        named = held_gained old new key at;
-        start = [];
-        long = refl;
-        apart = tt;
-        within = λ other e. absurd cc;
-        front = λ some xs. none (refer eq k key xs);
-      }
-      go false at true was = record {
-        fits = is.fits;
-        room = omega arith;
-        extra = keys;
-        few = omega (arith, gained_length old new, is.bypassed at);
-        held = held_gained old new;
-        named = in_either eq key keys old ∙ ap (λ b. is_in eq key keys || b) was ∙ or_true (is_in eq key keys);
-        start = [];
-        long = refl;
-        apart = tt;
-        within = λ other e. absurd cc;
-        front = λ some xs. none (refer eq k key xs);
-      }
-        where
-          or_true : (b : Bool) → (b || true) ≡ true
-          or_true true = refl
-          or_true false = refl
-      go false at false was = record {
-        fits = is.fits;
-        room = omega arith;
-        extra = key ∷ keys;
-        few = omega (arith, gained_length old new, is.bypassed at, is_one was);
-        held = λ other e. later (eq other key) other (held_gained old new other e);
-        named = ap (λ b. b || is_in eq key (keys ++ old)) (laws.refl key);
-        start = [];
-        long = refl;
-        apart = tt;
-        within = λ other e. absurd cc;
-        front = λ some xs. none (refer eq k key xs);
-      }
+      go true at d was = gains keys (omega (arith, gained_length old new, is.stored at)) (held_gained old new)
+          (held_gained old new key at)
+      go false at true was = gains keys (omega (arith, gained_length old new, is.bypassed at)) (held_gained old new)
+          (in_either eq key keys old ∙ or_right (is_in eq key keys) (is_in eq key old) was)
+      go false at false was = gains (key ∷ keys) (omega (arith, gained_length old new, is.bypassed at, is_one was))
+          (λ other e. or_right (eq other key) (is_in eq other (keys ++ old)) (held_gained old new other e))
+          (ap (λ b. b || is_in eq key (keys ++ old)) (laws.refl key))
         where
           is_one : {b : Bool} → b ≡ false → cond {A = ℕ} b 0 1 ≡ 1
           is_one e = rw e refl
-
-          later : (b : Bool) (other : K) → is_in eq other (keys ++ old) ≡ true
-              → (b || is_in eq other (keys ++ old)) ≡ true
-          later true other e = refl
-          later false other e = e
 
   nothing_outside : (old xs : List K) → Within eq xs old → outside eq old xs ≡ 0
   nothing_outside old [] within = refl
   nothing_outside old (x ∷ xs) within =
       let here = within x (ap (λ b. b || is_in eq x xs) (laws.refl x)) in
-      rw here (omega (arith, nothing_outside old xs (λ key e. within key (later (eq key x) key e))))
-    where
-      later : (b : Bool) (key : K) → is_in eq key xs ≡ true → (b || is_in eq key xs) ≡ true
-      later true key e = refl
-      later false key e = e
+      rw here (omega (arith, nothing_outside old xs (λ key e. within key (or_right (eq key x) (is_in eq key xs) e))))
 
   one_outside : (key : K) (old xs : List K) → Within eq xs old → outside eq old (key ∷ xs) ≤ 1
   one_outside key old xs within = go (is_in eq key old) (nothing_outside old xs within)

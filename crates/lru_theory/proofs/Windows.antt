@@ -2,7 +2,7 @@
 -- began with, and the keys that it paid for.
 use Rattle.std.proofs.Common.{◌≡◌, ℕ, zero, suc, ◌+◌, ◌≤◌, ◌<◌, Bool, true, false, cond, List, [], ◌∷◌, ◌++◌}
 use Rattle.std.proofs.Common.{length, take, refl, sym, ap, ◌∙◌, arith, ◌⊎◌, inl, inr}
-use Rattle.std.proofs.lemmas.Bool.{cases_lt, or_parts}
+use Rattle.std.proofs.lemmas.Bool.{cases_lt, or_parts, or_right}
 use Rattle.std.proofs.lemmas.List.{length-append}
 use Rattle.std.proofs.lemmas.Map.Made.{length-remove_key}
 use Rattle.std.specs.Cmp.{IsEquivalence}
@@ -11,8 +11,9 @@ use Rattle.std.specs.Set.{remove_key}
 use Rattle.lru_theory.specs.Traces.{is_in, refer, faults, fault}
 use Rattle.lru_theory.specs.Policies.{Served, ends, serves}
 use Rattle.lru_theory.proofs.Affordable.{Front, none, both, front_without, front_in}
-use Rattle.lru_theory.proofs.Inclusions.{clash, without_missing}
+use Rattle.lru_theory.proofs.Inclusions.{clash}
 use Rattle.lru_theory.proofs.Lists.{is_in_without}
+use Rattle.lru_theory.proofs.Nexts.{without_absent}
 
 module _ {K : Type 0} (eq : K → K → Bool) where
   abbrev pub Apart : List K → Type 0
@@ -60,11 +61,7 @@ module _ {K : Type 0} (eq : K → K → Bool) where
       go false ih = ih
 
   in_second : (key : K) (xs ys : List K) → is_in eq key ys ≡ true → is_in eq key (xs ++ ys) ≡ true
-  in_second key xs ys e = in_either key xs ys ∙ go (is_in eq key xs) e
-    where
-      go : (b : Bool) → is_in eq key ys ≡ true → (b || is_in eq key ys) ≡ true
-      go true e = refl
-      go false e = e
+  in_second key xs ys e = in_either key xs ys ∙ or_right (is_in eq key xs) (is_in eq key ys) e
 
   within_more : (xs ys zs : List K) → Within ys zs → Within (xs ++ ys) (xs ++ zs)
   within_more xs ys zs h key e =
@@ -99,16 +96,9 @@ module _ {K : Type 0} {eq : K → K → Bool} (laws : IsEquivalence eq) where
   pigeons (x ∷ xs) ys h within =
       let here = within x (ap (λ b. b || is_in eq x xs) (laws.refl x)) in
       let rest = pigeons xs (remove_key (eq x) ys) h.1
-      (λ key e. is_in_without laws key x ys (other key e) ∙ within key (later key e)) in
+      (λ key e. is_in_without laws key x ys (other key e) ∙ within key (or_right (eq key x) (is_in eq key xs) e)) in
       omega (arith, rest, length-remove_key (eq x) ys here)
     where
-      later : (key : K) → is_in eq key xs ≡ true → (eq key x || is_in eq key xs) ≡ true
-      later key e = go (eq key x) e
-        where
-          go : (b : Bool) → is_in eq key xs ≡ true → (b || is_in eq key xs) ≡ true
-          go true e = refl
-          go false e = e
-
       other : (key : K) → is_in eq key xs ≡ true → eq key x ≡ false
       other key e = go (eq key x) refl
         where
@@ -176,7 +166,7 @@ module _ {K : Type 0} {eq : K → K → Bool} (laws : IsEquivalence eq) (k h b :
           where
             go : (d : Bool) → is_in eq key recent ≡ d → length recent ≤ suc (length (remove_key (eq key) recent))
             go true e = omega (arith, length-remove_key (eq key) recent e)
-            go false e = omega (arith, ap length (without_missing laws key recent e))
+            go false e = omega (arith, ap length (without_absent laws key recent e))
 
         known_key : (extra old known : List K) (key : K) → Within eq old known → is_in eq key (extra ++ old) ≡ true
             → is_in eq key (extra ++ known) ≡ true
@@ -207,4 +197,4 @@ module _ {K : Type 0} {eq : K → K → Bool} (laws : IsEquivalence eq) (k h b :
                 → length recent + (cond d 0 1 + rest) ≤ count
             go true r e h = omega (arith, many, longer key recent)
             go false true e h = clash refl (h refl)
-            go false false e h = omega (arith, many, ap length (without_missing laws key recent e))
+            go false false e h = omega (arith, many, ap length (without_absent laws key recent e))

@@ -5,21 +5,21 @@ use Rattle.std.specs.Set.{remove_key}
 use Rattle.lru_theory.specs.Traces.{fault}
 
 module _ {K : Type 0} (eq : K → K → Bool) where
-  -- how many references come before the next reference to the key, or the length of the trace if no reference is to the
-  -- key
+  -- how many references come before the next reference to the key, or the length of the trace if there is no reference
+  -- to the key
   abbrev pub until : K → List K → ℕ
   until key [] = 0
   until key (other ∷ trace) = if eq key other then 0 else suc (until key trace)
 
-  -- the list of keys after this key was inserted; the list is in the order of the keys' next references in the trace
+  -- the list of keys after this key was inserted; the keys are in the order of their next references in the trace
   abbrev pub put : List K → K → List K → List K
   put trace key [] = key ∷ []
   put trace key (other ∷ keys) = if nat_le (until key trace) (until other trace) then key ∷ (other ∷ keys)
       else other ∷ put trace key keys
 
   -- The keys of MIN with n places after a reference to the key, in the order of their next references. If n is 0, there
-  -- are no keys. If n is above 0, MIN stores the key. If this makes more than n keys, MIN evicts the other key whose
-  -- next reference comes last.
+  -- are no keys. If n is above 0, MIN stores the key. If MIN now has more than n keys, MIN evicts one of the old keys:
+  -- the key whose next reference comes last.
   abbrev pub min_refer : ℕ → K → List K → List K → List K
   min_refer zero key trace keys = []
   min_refer (suc n) key trace keys = put trace key (take n (remove_key (eq key) keys))
@@ -28,15 +28,16 @@ module _ {K : Type 0} (eq : K → K → Bool) where
   abbrev pub bypass_refer : ℕ → K → List K → List K → List K
   bypass_refer n key trace keys = take n (put trace key (remove_key (eq key) keys))
 
-  -- how many references of the trace do not find their key, if `refer` changes the keys at each reference
+  -- how many references of the trace miss in a cache with the keys `keys`, if `refer` changes the keys at each
+  -- reference
   abbrev pub faults_ahead : (K → List K → List K → List K) → List K → List K → ℕ
   faults_ahead refer keys [] = 0
   faults_ahead refer keys (key ∷ trace) = fault eq key keys + faults_ahead refer (refer key trace keys) trace
 
-  -- how often MIN with n places misses, if it begins with no keys
+  -- how many references of the trace miss, if MIN with n places begins with no keys
   abbrev pub min_misses : ℕ → List K → ℕ
   min_misses n trace = faults_ahead (min_refer n) [] trace
 
-  -- how often MIN with bypass misses, if it begins with no keys
+  -- how many references of the trace miss, if MIN with bypass begins with no keys
   abbrev pub bypass_misses : ℕ → List K → ℕ
   bypass_misses n trace = faults_ahead (bypass_refer n) [] trace

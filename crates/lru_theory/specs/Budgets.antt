@@ -29,16 +29,16 @@ module _ {K : Type 0} (eq : K → K → Bool) (cost : K → ℕ) where
   abbrev pub EqualCosts : Type 0
   EqualCosts = (x y : K) → eq x y ≡ true → cost x ≡ cost y
 
-  -- the cost of the key, plus the costs of the different keys that were referenced after the key's last reference
+  -- the cost of the key, plus the costs of the different keys that were referenced after the last reference to the key
   abbrev pub needs : K → List K → ℕ
   needs key past = cost key + sum_by cost (recency eq (since eq key past))
 
-  -- Whether a reference to the key misses in a cache with the limit n. The reference misses if it is the first one to
-  -- the key, or if the key needs more than n (`needs`).
+  -- Whether a reference to the key misses in a cache with the limit n. The reference misses if it is the first
+  -- reference to the key, or if the key needs more than n (`needs`).
   abbrev pub is_far_within : ℕ → K → List K → Bool
   is_far_within n key past = not (is_in eq key past) || nat_lt n (needs key past)
 
-  -- how many references of the trace, which come after this past, miss in a cache with the limit n
+  -- how many references of a trace miss in a cache with the limit n, if `past` comes before the trace
   abbrev pub misses_within : ℕ → List K → List K → ℕ
   misses_within n past [] = 0
   misses_within n past (key ∷ trace) =

@@ -6,7 +6,7 @@ use Rattle.std.specs.Cmp.Lexicographic.{pointwise}
 use Rattle.std.specs.List.{list_any}
 use Rattle.std.specs.Set.{remove_key}
 
--- The keys of a cache after a trace. The cache begins with the keys `keys`, and `refer` changes its keys at each
+-- The keys of a cache after a trace. The cache begins with the keys `keys`, and `refer` changes the keys at each
 -- reference.
 abbrev pub cached_by : {K : Type 0} → (K → List K → List K) → List K → List K → List K
 cached_by refer keys [] = keys
@@ -20,7 +20,7 @@ module _ {K : Type 0} (eq : K → K → Bool) where
   abbrev pub AreEqual : List K → List K → Type 0
   AreEqual keys others = pointwise eq keys others ≡ true
 
-  -- The recency list: each key of the past once, the last referenced key first.
+  -- The recency list contains each key of the past once, and begins with the last referenced key.
   abbrev pub recency : List K → List K
   recency [] = []
   recency (key ∷ past) = key ∷ remove_key (eq key) (recency past)
@@ -30,30 +30,31 @@ module _ {K : Type 0} (eq : K → K → Bool) where
   since key [] = []
   since key (other ∷ past) = if eq key other then [] else other ∷ since key past
 
-  -- The reuse distance of the key: how many different keys were referenced after its last reference.
+  -- The reuse distance of the key: how many different keys were referenced after the last reference to the key.
   abbrev pub distance : K → List K → ℕ
   distance key past = length (recency (since key past))
 
-  -- Whether a reference to the key misses in a cache of n places. The reference misses if it is the first one to the
-  -- key, or if the key's reuse distance is at least n.
+  -- Whether a reference to the key misses in a cache of n places. The reference misses if it is the first reference to
+  -- the key, or if the key's reuse distance is at least n.
   abbrev pub is_far : ℕ → K → List K → Bool
   is_far n key past = not (is_in key past) || nat_le n (distance key past)
 
-  -- how many references of the trace, which come after this past, miss in a cache of n places
+  -- how many references of a trace miss in a cache of n places, if `past` comes before the trace
   abbrev pub misses : ℕ → List K → List K → ℕ
   misses n past [] = 0
   misses n past (key ∷ trace) = (if is_far n key past then 1 else 0) + misses n (key ∷ past) trace
 
-  -- The keys of an LRU cache of n places after a reference, newest first. The key becomes the newest. If this makes
-  -- more than n keys, the oldest key is evicted.
+  -- The keys of an LRU cache of n places after a reference, newest first. The key becomes the newest. If the cache now
+  -- has more than n keys, the oldest key is evicted.
   abbrev pub refer : ℕ → K → List K → List K
   refer n key keys = take n (key ∷ remove_key (eq key) keys)
 
-  -- 0 if the key is among the keys, else 1
+  -- 0 if `keys` contains the key, or else 1
   abbrev pub fault : K → List K → ℕ
   fault key keys = if is_in key keys then 0 else 1
 
-  -- how many references of the trace did not find their key in a cache whose keys `refer` changes
+  -- how many references of the trace miss in a cache with the keys `keys`, if `refer` changes the keys at each
+  -- reference
   abbrev pub faults_by : (K → List K → List K) → List K → List K → ℕ
   faults_by refer keys [] = 0
   faults_by refer keys (key ∷ trace) = fault key keys + faults_by refer (refer key keys) trace

@@ -55,10 +55,10 @@ pub fn loading_ahead_gains_nothing<K: Eq>()
         (demanded : ℕ) × (other : List K) × Served (Demands K.eq h) other first trace demanded × (demanded ≤ paid) }
 {}
 
-/// A cache of n places is *included* in a cache of m places if the larger cache contains its keys, in the same order,
-/// and at most m - n more keys. If the smaller cache is included, it is still included after any calls (`included`). So
-/// the larger cache finds each key that the smaller cache finds (`finds`), and misses no more often in a trace
-/// (`misses`). `KeyCall` lists the calls.
+/// A cache of n places is *included* in a cache of m places if the larger cache contains the keys of the smaller cache,
+/// in the same order, and at most m - n more keys. If the smaller cache is included, it is still included after any
+/// calls (`included`). So the larger cache finds each key that the smaller cache finds (`finds`), and misses no more
+/// often in a trace (`misses`). `KeyCall` lists the calls.
 pub fn a_smaller_cache_is_included<K: Eq>()
     ensures included { (n m : ℕ) (calls : List (KeyCall K)) (small large : List K) → n ≤ m →
         IsIncluded K.eq n m small large →
@@ -92,9 +92,9 @@ pub fn a_budget_keeps_the_newest<K: Eq>()
 {}
 
 /// A policy that stores each referenced key pays at least as often as MIN misses, whether it loads keys ahead (`loads`)
-/// or only on demand (`demands`). MIN with bypass misses at most as often as any policy pays that need not store
-/// referenced keys (`bypasses`). All these policies have n places, and begin with no keys. If MIN has a place, it
-/// stores each referenced key (`min`). MIN with bypass is a policy that need not store referenced keys (`bypass`).
+/// or only on demand (`demands`). A policy that need not store referenced keys pays at least as often as MIN with
+/// bypass misses (`bypasses`). All these policies have n places, and begin with no keys. If MIN has a place, it stores
+/// each referenced key (`min`). MIN with bypass is a policy that need not store referenced keys (`bypass`).
 pub fn min_is_best<K: Eq>()
     ensures loads { (n : ℕ) (trace left : List K) (paid : ℕ) → Served (Loads K.eq n) left [] trace paid →
         min_misses K.eq n trace ≤ paid }

@@ -1,5 +1,6 @@
-use Rattle.std.proofs.Common.{◌≡◌, ℕ, ◌≤◌, ◌<◌, ◌-◌, ◌^◌, ◌++◌, Bool, true, false, List, [], map, get_or, refl, sym, ap, ◌∙◌, subst, arith}
-use Rattle.std.proofs.lemmas.Bool.{eq-eqb}
+use Rattle.std.proofs.Common.{◌≡◌, ℕ, ◌≤◌, ◌<◌, ◌-◌, ◌^◌, ◌++◌, true, List, [], map, get_or, refl, sym, ap, ◌∙◌}
+use Rattle.std.proofs.Common.{subst, arith}
+use Rattle.std.proofs.lemmas.Bool.{or_right, eq-eqb}
 use Rattle.std.proofs.lemmas.List.{get_or-map, length-map}
 use Rattle.std.proofs.lemmas.List.Elements.{All-from_get_or, All-weaker}
 use Rattle.std.proofs.lemmas.List.Folds.{list_any_at, list_any-append}
@@ -38,9 +39,6 @@ pub too_large_from : (e : SizeError) → error_of e ≡ errors.TooLarge → e �
 too_large_from sizes.Memory is = absurd cc
 too_large_from sizes.TooLarge is = refl
 
-pub clash : {A : Type 0} → false ≡ true → A
-clash e = absurd cc
-
 pub fits_still : {options : Options} {sizes : List ℕ} {old new : AnyCurve} → AreAlike old new → Fits options sizes old
     → Fits options sizes new
 fits_still {options} {sizes} {old} {new} alike fits = record {
@@ -53,10 +51,6 @@ fits_still {options} {sizes} {old} {new} alike fits = record {
     still : (them : List ℕ) → HasAll old (bits_of options) them → HasAll new (bits_of options) them
     still them = subst (λ limits. All (λ size. IfSome limits
         (λ ls. is_in nat_eq (size / 2 ^ bits_of options) ls ≡ true)) them) (sym alike.limits)
-
-or_true : (b : Bool) → (b || true) ≡ true
-or_true true = refl
-or_true false = refl
 
 module _ (bits : ℕ) (sizes limits : List ℕ) (curve : Sized) (same : IsPermutation limits curve.limits)
     (is : limits ≡ map (λ size. size / 2 ^ bits) sizes
@@ -90,4 +84,4 @@ module _ (bits : ℕ) (sizes limits : List ℕ) (curve : Sized) (same : IsPermut
   pub has_powers : (most : ℕ) → most < 2 ^ 128 → HasAll (curves.Bytes curve) bits (powers most 64 0)
   has_powers most less = fewer_powers HasIt most (2 ^ 128 - 1) (omega (arith, less)) 64 0
       (there all (λ n h. list_any-append (nat_eq n) (scaled sizes) (scaled all)
-      ∙ ap (λ b. is_in nat_eq n (scaled sizes) || b) h ∙ or_true (is_in nat_eq n (scaled sizes))))
+      ∙ or_right (is_in nat_eq n (scaled sizes)) _ h))

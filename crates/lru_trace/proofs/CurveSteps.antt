@@ -5,7 +5,7 @@ use Rattle.std.specs.Prelude.{Option, IfSome, is_some, Vec}
 use Rattle.std.proofs.Common.{set, sum, get_or, Some, None, refl, sym, subst, ap, ◌∙◌, arith}
 use Rattle.std.specs.Prelude.{◌^◌, ◌-◌, not, ◌||◌, nat_eq, nat_le, String, sum_by}
 use Rattle.std.specs.Global.{Global}
-use Rattle.std.specs.Prelude.{Result, Ok, Err, OnOk, OnErr, IfErr}
+use Rattle.std.specs.Prelude.{Result, Ok, Err, OnErr, IfErr}
 use Rattle.std.specs.Result.{IsErr, IsErrAnd}
 use Rattle.std.specs.Set.{remove_key}
 use Rattle.std.proofs.lemmas.Bool.{lt-leb}
@@ -16,11 +16,11 @@ use Rattle.std.proofs.lemmas.Map.Made.{length-remove_key}
 use Rattle.lru_theory.specs.Traces.{is_in, since, recency, distance, misses, past_after}
 use Rattle.lru_theory.proofs.LongerTraces.{past_more, misses_more}
 use Rattle.lru_theory.proofs.Lists.{is_in_recency, since_recency}
+use Rattle.lru_theory.proofs.Nexts.{without_absent}
 use Rattle.lru_trace.specs.Counted.{Counted, IsOf, number_in}
 use Rattle.lru_trace.specs.Slots.{position, weight_in}
-use Rattle.lru_trace.proofs.Logs.{without_none}
 use Rattle.std.proofs.lemmas.Option.{same_Some}
-use Rattle.lru_trace.proofs.Numbered.{Named, named_from, named_on, counted, position_within}
+use Rattle.lru_trace.proofs.Numbered.{none_named, named_on, counted, position_within}
 
 abbrev pub place : ℕ → List ℕ → Option ℕ
 place key xs = cond (is_in nat_eq key xs) (Some (length (since nat_eq key xs))) None
@@ -46,7 +46,8 @@ plain_fits weights key xs none few =
     go : (b : Bool) → is_in nat_eq key xs ≡ b → sum_by (weight_in []) (key ∷ remove_key (nat_eq key) xs) < 2 ^ 64
     go true e = omega (arith, plain_sum (key ∷ remove_key (nat_eq key) xs), length-remove_key (nat_eq key) xs e, few)
     go false e =
-        omega (arith, plain_sum (key ∷ remove_key (nat_eq key) xs), ap length (without_none key xs e), few)
+        let same = ap length (without_absent nat_eq_equiv key xs e) in
+        omega (arith, plain_sum (key ∷ remove_key (nat_eq key) xs), same, few)
 
 pub position_some : (key d : ℕ) (xs : List ℕ) → place key xs ≡ Some d
     → (is_in nat_eq key xs ≡ true) × (length (since nat_eq key xs) ≡ d)
@@ -76,7 +77,7 @@ found_length key d xs e =
 pub first_length : (key : ℕ) (xs : List ℕ) → place key xs ≡ None
     → length (key ∷ remove_key (nat_eq key) xs) ≡ length xs + 1
 first_length key xs e =
-    let same = ap length (without_none key xs (position_none key xs e)) in
+    let same = ap length (without_absent nat_eq_equiv key xs (position_none key xs e)) in
     omega (arith, same)
 
 pub entry_few : (xs : List ℕ) (i : ℕ) → get_or xs i 0 ≤ sum xs
@@ -91,7 +92,7 @@ sum_counted xs d h =
     let left : take (length xs) more ≡ more = take_all (length xs) more
     (omega (arith, length-set xs d (get_or xs d 0 + 1))) in
     let right : take (length xs) xs ≡ xs = take_all (length xs) xs (omega arith) in
-    let small : cond {A = ℕ} (nat_le (length xs) d) 0 1 ≡ 1 = rw (lt-leb (length xs) d h) refl in
+    let small : cond {A = ℕ} (nat_le (length xs) d) 1 0 ≡ 0 = rw (lt-leb (length xs) d h) refl in
     omega (arith, ap sum left, ap sum right, all, small)
 
 pub none_kept : {Z : Type 0} (kept : Option (Vec ℕ Z)) → IfSome kept (λ v. v.items ≡ [])
@@ -201,14 +202,10 @@ module _ {warm trace : List (List ℕ)} {v : Counted} (of : IsOf warm trace v) w
               ≡ misses nat_eq n warm_past of.numbers + cond (nat_le n d) 1 0 =
               misses_more nat_eq n warm_past of.numbers number
               ∙ (λ i. misses nat_eq n warm_past of.numbers + cond (not (inside i) || nat_le n (far i)) 1 0) in
-              omega (arith, more, of.hits n, counted d n v.counts within, split (nat_le n d));
+              omega (arith, more, of.hits n, counted d n v.counts within);
           all = omega (arith, of.all, longer);
           kept = kept_more v.kept kept is of.kept;
         }
-      where
-        split : (b : Bool) → cond {A = ℕ} b 1 0 + cond {A = ℕ} b 0 1 ≡ 1
-        split true = omega arith
-        split false = omega arith
 
     pub of_first : place number v.recency ≡ None
         → (kept : Option (List ℕ)) → kept ≡ option_map (λ ns. ns ++ number ∷ []) v.kept
@@ -237,11 +234,7 @@ module _ {warm trace : List (List ℕ)} {v : Counted} (of : IsOf warm trace v) w
 
 module _ {warm : List (List ℕ)} {v : Counted} (of : IsOf warm [] v) where
   none_counted : of.numbers ≡ []
-  none_counted = go of.numbers (named_from (number_in v.names) [] of.numbers of.named)
-    where
-      go : (ns : List ℕ) → Named (number_in v.names) [] ns → ns ≡ []
-      go [] h = refl
-      go (n ∷ ns) h = absurd h
+  none_counted = none_named of.numbers of.named
 
   pub of_warm : (key : List ℕ) (number : ℕ) → number_in v.names key ≡ Some number
       → IsOf (warm ++ key ∷ []) [] (record v { recency = number ∷ remove_key (nat_eq number) v.recency })
@@ -268,14 +261,6 @@ renamed warm past old new rest keeps of = subst (IsOf warm past) (sym rest) (of_
 pub recounted : (warm past : List (List ℕ)) (old new : Counted) → new ≡ record old { counts = new.counts }
     → ((n : ℕ) → sum (take n new.counts) ≡ sum (take n old.counts)) → IsOf warm past old → IsOf warm past new
 recounted warm past old new rest same of = subst (IsOf warm past) (sym rest) (of_counts of new.counts same)
-
-pub on_ok : {A E P Q : Type 0} (r : Result A E) → (P → Q) → OnOk r P → OnOk r Q
-on_ok (Ok x) f p = f p
-on_ok (Err e) f p = tt
-
-pub on_err : {A E P Q : Type 0} (r : Result A E) → (P → Q) → OnErr r P → OnErr r Q
-on_err (Ok x) f p = tt
-on_err (Err e) f p = f p
 
 pub always_err : {A E P : Type 0} (r : Result A E) → P → OnErr r P
 always_err (Ok x) p = tt

@@ -4,7 +4,7 @@ use Rattle.std.proofs.Common.{inl, inr}
 use Rattle.std.specs.Prelude.{◌^◌, nat_eq, ◌||◌, Vec, sum_by}
 use Rattle.std.specs.Option.{option_to_list}
 use Rattle.std.specs.Set.{remove_key}
-use Rattle.std.proofs.lemmas.Bool.{cases_lt, cases_eq, cases_order, eq-eqb, eqb-true, or_parts}
+use Rattle.std.proofs.lemmas.Bool.{both_ways, cases_lt, cases_eq, cases_order, eq-eqb, eqb-true, or_parts}
 use Rattle.std.proofs.lemmas.Grind.{get_or-set_at}
 use Rattle.std.proofs.lemmas.List.{append_assoc, append-nil, length-append, take-append-drop, drop_more, set_split}
 use Rattle.std.proofs.lemmas.List.{take_more, length-take, get_or-take, length_push, get_or-drop, get_or_past}
@@ -12,15 +12,9 @@ use Rattle.std.proofs.lemmas.List.{get_or-set_other, get_or_push, get_or_append_
 use Rattle.std.proofs.lemmas.List.Folds.{list_any-append}
 use Rattle.std.proofs.lemmas.List.Sums.{sum_by-cons, sum_by-append, sum_by-set}
 use Rattle.std.proofs.lemmas.Map.Made.{length-remove_key}
-use Rattle.std.proofs.lemmas.Option.{same_Some}
+use Rattle.std.proofs.lemmas.Option.{none-some, same_Some}
 use Rattle.lru_theory.specs.Traces.{is_in, since}
 use Rattle.lru_trace.specs.Slots.{position, newest, IsLog, weight_in, weight_of}
-
-clash : {b : Bool} {A : Type 0} → b ≡ false → b ≡ true → A
-clash e h = absurd cc
-
-not_none : {A B : Type 0} (x : A) → None ≡ Some x → B
-not_none x e = absurd cc
 
 pub free_more : (xs : List (Option ℕ)) (i : ℕ) → get_or (xs ++ None ∷ []) i None ≡ get_or xs i None
 free_more [] zero = refl
@@ -94,12 +88,6 @@ module _ (key : ℕ) where
       let parts = or_parts (nat_eq key x) (is_in nat_eq key xs) e in
       rw parts.0 (ap (λ zs. x ∷ zs) (without_middle xs ys parts.1))
 
-  pub without_none : (xs : List ℕ) → is_in nat_eq key xs ≡ false → remove_key (nat_eq key) xs ≡ xs
-  without_none [] e = refl
-  without_none (x ∷ xs) e =
-      let parts = or_parts (nat_eq key x) (is_in nat_eq key xs) e in
-      rw parts.0 (ap (λ zs. x ∷ zs) (without_none xs parts.1))
-
 one_weight : (weight : ℕ → ℕ) (o : Option ℕ) → weight_of weight o ≡ sum_by weight (option_to_list o)
 one_weight weight None = refl
 one_weight weight (Some key) = omega arith
@@ -136,7 +124,7 @@ erased_mark xs i j same = elim (cases_lt i (length xs)) [
 taken_within : (n : ℕ) (xs : List (Option ℕ)) (i key : ℕ) → get_or (take n xs) i None ≡ Some key → i < n
 taken_within n xs i key e = elim (cases_lt i n) [
   | inl h ↦ h
-  | inr h ↦ not_none key (sym (get_or_past (take n xs) i None (omega (arith, h, length-take n xs))) ∙ e)
+  | inr h ↦ absurd (none-some key (sym (get_or_past (take n xs) i None (omega (arith, h, length-take n xs))) ∙ e))
 ]
 
 pub newest_few : (xs : List (Option ℕ)) → length (newest xs) ≤ length xs
@@ -166,11 +154,11 @@ module _ {Z : Type 0} {levels : ℕ} {log : Vec (Option ℕ) Z} {slots : List (O
   pub slot_within : (slot key : ℕ) → get_or log.items slot None ≡ Some key → slot < length log.items
   slot_within slot key e = elim (cases_lt slot (length log.items)) [
     | inl h ↦ h
-    | inr h ↦ not_none key (sym (get_or_past log.items slot None h) ∙ e)
+    | inr h ↦ absurd (none-some key (sym (get_or_past log.items slot None h) ∙ e))
   ]
 
   pub unreferenced : (key : ℕ) → get_or slots key None ≡ None → is_in nat_eq key (newest log.items) ≡ false
-  unreferenced key none = newest_absent key log.items (λ i e. not_none i (sym none ∙ is.back key i e))
+  unreferenced key none = newest_absent key log.items (λ i e. absurd (none-some i (sym none ∙ is.back key i e)))
 
   module _ (key slot : ℕ) (at_slot : get_or slots key None ≡ Some slot) where
     abbrev behind : List ℕ
@@ -205,7 +193,7 @@ module _ {Z : Type 0} {levels : ℕ} {log : Vec (Option ℕ) Z} {slots : List (O
     pub freed_found : (k s : ℕ) → get_or (set slots key None) k None ≡ Some s → get_or (set log.items slot None) s
         None ≡ Some k
     freed_found k s e = elim (cases_eq k key) [
-      | inl same ↦ not_none s (sym (erased slots key k same) ∙ e)
+      | inl same ↦ absurd (none-some s (sym (erased slots key k same) ∙ e))
       | inr other ↦
           let there = is.found k s (sym (get_or-set_other slots key k None None other) ∙ e) in
           get_or-set_other log.items slot s None None (λ same.
@@ -216,7 +204,7 @@ module _ {Z : Type 0} {levels : ℕ} {log : Vec (Option ℕ) Z} {slots : List (O
     pub freed_back : (k s : ℕ) → get_or (set log.items slot None) s None ≡ Some k → get_or (set slots key None) k None
         ≡ Some s
     freed_back k s e = elim (cases_eq s slot) [
-      | inl same ↦ not_none k (sym (erased log.items slot s same) ∙ e)
+      | inl same ↦ absurd (none-some k (sym (erased log.items slot s same) ∙ e))
       | inr other ↦
           let there = is.back k s (sym (get_or-set_other log.items slot s None None other) ∙ e) in
           get_or-set_other slots key k None None (λ same.
@@ -241,7 +229,7 @@ module _ {Z : Type 0} {levels : ℕ} {log : Vec (Option ℕ) Z} {slots : List (O
 
     pub freed_absent : is_in nat_eq key (newest (set log.items slot None)) ≡ false
     freed_absent = newest_absent key (set log.items slot None) (λ i e.
-        not_none i (sym (erased slots key key refl) ∙ freed_back key i e))
+        absurd (none-some i (sym (erased slots key key refl) ∙ freed_back key i e)))
 
     pub is_weighed : get_or tree slot 0 ≡ weight key
     is_weighed = is.weighed slot ∙ ap (weight_of weight) (is.found key slot at_slot)
@@ -251,7 +239,7 @@ module _ {Z : Type 0} {levels : ℕ} {log : Vec (Option ℕ) Z} {slots : List (O
     where
       go : (o : Option ℕ) → get_or slots key None ≡ o → o ≡ None
       go None e = refl
-      go (Some s) e = clash absent (referenced key s e)
+      go (Some s) e = absurd (both_ways _ absent (referenced key s e))
 
   module _ (key : ℕ) (within : key < length slots) (absent : is_in nat_eq key (newest log.items) ≡ false) where
     abbrev more : List (Option ℕ)
@@ -284,8 +272,8 @@ module _ {Z : Type 0} {levels : ℕ} {log : Vec (Option ℕ) Z} {slots : List (O
       | inr (inl before) ↦
           let there = is.back k s (sym (get_or_append_left log.items (Some key ∷ []) None s before) ∙ e) in
           get_or-set_other slots key k (Some (length log.items)) None (λ same.
-          not_none s (sym (no_slot key absent) ∙ ap (λ j. get_or slots j None) (sym same) ∙ there)) ∙ there
-      | inr (inr past) ↦ not_none k (sym (past_end s past) ∙ e)
+          absurd (none-some s (sym (no_slot key absent) ∙ ap (λ j. get_or slots j None) (sym same) ∙ there))) ∙ there
+      | inr (inr past) ↦ absurd (none-some k (sym (past_end s past) ∙ e))
     ]
 
     pub is_free : get_or tree (length log.items) 0 ≡ 0
@@ -322,7 +310,7 @@ module _ {Z : Type 0} {levels : ℕ} {log : Vec (Option ℕ) Z} {slots : List (O
   pub key_within : (key slot : ℕ) → get_or log.items slot None ≡ Some key → key < length slots
   key_within key slot there = elim (cases_lt key (length slots)) [
     | inl h ↦ h
-    | inr h ↦ not_none slot (sym (get_or_past slots key None h) ∙ is.back key slot there)
+    | inr h ↦ absurd (none-some slot (sym (get_or_past slots key None h) ∙ is.back key slot there))
   ]
 
   pub first_fit : (n : ℕ) → sum_by weight (newest (take n log.items)) < 2 ^ 64

@@ -5,9 +5,9 @@ use Rattle.std.proofs.Math.Pow.{pow_mono}
 use Rattle.std.proofs.lemmas.Bool.{cases_lt, cases_eq}
 use Rattle.std.proofs.lemmas.Grind.{get_or-set_at}
 use Rattle.std.proofs.lemmas.List.{length-set, get_or-set_other, get_or_past, drop_all, drop-drop, get_or-replicate}
-use Rattle.std.proofs.lemmas.List.{drop-set-lt}
+use Rattle.std.proofs.lemmas.List.{drop-set-lt, drop-set-add, length-drop, get_or-drop, get_or_read}
 use Rattle.std.proofs.lemmas.List.{length-replicate, drop-replicate}
-use Rattle.std.proofs.lemmas.List.Sums.{sum_by-drop_more, sum_by-cons}
+use Rattle.std.proofs.lemmas.List.Sums.{sum_by-drop_more, sum_by-cons, sum_by-set}
 use Rattle.std.proofs.lemmas.List.Folds.{sum_by-replicate}
 use Rattle.std.proofs.lemmas.Nat.{pow_below, pow_pos}
 use Rattle.lru_trace.specs.Nodes.{IsTree}
@@ -189,15 +189,6 @@ module _ {slots up down : ℕ} where
     here = λ pos low. absurd (omega (arith, leaf, low));
   }
 
-  pub tree_again : {levels : ℕ} (t : List ℕ) (node : ℕ) → node ≡ 0 → slots ≡ 2 ^ levels → IsOff slots up down t node
-      → sum (drop slots t) < 2 ^ 64 → IsTree slots levels t
-  tree_again t node none power off fits = record {
-    power = power;
-    len = off.len;
-    sums = λ i pos low. off.sums i pos low (λ e. omega (arith, e, none, pos));
-    fits = fits;
-  }
-
 pub blank : (levels : ℕ) → IsTree (2 ^ levels) levels (replicate (2 * 2 ^ levels) 0)
 blank levels = record {
   power = refl;
@@ -222,17 +213,24 @@ pub record Corrects (slots levels up down : ℕ) (old t : List ℕ) (node : ℕ)
   pub leaves : drop slots t ≡ drop slots old
   pub above : (i : ℕ) → i ≤ node → get_or t i 0 ≡ get_or old i 0
 
-pub corrects_begins : {slots levels : ℕ} (up down : ℕ) (t : List ℕ) (slot v : ℕ) → IsTree slots levels t → slot < slots
-    → v + down ≡ get_or t (slots + slot) 0 + up
+pub corrects_begins : {slots levels : ℕ} (up down : ℕ) (t : List ℕ) (slot v : ℕ) → IsTree slots levels t
+    → (leaves : List ℕ) → drop slots t ≡ leaves → slot < length leaves → v + down ≡ get_or leaves slot 0 + up
     → Corrects slots levels up down (set t (slots + slot) v) (set t (slots + slot) v) ((slots + slot) / 2)
-corrects_begins {slots} {levels} up down t slot v tree h is = record {
-  power = tree.power;
-  off = corrected t (slots + slot) v (off_leaf t (slots + slot) (omega arith) tree) (omega (arith, h))
-      (omega (arith, h)) is;
-  inner = omega (arith, h);
-  leaves = refl;
-  above = λ i few. refl;
-}
+corrects_begins {slots} {levels} up down t slot v tree leaves are h is =
+    let long : slot < slots = omega (arith, h, ap length are, length-drop slots t, tree.len) in
+    let here = sym (get_or-drop slots t slot 0) ∙ ap (λ xs. get_or xs slot 0) are in
+    record {
+      power = tree.power;
+      off = corrected t (slots + slot) v (off_leaf t (slots + slot) (omega arith) tree) (omega (arith, long))
+          (omega (arith, long)) (omega (arith, is, here));
+      inner = omega (arith, long);
+      leaves = refl;
+      above = λ i few. refl;
+    }
+
+pub read_node : {slots levels up down : ℕ} {old : List ℕ} {t : List ℕ} {node : ℕ} (read : ℕ)
+    → Corrects slots levels up down old t node → read ≡ get_or t node read → read ≡ get_or t node 0
+read_node {t = t} {node = node} read h is = get_or_read t node read (omega (arith, h.off.len, h.inner)) is 0
 
 pub corrects_on : {slots levels up down : ℕ} {old : List ℕ} (t : List ℕ) (node v : ℕ)
     → Corrects slots levels up down old t node → 0 < node → v + down ≡ get_or t node 0 + up
@@ -244,3 +242,17 @@ corrects_on {slots} t node v h some is = record {
   leaves = drop-set-lt slots t node v h.inner ∙ h.leaves;
   above = λ i few. get_or-set_other t node i v 0 (λ e. omega (arith, e, few, some)) ∙ h.above i (omega (arith, few, some));
 }
+
+module _ {slots levels up down node : ℕ} {t leaves : List ℕ} (old : List ℕ) (are : drop slots old ≡ leaves) (slot v : ℕ)
+    (h : Corrects slots levels up down (set old (slots + slot) v) t node) where
+  pub leaves_now : drop slots t ≡ set leaves slot v
+  leaves_now = h.leaves ∙ drop-set-add slots old slot v ∙ ap (λ xs. set xs slot v) are
+
+  pub tree_again : node ≡ 0 → slot < length leaves → sum leaves + v < 2 ^ 64 + get_or leaves slot 0
+      → IsTree slots levels t
+  tree_again none within fits = record {
+    power = h.power;
+    len = h.off.len;
+    sums = λ i pos low. h.off.sums i pos low (λ e. omega (arith, e, none, pos));
+    fits = omega (arith, fits, ap sum leaves_now, sum_by-set (λ x. x) leaves slot v 0 within);
+  }

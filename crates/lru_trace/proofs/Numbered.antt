@@ -9,15 +9,12 @@ use Rattle.std.specs.Map.{update}
 use Rattle.std.specs.Global.{Global}
 use Rattle.std.proofs.lemmas.Bool.{cases_lt, eq-eqb, eqb-true, le-leb, lt-leb}
 use Rattle.std.proofs.lemmas.List.Sums.{sum_by-cons}
-use Rattle.std.proofs.lemmas.Option.{same_Some}
+use Rattle.std.proofs.lemmas.Option.{none-some, same_Some}
 use Rattle.std.proofs.lemmas.Slice.Eq.{bytes_eq-Decides}
 use Rattle.lru_theory.specs.Best.{until}
 use Rattle.lru_theory.specs.Traces.{is_in, since, recency, distance, misses, past_after}
 use Rattle.lru_trace.specs.Counted.{AreNumbered, number_in}
 use Rattle.lru_trace.specs.Times.{next_times}
-
-not_none : {A B : Type 0} (x : A) → None ≡ Some x → B
-not_none x e = absurd cc
 
 abbrev pub Named : (List ℕ → Option ℕ) → List (List ℕ) → List ℕ → Type 0
 Named number [] [] = Unit {0}
@@ -39,6 +36,10 @@ named_from number [] [] e = tt
 named_from number [] (n ∷ ns) e = absurd cc
 named_from number (x ∷ xs) [] e = absurd cc
 named_from number (x ∷ xs) (n ∷ ns) e = (ap (first_of None) e, named_from number xs ns (ap rest_of e))
+
+pub none_named : (ns : List ℕ) → [] ≡ map Some ns → ns ≡ []
+none_named [] e = refl
+none_named (n ∷ ns) e = absurd cc
 
 pub named_on : (number new : List ℕ → Option ℕ) → ((x : List ℕ) (n : ℕ) → number x ≡ Some n → new x ≡ Some n)
     → (xs : List (List ℕ)) (ns : List ℕ) → map number xs ≡ map Some ns → map new xs ≡ map Some ns
@@ -160,7 +161,8 @@ position_within key (x ∷ xs) e = go (nat_eq key x) e (position_within key xs)
     go false e later = omega (arith, later e)
 
 pub counted : (d n : ℕ) (counts : List ℕ) → d < length counts
-    → sum (take n (set counts d (get_or counts d 0 + 1))) ≡ sum (take n counts) + cond (nat_le n d) 0 1
+    → sum (take n (set counts d (get_or counts d 0 + 1))) + cond (nat_le n d) 1 0
+    ≡ sum (take n counts) + 1
 counted d zero counts h = rw (le-leb 0 d (omega arith)) refl
 counted d (suc n) [] h = absurd (omega (arith, h))
 counted zero (suc n) (x ∷ xs) h =
@@ -195,7 +197,7 @@ module _ (old new : List (String Global × ℕ)) (key : List ℕ) (number : ℕ)
   kept_more absent x n e = go (bytes_eq key x) refl
     where
       go : (b : Bool) → bytes_eq key x ≡ b → number_in new x ≡ Some n
-      go true h = not_none n (sym absent ∙ ap (number_in old) ((bytes_eq-Decides key x).0 h) ∙ e)
+      go true h = absurd (none-some n (sym absent ∙ ap (number_in old) ((bytes_eq-Decides key x).0 h) ∙ e))
       go false h = after x ∙ ap (λ b. cond b (Some number) (number_in old x)) h ∙ e
 
   pub numbered_more : AreNumbered old number → AreNumbered new (number + 1)

@@ -87,6 +87,18 @@ module _ (from to : Option (List ℕ)) (bytes : List ℕ) (stops : StopsAt bytes
   line_taken endings.Nothing line (same, none) =
       (subst (TakesRest from to) (sym same) (rest_taken (subst LacksFeed (sym none ∙ same) tt)), none)
 
+pub taken_part : (from to : Option (List ℕ)) (ending : Ending) (line : List ℕ) → TakesLine from to ending line
+    → (part : List ℕ) × Consumes from to part
+taken_part from to endings.Feed line taken = (fed line, taken.1)
+taken_part from to endings.InputEnd line taken = (line, taken.0.1)
+taken_part from to endings.Nothing line taken = (line, taken.0.1)
+
+pub taken_feed : (from to : Option (List ℕ)) (ending : Ending) (line : List ℕ) → (ending ≡ endings.Nothing → ⊥)
+    → (ending ≡ endings.InputEnd → ⊥) → TakesLine from to ending line → TakesLine from to endings.Feed line
+taken_feed from to endings.Feed line some feed taken = taken
+taken_feed from to endings.InputEnd line some feed taken = absurd (feed refl)
+taken_feed from to endings.Nothing line some feed taken = absurd (some refl)
+
 pub key_by_text : (line : List ℕ) → 0 < length line → length line ≤ 64 → is_key line ≡ is_utf8 line
 key_by_text line some few = rw (lt-ltb 0 (length line) some, le-leb (length line) 64 few) refl
 
@@ -246,18 +258,6 @@ module _ (bits w : ℕ) (keys more : List (List ℕ × ℕ)) (few : length more 
 module _ {from mid : Option (List ℕ)} {options : Options} {old : AnyCurve} {lines : ℕ} {others : Others}
     (so_far : ReadSoFar from mid options old lines others)
     (to : Option (List ℕ)) (line : List ℕ) where
-  pub all_read : TakesRest mid to line → line ≡ [] → KeysRead from to options old others
-  all_read taken none = record {
-    input = so_far.bytes ++ line;
-    reads = Consumes-trans from mid to so_far.bytes line so_far.reads taken.1;
-    at_end = ended_before from mid to so_far.bytes so_far.reads taken.2;
-    curve_of = subst (λ ls. IsCurveOf (warm_in options ls) (counted_in options ls) old) same so_far.curve_of;
-    left_out = so_far.left_out ∙ ap (others_in options) same;
-  }
-    where
-      same : lines_of so_far.bytes ≡ lines_of (so_far.bytes ++ line)
-      same = ap lines_of (sym (append-nil so_far.bytes) ∙ ap (λ l. so_far.bytes ++ l) (sym none))
-
   abbrev w : ℕ
   w = warm_up_of options.policies
 
@@ -301,19 +301,19 @@ module _ {from mid : Option (List ℕ)} {options : Options} {old : AnyCurve} {li
         so_far.curve_of)
 
     module _ (follows : Leads is_warm old (sampled bits it) AreTooLarge) where
-      pub large_line : TakesLine mid to endings.Feed line → TooLargeRead 0 from to options
-      large_line taken = record {
+      pub large_line : (ending : Ending) → (ending ≡ endings.Nothing → ⊥) → TakesLine mid to ending line
+          → TooLargeRead 0 from to options
+      large_line endings.Feed some taken = record {
         input = so_far.bytes ++ fed line;
         reads = Consumes-trans from mid to so_far.bytes (fed line) so_far.reads taken.1;
         large = holds AreTooLarge follows (so_far.bytes ++ fed line) (fed_line taken.0);
       }
-
-      pub large_last : TakesRest mid to line → 0 < length line → TooLargeRead 0 from to options
-      large_last taken some = record {
+      large_line endings.InputEnd some taken = record {
         input = so_far.bytes ++ line;
-        reads = Consumes-trans from mid to so_far.bytes line so_far.reads taken.1;
-        large = holds AreTooLarge follows (so_far.bytes ++ line) (last_line taken.0 some);
+        reads = Consumes-trans from mid to so_far.bytes line so_far.reads taken.0.1;
+        large = holds AreTooLarge follows (so_far.bytes ++ line) (last_line taken.0.0 taken.1);
       }
+      large_line endings.Nothing some taken = absurd (some refl)
 
     abbrev pub more : Others
     more = both others (others_so options (line ∷ []) is_warm)

@@ -1,13 +1,14 @@
 use Rattle.std.proofs.Common.{◌≡◌, ℕ, ◌+◌, ◌≤◌, ◌<◌, Bool, true, false, cond, List, [], ◌∷◌, ◌++◌, length}
 use Rattle.std.proofs.Common.{refl, sym, ap, ◌∙◌, arith, ◌⊎◌, inl, inr}
-use Rattle.std.proofs.lemmas.Bool.{eq-eqb, eqb-true}
+use Rattle.std.proofs.lemmas.Bool.{both_ways, eq-eqb, eqb-true}
+use Rattle.std.proofs.lemmas.Cmp.{nat_eq_equiv}
 use Rattle.std.proofs.lemmas.List.{get_or_append_left, get_or_push}
 use Rattle.std.proofs.lemmas.List.Sums.{sum_by-cons}
 use Rattle.std.specs.Prelude.{◌||◌, nat_eq, sum_by}
 use Rattle.std.specs.Set.{remove_key}
 use Rattle.lru_theory.specs.Traces.{is_in, since}
 use Rattle.lru_trace.specs.Slots.{weight_in}
-use Rattle.lru_trace.proofs.Logs.{without_none}
+use Rattle.lru_theory.proofs.Nexts.{without_absent}
 
 module _ (size : ℕ → ℕ) (key : ℕ) where
   pub needs_few : (xs : List ℕ) → is_in nat_eq key xs ≡ true → size key + sum_by size (since nat_eq key xs) ≤ sum_by size xs
@@ -55,10 +56,7 @@ module _ (key other : ℕ) where
               → is_in nat_eq other (cond b xs (x ∷ remove_key (nat_eq key) xs)) ≡ true
           test true same true found e ih =
               let is : nat_eq other key ≡ true = eq-eqb other key (eqb-true other x found ∙ sym (eqb-true key x same)) in
-              absurd (clash apart is)
-            where
-              clash : {b : Bool} → b ≡ false → b ≡ true → ⊥
-              clash e h = absurd cc
+              absurd (both_ways _ apart is)
           test true same false found e ih = e
           test false same true found e ih = rw found refl
           test false same false found e ih = rw found (ih e)
@@ -128,7 +126,7 @@ module _ (sizes : List ℕ) (bytes : ℕ) where
       arith,
       sum_by-cons (weight_in (sizes ++ bytes ∷ [])) n (remove_key (nat_eq n) xs),
       ap (sum_by (weight_in (sizes ++ bytes ∷ [])))
-          (without_none n xs (ap (λ m. is_in nat_eq m xs) e ∙ absent)),
+          (without_absent nat_eq_equiv n xs (ap (λ m. is_in nat_eq m xs) e ∙ absent)),
       sum_kept,
       size_added n e,
     )

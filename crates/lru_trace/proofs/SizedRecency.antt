@@ -1,7 +1,8 @@
-use Rattle.std.proofs.Common.{◌≡◌, ℕ, ◌+◌, ◌<◌, ◌^◌, true, false, List, [], ◌∷◌, ◌++◌, length, Some, None}
+use Rattle.std.proofs.Common.{◌≡◌, ℕ, ◌+◌, ◌<◌, ◌^◌, true, List, [], ◌∷◌, ◌++◌, length, Some}
 use Rattle.std.proofs.Common.{sym, subst, ap, ◌∙◌, arith, inl, inr}
-use Rattle.std.proofs.lemmas.Bool.{eq-eqb}
+use Rattle.std.proofs.lemmas.Bool.{false≢true, eq-eqb}
 use Rattle.std.proofs.lemmas.List.{length_push}
+use Rattle.std.proofs.lemmas.Option.{none-some}
 use Rattle.std.specs.Global.{Global}
 use Rattle.std.specs.Map.{update}
 use Rattle.std.specs.Prelude.{◌||◌, nat_eq, sum_by, String}
@@ -16,16 +17,10 @@ use Rattle.lru_trace.proofs.SizedKeys.{moved_sum, moved_in, was_in, sum_kept, su
 
 pub none_named : {A : Type 0} (names : List (String Global × ℕ)) → names ≡ [] → (key : List ℕ) (n : ℕ)
     → number_in names key ≡ Some n → A
-none_named names none key n e = clash (ap (λ them. number_in them key) (sym none) ∙ e)
-  where
-    clash : {A : Type 0} → None ≡ Some n → A
-    clash e = absurd cc
+none_named names none key n e = absurd (none-some n (ap (λ them. number_in them key) (sym none) ∙ e))
 
 pub none_in : {A : Type 0} (xs : List ℕ) → xs ≡ [] → (n : ℕ) → is_in nat_eq n xs ≡ true → A
-none_in xs none n e = clash (ap (is_in nat_eq n) (sym none) ∙ e)
-  where
-    clash : {A : Type 0} → false ≡ true → A
-    clash e = absurd cc
+none_in xs none n e = absurd (false≢true (ap (is_in nat_eq n) (sym none) ∙ e))
 
 module _ {names : List (String Global × ℕ)} {old : Recent} {limits counts : List ℕ} {references total : ℕ}
     (is : IsSized names old limits counts references total) (new : Recent) (number : ℕ) where

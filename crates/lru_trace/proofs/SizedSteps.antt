@@ -4,7 +4,7 @@ use Rattle.std.proofs.Common.{append_assoc}
 use Rattle.std.proofs.lemmas.Bool.{lt-ltb, le-ltb, lt-leb, le-leb, cases_lt}
 use Rattle.std.proofs.lemmas.Cmp.{nat_eq_equiv}
 use Rattle.std.proofs.lemmas.List.{length-append, map-append, append-nil}
-use Rattle.std.proofs.lemmas.Option.{same_Some}
+use Rattle.std.proofs.lemmas.Option.{none-some, same_Some}
 use Rattle.std.proofs.lemmas.Slice.Eq.{bytes_eq-Decides}
 use Rattle.std.specs.List.Sorted.{IsNonDecreasing}
 use Rattle.std.specs.Map.{lookup, keys_of}
@@ -19,7 +19,7 @@ use Rattle.lru_theory.proofs.Lists.{is_in_recency, since_recency}
 use Rattle.lru_trace.specs.Counted.{AreNumbered, number_in}
 use Rattle.lru_trace.specs.Sized.{Sized, IsSizedOf, Made, first_size, need_of, exceeds}
 use Rattle.lru_trace.specs.Slots.{weight_in}
-use Rattle.lru_trace.proofs.Numbered.{Named, named_from, named_on, past_named, counted}
+use Rattle.lru_trace.proofs.Numbered.{Named, none_named, named_from, named_on, past_named, counted}
 use Rattle.lru_trace.proofs.SizedCosts.{reweighed, within_more}
 
 module _ (limits : List ℕ) (need : ℕ) where
@@ -59,9 +59,6 @@ module _ {K X : Type 0} (test : K → Bool) where
       go true e ih = absurd cc
       go false e ih = ih e
 
-pub clash : {A B : Type 0} (x : A) → None ≡ Some x → B
-clash x e = absurd cc
-
 none_in : (number : List ℕ → Option ℕ) (key : List ℕ) → number key ≡ None → (refs : List (List ℕ × ℕ)) (ns : List ℕ)
     → Named number (keys_of refs) ns → lookup (bytes_eq key) refs ≡ None
 none_in number key none [] ns h = refl
@@ -70,7 +67,7 @@ none_in number key none ((y, v) ∷ refs) (n ∷ ns) h = go (bytes_eq key y) ref
   where
     go : (b : Bool) → bytes_eq key y ≡ b → lookup (bytes_eq key) refs ≡ None
         → cond b (Some v) (lookup (bytes_eq key) refs) ≡ None
-    go true e ih = clash n (sym none ∙ ap number ((bytes_eq-Decides key y).0 e) ∙ h.0)
+    go true e ih = absurd (none-some n (sym none ∙ ap number ((bytes_eq-Decides key y).0 e) ∙ h.0))
     go false e ih = ih
 
 far_is : (size : ℕ → ℕ) (number : ℕ) (past : List ℕ) (limit : ℕ)
@@ -177,10 +174,6 @@ module _ {warm trace : List (List ℕ × ℕ)} {old : Sized} (of : IsSizedOf war
       all = omega (arith, of.all, length-append trace one);
     }
       where
-        split : (b : Bool) → cond {A = ℕ} b 1 0 + cond {A = ℕ} b 0 1 ≡ 1
-        split true = omega arith
-        split false = omega arith
-
         as_le : (i : ℕ) → nat_le (i + 1) at ≡ nat_lt i at
         as_le i = elim (cases_lt i at) [
           | inl h ↦ le-leb (i + 1) at (omega (arith, h)) ∙ sym (lt-ltb i at h)
@@ -203,18 +196,13 @@ module _ {warm trace : List (List ℕ × ℕ)} {old : Sized} (of : IsSizedOf war
               ap (λ b. cond {A = ℕ} b 1 0) far,
               same_misses new.sizes made.sizes limit,
               counted at (i + 1) old.counts within,
-              split (nat_le (i + 1) at),
             )
 
 module _ {warm : List (List ℕ × ℕ)} {old : Sized} (of : IsSizedOf warm [] old) {keys : ℕ}
     (are : AreNumbered old.names keys) (key : List ℕ) (bytes : ℕ) (need : Option ℕ) (new : Sized)
     (made : Made key bytes need old new) where
   none_counted : of.numbers ≡ []
-  none_counted = go of.numbers (named_from (number_in old.names) [] of.numbers of.named)
-    where
-      go : (ns : List ℕ) → Named (number_in old.names) [] ns → ns ≡ []
-      go [] h = refl
-      go (n ∷ ns) h = absurd h
+  none_counted = none_named of.numbers of.named
 
   pub of_warm : IsSizedOf (warm ++ (key, bytes) ∷ []) []
       (record old { names = new.names; recency = new.recency; sizes = new.sizes })

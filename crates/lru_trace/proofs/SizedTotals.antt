@@ -1,6 +1,7 @@
 use Rattle.std.proofs.Common.{◌≡◌, ℕ, ◌+◌, ◌≤◌, ◌^◌, Bool, true, false, cond, List, [], ◌∷◌, ◌++◌, Option, Some, None}
 use Rattle.std.proofs.Common.{refl, sym, ap, ◌∙◌, subst, arith, append_assoc}
 use Rattle.std.proofs.lemmas.List.{map-append, append-nil}
+use Rattle.std.proofs.lemmas.Option.{none-some}
 use Rattle.std.proofs.lemmas.List.Sums.{sum_by-cons}
 use Rattle.std.proofs.lemmas.Slice.Eq.{bytes_eq-Decides}
 use Rattle.std.specs.Map.{keys_of}
@@ -15,7 +16,7 @@ use Rattle.lru_trace.specs.Sized.{Sized, IsSizedOf, bytes_of, first_size, size_i
 use Rattle.lru_trace.specs.Slots.{weight_in}
 use Rattle.lru_trace.proofs.Numbered.{Named, named_from, past_named, recency_named}
 use Rattle.lru_trace.proofs.SizedCosts.{sum_named}
-use Rattle.lru_trace.proofs.SizedSteps.{clash, found_still, first_is}
+use Rattle.lru_trace.proofs.SizedSteps.{found_still, first_is}
 
 past_on : {K : Type 0} (past xs ys : List K) → past_after past (xs ++ ys) ≡ past_after (past_after past xs) ys
 past_on past [] ys = refl
@@ -29,7 +30,7 @@ unnamed_out number key none (y ∷ xs) (n ∷ ns) h = go (bytes_eq key y) refl (
   where
     go : (b : Bool) → bytes_eq key y ≡ b → remove_key (bytes_eq key) xs ≡ xs
         → cond b xs (y ∷ remove_key (bytes_eq key) xs) ≡ y ∷ xs
-    go true e ih = clash n (sym none ∙ ap number ((bytes_eq-Decides key y).0 e) ∙ h.0)
+    go true e ih = absurd (none-some n (sym none ∙ ap number ((bytes_eq-Decides key y).0 e) ∙ h.0))
     go false e ih = ap (λ l. y ∷ l) ih
 
 module _ {warm trace : List (List ℕ × ℕ)} {old : Sized} (of : IsSizedOf warm trace old) {keys : ℕ}

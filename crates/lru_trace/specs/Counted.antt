@@ -1,4 +1,4 @@
--- The miss-ratio curve of a trace, computed as its references are counted.
+-- The miss-ratio curve of a trace, computed while the references are counted.
 use Rattle.std.specs.Prelude.{◌≡◌, ℕ, ◌+◌, ◌≤◌, ◌<◌, List, [], length, map, take, sum, Option, Some, IfSome, nat_eq, String}
 use Rattle.std.specs.Global.{Global}
 use Rattle.std.specs.Map.{lookup}
@@ -11,7 +11,7 @@ pub record Counted : Type 0 where
   pub names : List (String Global × ℕ)
   -- the numbers of the keys, the last referenced key first
   pub recency : List ℕ
-  -- for each reuse distance, how many counted references had it
+  -- for each reuse distance, how many counted references had this distance
   pub counts : List ℕ
   pub references : ℕ
   -- the number of the key of each counted reference, or `None` if the curve does not keep these numbers
@@ -25,7 +25,7 @@ pub record AreNumbered (names : List (String Global × ℕ)) (n : ℕ) : Type 0 
   pub small : (key : List ℕ) (number : ℕ) → number_in names key ≡ Some number → number < n
   pub apart : (a b : List ℕ) (number : ℕ) → number_in names a ≡ Some number → number_in names b ≡ Some number → a ≡ b
 
--- the curve of the references `trace`, which come after the warm-up `warm`
+-- the curve counts the references of `trace`, a trace that comes after the warm-up `warm`
 pub record IsOf (warm trace : List (List ℕ)) (curve : Counted) : Type 0 where
   pub before : List ℕ
   pub numbers : List ℕ

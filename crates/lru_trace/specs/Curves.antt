@@ -27,7 +27,7 @@ abbrev pub keeps : AnyCurve → Bool
 keeps (curves.Places curve) = is_some curve.kept
 keeps (curves.Bytes curve) = false
 
--- The limits of bytes. A curve of numbers of entries has no limits: it counts the misses for every size.
+-- The limits of bytes. A curve for sizes in entries has no limits, because it counts the misses for every size.
 abbrev pub limits_of : AnyCurve → Option (List ℕ)
 limits_of (curves.Places curve) = None
 limits_of (curves.Bytes curve) = Some curve.limits
@@ -36,16 +36,17 @@ limits_of (curves.Bytes curve) = Some curve.limits
 abbrev pub Has : AnyCurve → ℕ → Type 0
 Has curve size = IfSome (limits_of curve) (λ limits. is_in nat_eq size limits ≡ true)
 
--- the curve of a sample of one key in 2 ^ bits counts the misses for each of these sizes, divided by 2 ^ bits
+-- For a sample of one key in 2 ^ bits, each of these sizes is divided by 2 ^ bits. The curve counts the misses for each
+-- resulting size.
 abbrev pub HasAll : AnyCurve → ℕ → List ℕ → Type 0
 HasAll curve bits sizes = All (λ size. Has curve (size / 2 ^ bits)) sizes
 
--- the curve of the references `trace`, which come after the warm-up `warm`
+-- the curve counts the references of `trace`, a trace that comes after the warm-up `warm`
 abbrev pub IsCurveOf : List (List ℕ × ℕ) → List (List ℕ × ℕ) → AnyCurve → Type 0
 IsCurveOf warm trace (curves.Places curve) = IsOf (keys_of warm) (keys_of trace) curve
 IsCurveOf warm trace (curves.Bytes curve) = IsSizedOf warm trace curve
 
--- what further references do not change in a curve
+-- the facts about a curve that further references do not change
 pub record AreAlike (old new : AnyCurve) : Type 0 where
   pub measure : measure_in new ≡ measure_in old
   pub keeps : keeps new ≡ keeps old
@@ -58,15 +59,15 @@ pub record Fits (options : Options) (sizes : List ℕ) (curve : AnyCurve) : Type
   pub named : HasAll curve (bits_of options) sizes
   pub powers : (most : ℕ) → most < 2 ^ 128 → HasAll curve (bits_of options) (powers most 64 0)
 
--- The curve of a warm-up and a trace was `old`. After these further references, `Holds` is true of the warm-up and the
--- trace. The references are part of the warm-up if `is_warm` is true, and of the trace if it is false.
+-- `old` was the curve of a warm-up and a trace. The further references are added to the warm-up if `is_warm` is true,
+-- and to the trace if `is_warm` is false. After this, `Holds` is true of the warm-up and the trace.
 pub record Leads (is_warm : Bool) (old : AnyCurve) (references : List (List ℕ × ℕ))
     (Holds : List (List ℕ × ℕ) → List (List ℕ × ℕ) → Type 0) : Type 0 where
   pub counted : is_warm ≡ false → (warm trace : List (List ℕ × ℕ)) → IsCurveOf warm trace old
       → Holds warm (trace ++ references)
   pub warmed : is_warm ≡ true → (warm : List (List ℕ × ℕ)) → IsCurveOf warm [] old → Holds (warm ++ references) []
 
--- `new` is the curve after these references
+-- `new` is the curve after these further references
 abbrev pub Follows : Bool → AnyCurve → List (List ℕ × ℕ) → AnyCurve → Type 0
 Follows is_warm old references new = Leads is_warm old references (λ warm trace. IsCurveOf warm trace new)
 

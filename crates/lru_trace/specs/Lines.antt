@@ -29,9 +29,10 @@ EndsSo endings.Feed bytes line = bytes ≡ fed line
 EndsSo endings.InputEnd bytes line = (line ≡ bytes) × (0 < length line) × ((front : List ℕ) → bytes ≡ fed front → ⊥)
 EndsSo endings.Nothing bytes line = (line ≡ bytes) × (line ≡ [])
 
--- The reader had the bytes `from` left before, and has the bytes `to` left now, if these are known.
+-- `from` lists the bytes that were left to read before, and `to` lists the bytes that are left to read now. Each list
+-- may be unknown (`None`).
 module _ (from to : Option (List ℕ)) where
-  -- these bytes, which have no line feed, were read, and the reader has nothing left
+  -- These bytes, without a line feed, were read. The reader has no bytes left.
   abbrev pub TakesRest : List ℕ → Type 0
   TakesRest bytes = LacksFeed bytes × Consumes from to bytes × OnSome from (IsAtEnd to)
 

@@ -1,4 +1,4 @@
--- A tree of sums, as the list of its nodes. Node 0 is not used.
+-- A tree of sums, as a list of nodes. Node 0 is not used.
 use Rattle.std.specs.Prelude.{◌≡◌, ℕ, ◌+◌, ◌*◌, ◌^◌, ◌<◌, List, length, get_or, drop, sum}
 
 -- Each inner node contains the sum of its two children. The leaves are the second half of the list.

@@ -1,4 +1,4 @@
--- How the program `trace` ends: what it read and wrote.
+-- How the program `trace` ends: what the program read and wrote.
 use Rattle.std.specs.Prelude.{◌≡◌, ℕ, ◌≤◌, List, [], ◌∷◌, ◌++◌, length, drop, Option, OnSome, Some, None, Result, Ok, Err}
 use Rattle.std.specs.Io.KnownBytes.{Consumes, IsAtEnd, Appends, Keeps}
 use Rattle.lru_trace.specs.declared.options.Options.{Options}
@@ -16,8 +16,8 @@ use Rattle.lru_trace.specs.declared.lines.Others.{Others}
 use Rattle.lru_trace.specs.Report.{output}
 use Rattle.lru_trace.specs.Sizes.{sizes_from}
 
--- The reader had the bytes `from` left before, and has the bytes `to` left now, if these are known. The reader was read
--- to its end, and `curve` counts the references that the lines make.
+-- `from` lists the bytes that were left to read before, and `to` lists the bytes that are left to read now. Each list
+-- may be unknown (`None`). The reader was read to the end, and `curve` counts the references that the lines make.
 pub record KeysRead (from to : Option (List ℕ)) (options : Options) (curve : AnyCurve) (others : Others) : Type 0 where
   pub input : List ℕ
   pub reads : Consumes from to input
@@ -49,17 +49,19 @@ pub record NoSizesRead (from to : Option (List ℕ)) : Type 0 where
 abbrev pub SomeRead : Option (List ℕ) → Option (List ℕ) → Type 0
 SomeRead from to = (part : List ℕ) × Consumes from to part
 
--- After the first n lines, the entries of the keys that were read together take 2 ^ 64 bytes or more.
+-- The keys were read from the lines after the first n lines. The sum of the sizes of the entries of these keys is 2 ^
+-- 64 bytes or more.
 pub record TooLargeRead (n : ℕ) (from to : Option (List ℕ)) (options : Options) : Type 0 where
   pub input : List ℕ
   pub reads : Consumes from to input
   pub large : AreTooLarge (warm_in options (drop n (lines_of input))) (counted_in options (drop n (lines_of input)))
 
--- A beginning of the text was written: the writer's bytes were `old` before, and are `new` now.
+-- A beginning of the text was written. `old` lists the bytes that were written before, and `new` lists all bytes that
+-- are written now. Each list may be unknown (`None`).
 abbrev pub Begins : Option (List ℕ) → Option (List ℕ) → List ℕ → Type 0
 Begins old new text = (begun rest : List ℕ) × (text ≡ begun ++ rest) × Appends old new begun
 
--- The reader was read to its end, and its lines determine the text. `IsWritten` says which part of the text was
+-- The reader was read to the end, and the lines determine the text. `IsWritten` says which part of the text was
 -- written. If the reader's type does not say which bytes are left, `input` may be any input.
 pub record Reported (from to : Option (List ℕ)) (options : Options) (IsWritten : List ℕ → Type 0) : Type 0 where
   pub input : List ℕ

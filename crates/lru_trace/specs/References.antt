@@ -53,7 +53,7 @@ module _ (options : Options) where
     abbrev pub warm_in : List (List ℕ × ℕ)
     warm_in = sampled (bits_of options) (take (warm_up_of options.policies) references_in)
 
-    -- the counted references, which come after the warm-up
+    -- the counted references: all references that come after the warm-up
     abbrev pub counted_in : List (List ℕ × ℕ)
     counted_in = sampled (bits_of options) (drop (warm_up_of options.policies) references_in)
 
@@ -64,7 +64,7 @@ module _ (options : Options) where
       skipped = skipped (bits_of options) (drop (warm_up_of options.policies) references_in);
     }
 
-    -- `others_in` for lines that are all in the warm-up (if `warm` is true) or all after the warm-up (if it is false)
+    -- `others_in`, if all lines are in the warm-up (`warm` is true), or none (`warm` is false)
     abbrev pub others_so : Bool → Others
     others_so warm = record {
       malformed = malformed_in;

@@ -25,22 +25,22 @@ expected_of bits counts = (counts.references + unwrap_or counts.skipped 0) / 2 ^
 abbrev pub keys : List (List ℕ) → List (List ℕ) → ℕ
 keys warm trace = length (recency bytes_eq (past_after (past_after [] warm) trace))
 
--- How many references of `trace`, after the warm-up, miss in a cache of this size.
+-- How many references of `trace` miss in a cache of this size, if the warm-up comes before `trace`.
 abbrev pub missed : Measure → List (List ℕ × ℕ) → List (List ℕ × ℕ) → ℕ → ℕ
 missed Places warm trace size = misses bytes_eq size (past_after [] (keys_of warm)) (keys_of trace)
 missed Bytes warm trace size = missed_within size warm trace
 
--- the size of a cache that has room for all keys
+-- the least size of a cache that has room for all keys
 abbrev pub needed : Measure → List (List ℕ × ℕ) → List (List ℕ × ℕ) → ℕ
 needed Places warm trace = keys (keys_of warm) (keys_of trace)
 needed Bytes warm trace = bytes_of (warm ++ trace)
 
--- the powers of two from 2 ^ level up to the first that is at least `most`, but at most n powers
+-- The powers of two from 2 ^ level on. The list ends with the first power that is at least `most`, or after n powers.
 unfoldable pub powers : ℕ → ℕ → ℕ → List ℕ
 powers most zero level = []
 powers most (suc n) level = 2 ^ level ∷ (if nat_le most (2 ^ level) then [] else powers most n (suc level))
 
--- `trace` contains the counted references, and `warm` the earlier references of the warm-up.
+-- `trace` contains the counted references, and `warm` contains the earlier references of the warm-up.
 module _ (measure : Measure) (warm trace : List (List ℕ × ℕ)) where
   -- In a sample of one key in 2 ^ bits, a cache of the size n / 2 ^ bits stands for a cache of the size n.
   abbrev pub row_of : ℕ → ℕ → Bool → ℕ → Row
@@ -56,11 +56,11 @@ module _ (measure : Measure) (warm trace : List (List ℕ × ℕ)) where
   abbrev pub axis_in : ℕ → List ℕ
   axis_in bits = powers (max (needed measure warm trace) 1 * 2 ^ bits) 64 0
 
-  -- the powers of two on the axis that stand for a size of at least 1 in the sample
+  -- the powers of two on the axis, from 2 ^ bits on, which is the size 1 in the sample
   abbrev pub powers_in : ℕ → List ℕ
   powers_in bits = drop bits (axis_in bits)
 
--- inserts n into the rising list of sizes, unless the list contains n already
+-- the rising list of sizes with n inserted, unless the list contains n already
 abbrev pub with_size : List ℕ → ℕ → List ℕ
 with_size [] n = n ∷ []
 with_size (size ∷ sizes) n =

@@ -1,4 +1,4 @@
--- A sample of keys, which contains the keys whose lowest hash bits are zero.
+-- A sample of keys: the keys whose lowest hash bits are zero.
 use Rattle.std.specs.Prelude.{ℕ, ◌*◌, ◌%◌, ◌^◌, ◌==◌, Bool, not, List, length, bit_xor}
 use Rattle.std.specs.List.{fold, filter}
 

@@ -12,11 +12,11 @@ pub record Recent : Type 0 where
   pub weights : List ℕ
   pub room : ℕ
 
--- the weight of the key, which is 1 if the list contains no weight for this key
+-- the weight of the key, or 1 if the list contains no weight for this key
 abbrev pub weight_in : List ℕ → ℕ → ℕ
 weight_in weights key = get_or weights key 1
 
--- the weight of all keys before this key in the recency list, or `None` if the key is not in the list
+-- the sum of the weights of the keys before this key in the recency list, or `None` if the key is not in the list
 abbrev pub position : (ℕ → ℕ) → ℕ → List ℕ → Option ℕ
 position weight key recency =
     if is_in nat_eq key recency then Some (sum_by weight (since nat_eq key recency)) else None

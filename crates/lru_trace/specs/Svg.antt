@@ -1,5 +1,5 @@
 -- The picture of the curves. Coordinates are tenths of a pixel. The sizes 1 to 2 ^ octaves are at 900 to 7300 from the
--- left. The point of a size is at 3900 from the top if no reference misses, and at 700 if all miss.
+-- left. The point of a size is at 3900 from the top if no reference misses, and at 700 if all references miss.
 use Rattle.std.specs.Prelude.{ℕ, zero, suc, ◌+◌, ◌-◌, ◌*◌, ◌/◌, ◌%◌, ◌^◌, max, nat_le, ◌==◌, if◌then◌else◌}
 use Rattle.std.specs.Prelude.{List, [], ◌++◌, length, flat_map, decimal, codes, Bool, Option, Some, None}
 use Rattle.lru_trace.specs.declared.svg.TheConstants.{START, PLACES, BYTES, LRU, MIN, BYPASS}
@@ -11,16 +11,16 @@ use Rattle.lru_trace.specs.declared.options.Measure.TheVariants.{Places, Bytes}
 use Rattle.lru_trace.specs.declared.svg.Policy.{Policy}
 use Rattle.lru_trace.specs.declared.svg.Policy.TheVariants as policies
 
--- the share of the references that missed, times `scale` and rounded down
+-- the share of the references that missed, multiplied by `scale` and rounded down
 abbrev pub part : ℕ → ℕ → ℕ → ℕ
 part missed references scale = if references == 0 then 0 else missed * scale / references
 
--- The share of the expected references that miss, times `scale` and rounded down. The result is `scale` if more
--- references miss than are expected.
+-- The share of the expected references that miss, multiplied by `scale` and rounded down. If more references miss than
+-- are expected, the result is `scale`.
 abbrev pub missed_part : ℕ → ℕ → ℕ → ℕ
 missed_part missed expected scale = part missed (max missed expected) scale
 
--- the greatest level up to `most` for which 2 ^ level is at most n, or 0 if there is none
+-- the greatest level, at most `most`, with 2 ^ level ≤ n, or 0 if there is no such level
 unfoldable pub level_of : ℕ → ℕ → ℕ
 level_of zero n = 0
 level_of (suc most) n = if nat_le (2 ^ suc most) n then suc most else level_of most n
@@ -57,7 +57,7 @@ abbrev pub label : Measure → List ℕ
 label Places = PLACES.now
 label Bytes = BYTES.now
 
--- the entry of a policy in the legend, and the beginning of its curve
+-- the entry of a policy in the legend, and the beginning of the policy's curve
 abbrev pub legend : Policy → List ℕ
 legend policies.Lru = LRU.now
 legend policies.Min = MIN.now
@@ -70,7 +70,7 @@ abbrev pub grid_text : ℕ → ℕ → List ℕ
 grid_text x size = codes "<path class='grid' d='M" ++ (decimal x ++ (codes " 700v3200'/><text class='tick' x='"
     ++ (decimal x ++ (codes "' y='4080'>" ++ (decimal size ++ codes "</text>\n")))))
 
--- The tick of a power of two on the axis. If the axis has more than nine powers, only some of them have a tick.
+-- The tick of a power of two on the axis. If the axis has more than nine powers, only some powers have a tick.
 abbrev pub tick_text : ℕ → ℕ → List ℕ
 tick_text octaves power =
     if level_of 63 power % (1 + octaves / 9) == 0 then grid_text (x_of octaves power) power else []

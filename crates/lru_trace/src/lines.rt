@@ -172,13 +172,13 @@ pub fn read_keys<R: BufRead, P: Write>(
     for lines in 0..u64::MAX - 1 {
         progress.note(lines);
         let warm = lines - others.malformed < warm_up;
-        match read_line(reader, line)? {
-            Ending::Feed => others.add(refer_line(curve, options, warm, line)?),
-            Ending::InputEnd => {
-                others.add(refer_line(curve, options, warm, line)?);
-                return Ok(others);
-            }
-            Ending::Nothing => return Ok(others),
+        let ending = read_line(reader, line)?;
+        if let Ending::Nothing = ending {
+            return Ok(others);
+        }
+        others.add(refer_line(curve, options, warm, line)?);
+        if let Ending::InputEnd = ending {
+            return Ok(others);
         }
     }
     Err(TraceError::Read)

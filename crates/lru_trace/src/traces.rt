@@ -35,7 +35,7 @@ fn add_limits(limits: &mut Vec<u64>, sizes: &[usize], bits: u32) -> Result<(), A
     Ok(())
 }
 
-/// Returns the limits in the sample for the named sizes and for all powers of two.
+/// Returns the named sizes and all powers of two, each divided by 2 ^ bits for the sample.
 fn limits_of(alloc: Global, sizes: &[usize], bits: u32) -> Result<Vec<u64>, AllocError>
     requires { bits ≤ 20 }
     ensures { IfOk result (λ limits. limits.items ≡ map (λ size. size / 2 ^ bits) sizes.now
@@ -107,7 +107,7 @@ fn read_trace<R: BufRead, P: Write>(
 /// the misses of the best possible policies: in the text form for each named size, and in the other forms also for each
 /// power of two.
 ///
-/// Cost: `O(log n)` expected for each line and n keys. The memory is in proportion to the number of keys and the
+/// Cost: for n keys, `O(log n)` expected for each line. The memory is in proportion to the number of keys and the
 /// longest line. With `Policies::Best` the memory is also in proportion to the number of lines, and each size costs
 /// `O(log n)` more for each line.
 ///

@@ -1,5 +1,5 @@
--- How links keep buckets in an order: each entry contains links to its newer and its older neighbour. No public clause
--- cites this module.
+-- How links keep buckets in an order: each entry contains a link to the next newer entry, and a link to the next older
+-- entry. No public clause cites this module.
 use Rattle.std.specs.Prelude.{◌≡◌, ◌≢◌, ◌⊎◌, ℕ, zero, suc, ◌<◌, slice_index_or, List, [], ◌∷◌, length, map}
 use Rattle.std.specs.Prelude.{Option, Some, None, option_map, unwrap_or, Contains, AllPairs}
 use Rattle.group_table.specs.Bucket.{empty, deleted, full, Slot, IsFull, bucket_at, entry_at, entry_count}
@@ -9,7 +9,7 @@ use Rattle.ordered_table.specs.OrderedTable.{bucket_after, bucket_before}
 use Rattle.ordered_table.specs.declared.linked.Entry.{Entry}
 use Rattle.ordered_table.specs.declared.linked.chain.Chain.{Chain}
 
--- the bucket with its pair, but without the links of its entry
+-- the bucket with the pair of the entry, without the links
 abbrev pub pair_slot : {K V N : Type 0} → Slot (Entry K V N) → Slot (K × V)
 pair_slot empty = empty
 pair_slot deleted = deleted
@@ -23,14 +23,15 @@ module _ {N : Type 0} (link : ℕ → N) (none : N) where
   link_to None = none
   link_to (Some b) = link b
 
--- up to n buckets from the bucket of a link on, each followed by its older neighbour
+-- The buckets that the link `from`, and then the links to older entries, lead to: n buckets, or fewer if the links end.
 abbrev pub along : {K V N : Type 0} → (N → ℕ) → ℕ → List (Slot (Entry K V N)) → N → List ℕ
 along number zero slots from = []
 along number (suc n) slots from = unwrap_or (option_map (λ entry. number from ∷ along number n slots entry.older)
     (entry_at slots (number from))) []
 
 module _ {K V N : Type 0} where
-  -- the link of the entry in bucket b to its newer neighbour, and (`older_at`) to its older neighbour
+  -- `newer_at`: the link from the entry in bucket b to the next newer entry. `older_at`: the link to the next older
+  -- entry.
   abbrev pub newer_at : List (Slot (Entry K V N)) → ℕ → Option N
   newer_at slots b = option_map (λ entry. entry.newer) (entry_at slots b)
 
@@ -45,8 +46,8 @@ module _ {K V N : Type 0} where
     pub others : (c : ℕ) → c ≢ b → entry_at new c ≡ entry_at old c
 
 module _ {K V N : Type 0} (number : N → ℕ) where
-  -- If the link `at` leads to an entry, the link `kind` of this entry is now `to`. The link `other` of each entry, and
-  -- the links of all other entries, have not changed.
+  -- `kind` and `other` are the two links of an entry. If the link `at` leads to an entry, the link `kind` of this entry
+  -- is now `to`. All other links stay.
   pub record SetsLink (kind other : Entry K V N → N) (old new : List (Slot (Entry K V N))) (at to : N) : Type 0 where
     pub pairs : pair_slots new ≡ pair_slots old
     pub there : IsFull old (number at) → option_map kind (entry_at new (number at)) ≡ Some to
@@ -60,7 +61,7 @@ module _ {K V N : Type 0} (number : N → ℕ) where
   SetsOlder = SetsLink (λ entry. entry.older) (λ entry. entry.newer)
 
 module _ {N : Type 0} (number : N → ℕ) (none : N) (links : List N) where
-  -- the link to an entry's new bucket, computed from the link to its old bucket
+  -- the link to the new bucket of an entry, computed from the link to the old bucket of the entry
   abbrev pub moved_link : N → N
   moved_link l = slice_index_or links (number l) none
 
@@ -68,7 +69,7 @@ module _ {N : Type 0} (number : N → ℕ) (none : N) (links : List N) where
   abbrev pub HasPlace : N → Type 0
   HasPlace l = (l ≡ none) ⊎ (number l < length links)
 
-  -- the links of the entry in bucket b now lead to the new buckets of its neighbours, and nothing else has changed
+  -- the links of the entry in bucket b now lead to the new buckets of the neighbours, and nothing else has changed
   pub record MovesLinks {K V : Type 0} (old new : List (Slot (Entry K V N))) (b : ℕ) : Type 0 where
     pub pairs : pair_slots new ≡ pair_slots old
     pub newer_there : newer_at new b ≡ option_map moved_link (newer_at old b)
@@ -81,8 +82,8 @@ pub record SetsEnd {N : Type 0} (none old new at to : N) : Type 0 where
   pub stays : at ≢ none → new ≡ old
 
 module _ {K V N : Type 0} (number : N → ℕ) (link : ℕ → N) (none : N) where
-  -- The links keep some full buckets in this order. `newest` and `oldest` lead to the ends of the order, and each entry
-  -- has links to its neighbours. Links can number every bucket.
+  -- The links keep some full buckets in the order `order`. `newest` and `oldest` lead to the ends of the order, and
+  -- each entry in these buckets has links to its neighbours. Links are wide enough for every bucket.
   pub record IsChain (slots : List (Slot (Entry K V N))) (newest oldest : N) (order : List ℕ) : Type 0 where
     pub reached : length slots < number none
     pub distinct : AllPairs ◌≢◌ order
@@ -98,8 +99,8 @@ module _ {K V N : Type 0} (number : N → ℕ) (link : ℕ → N) (none : N) whe
     pub all : (b : ℕ) → IsFull slots b → Contains order b
     pub count : entry_count slots ≡ length order
 
-  -- Bucket b, with these two links, is about to be taken out of the chain `order`. The entry of b may have left its
-  -- slot already. All other entries are still in their slots.
+  -- Bucket b, with these two links, is about to be taken out of the chain `order`. The slot of b may be free already.
+  -- No other slot has changed.
   pub record IsGap (slots : List (Slot (Entry K V N))) (newest oldest : N) (order : List ℕ) (b : ℕ) (newer older : N)
       : Type 0 where
     pub before : List (Slot (Entry K V N))
@@ -118,11 +119,11 @@ module _ {K V N : Type 0} (number : N → ℕ) (link : ℕ → N) (none : N) whe
   abbrev pub HasGap : Chain K V N → List ℕ → ℕ → N → N → Type 0
   HasGap chain = IsGap chain.table.slots chain.newest chain.oldest
 
-  -- the links keep an order of some buckets, one of which is b
+  -- the links keep an order of some buckets, and b is one of these buckets
   abbrev pub InChain : Chain K V N → ℕ → Type 0
   InChain chain b = (order : List ℕ) × KeepsOrder chain order × Contains order b
 
-  -- the links keep an order of some buckets, none of which is b
+  -- the links keep an order of some buckets, and b is none of these buckets
   abbrev pub OutOfChain : Chain K V N → ℕ → Type 0
   OutOfChain chain b = (order : List ℕ) × KeepsOrder chain order × (Contains order b → ⊥)
 

@@ -1,12 +1,12 @@
--- What becomes of a stored pair if its limiter is offered a new value for the pair.
+-- What becomes of a stored pair if the limiter is offered a new value for the pair.
 use Rattle.std.specs.Prelude.{◌≡◌, ℕ, Bool, Some, if◌then◌else◌}
 use Rattle.group_table.specs.Bucket.{entry_at}
 use Rattle.lru_limits.specs.Rules.{Replaced}
 use Rattle.lru_model.specs.Inserts.{unkept_of}
 use Rattle.ordered_table.specs.OrderedTable.{OrderedTable, with_pair}
 
--- `by` is what the limiter did when it was offered a new value. The stored pair is now `after`: its value is the new
--- one if the limiter accepted the new value. `value` is the value that is not stored.
+-- `by` is what the limiter did when it was offered a new value. `after` is the stored pair after the offer. If the
+-- limiter accepted the new value, `after` has the new value. `value` is the value that is not stored.
 pub record Offered {K V S : Type 0} (by : Replaced K V S) (result : Bool) (after : K × V) (limiter : S) (value : V)
     : Type 0 where
   pub taken : result ≡ by.taken

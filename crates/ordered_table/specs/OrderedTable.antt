@@ -41,7 +41,7 @@ module _ {K V : Type 0} where
   abbrev pub pairs_of : OrderedTable K V → List (K × V)
   pairs_of t = entries_in t.slots t.order
 
-  -- the table with another pair in a full bucket
+  -- the table after the pair in a full bucket was replaced
   abbrev pub with_pair : OrderedTable K V → ℕ → K × V → OrderedTable K V
   with_pair t b pair = record t { slots = slice_set t.slots b (refilled (bucket_at t.slots b) pair) }
 
@@ -49,12 +49,12 @@ module _ {K V : Type 0} where
   abbrev pub hash_in : (K → ℕ) → List (Slot (K × V)) → ℕ → ℕ
   hash_in hash_of slots b = unwrap_or (option_map (λ pair. hash_of pair.0) (entry_at slots b)) 0
 
-  -- the hashes of the keys fit the table: each bucket has the tag of its key's hash, and a search for a key reaches its
-  -- bucket
+  -- The hashes of the keys fit the table: each full bucket has the tag of the hash of the key there, and a search for
+  -- this key reaches the bucket.
   abbrev pub KeysFit : (K → ℕ) → List (Slot (K × V)) → Type 0
   KeysFit hash_of slots = Fits slots (hash_in hash_of slots)
 
-  -- the pair is now the newest, and fills bucket b, the first free bucket in a search for its hash
+  -- The pair is now the newest. It fills bucket b, which was the first free bucket in a search for the hash.
   pub record Lands (old new : OrderedTable K V) (hash : ℕ) (pair : K × V) (b : ℕ) : Type 0 where
     pub first : IsFirstFree (bucket_states old.slots) hash b
     pub may : MayFill (bucket_states old.slots) b
@@ -74,7 +74,7 @@ module _ {K V : Type 0} where
   -- what holds for every `OrderedTable`
   pub record IsLinked (t : OrderedTable K V) : Type 0 where
     pub table : IsTable (bucket_states t.slots)
-    -- the order contains each full bucket once, and no other bucket
+    -- the order contains each full bucket once, and contains only full buckets
     pub distinct : AllPairs ◌≢◌ t.order
     pub all : (b : ℕ) → IsFull t.slots b → Contains t.order b
     pub only : (b : ℕ) → Contains t.order b → IsFull t.slots b

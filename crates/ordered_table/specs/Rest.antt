@@ -13,8 +13,8 @@ module _ {K V : Type 0} (t : OrderedTable K V) where
   abbrev pub rest_of : ℕ → ℕ → List (K × V)
   rest_of front left = entries_in t.slots (take left (from_bucket front t.order))
 
-  -- The walk returned the entries of the buckets `before` from the front, and the entries of the buckets `after` from
-  -- the back. The entries of the buckets `middle` are left.
+  -- From the front, the walk has returned the entries in the buckets `before`. From the back, the walk has returned the
+  -- entries in the buckets `after`. The entries in the buckets `middle` are left.
   pub record IsRest (front back left : ℕ) : Type 0 where
     pub linked : IsLinked t
     pub before : List ℕ
@@ -22,7 +22,7 @@ module _ {K V : Type 0} (t : OrderedTable K V) where
     pub after : List ℕ
     pub order : t.order ≡ before ++ (middle ++ after)
     pub count : length middle ≡ left
-    -- If a bucket is left, `front` is the first and `back` the last bucket that is left. If no bucket is left, `front`
-    -- and `back` may be any numbers.
+    -- If a bucket is left, `front` is the first bucket that is left, and `back` is the last bucket that is left. If no
+    -- bucket is left, `front` and `back` may be any numbers.
     pub first : 0 < left → first_bucket middle ≡ Some front
     pub last : 0 < left → last_bucket middle ≡ Some back

@@ -1,4 +1,4 @@
-//! Rows of lines of the program `replay`.
+//! Rows whose input is lines for the program `replay`.
 use crate::row::Row;
 use crate::streams::{Failure, Narrow, Slow, count_lines, error_at, front_lines};
 use lru_replay::{ReplayEnd, ReplayError, replay, status};
@@ -90,8 +90,8 @@ fn with_failing_read(alloc: Global, row: &Row, at: usize) -> bool {
     end == Some(Err(ReplayError::Read)) && writer.has(text, 1)
 }
 
-/// Lets write number `at` fail, on a writer that takes single bytes. Returns whether the first `at` bytes of the text
-/// are written, no line is read after the line that was being answered, and nothing is flushed.
+/// Makes the write with the number `at` fail, on a writer that takes single bytes. Returns whether the first `at` bytes
+/// of the text are written, no line is read after the line that was being answered, and nothing is flushed.
 fn with_failing_write(alloc: Global, row: &Row, at: usize) -> bool {
     let failure = if at % 4 == 0 {
         Failure::NoBytes

@@ -1,4 +1,4 @@
-//! A plain list of entries under a limit, which carries out calls as the documentation of the map describes them.
+//! A plain list of entries under a limit. The list carries out calls as the documentation of the map describes them.
 use crate::table::Table;
 use lru_model::{ReserveError, Updated};
 use std::alloc::Global;

@@ -2,7 +2,7 @@
 //! buckets, so the calls determine its figures.
 use lru_model::ReserveError;
 
-/// The greatest number of buckets that links of 32 bits can number.
+/// The greatest number of buckets for links of 32 bits.
 const MOST_BUCKETS: u64 = 1 << 31;
 
 #[derive(Clone, Copy, Default)]

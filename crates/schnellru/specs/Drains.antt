@@ -1,5 +1,5 @@
--- What a contract says of a drain: each step is a `PopNewest` or a `PopOldest` of its map, and the drop clears the map
--- (`cleared`).
+-- What a contract says of a drain: each step is a `PopNewest` or a `PopOldest` of the map, and the drop of the drain
+-- clears the map (`cleared`).
 use Rattle.std.specs.Prelude.{◌≡◌, length, Option}
 use Rattle.std.specs.Borrow.{GName}
 use Rattle.std.specs.Iterator.{at_most, Count}
@@ -17,7 +17,7 @@ module _ {K V L S N H : Type 0} where
   abbrev pub drain_left : Drain K V L S N H → Count
   drain_left d = at_most (length (drain_map d).pairs)
 
-  -- the drain's step is the pop `pop` of its map
+  -- this step of the drain changes the map as `pop` says
   pub record TakesBy (pop : State K V L S → Option (K × V) → State K V L S → Type 0) (old : Drain K V L S N H)
       (result : Option (K × V)) (new : Drain K V L S N H) : Type 0 where
     pub pops : pop (drain_map old) result (drain_map new)

@@ -1,4 +1,5 @@
-//! Callers of a map, whose contracts follow from the contracts of its calls: the code of docs/CALLING.md.
+//! Functions that call a map: the code of docs/CALLING.md. Their contracts follow from the contracts of the map's
+//! calls.
 ghost use Rattle.std.specs.Prelude.{◌≡◌, ◌≤◌, ◌<◌, ◌⊎◌, ℕ, ◌+◌, ◌*◌, ◌/◌, ◌∷◌, ◌++◌, List, length, reverse, take, nat_eq};
 ghost use Rattle.std.specs.Prelude.{Some, None, Ok, IfOk, OnOk, OnErr, true, is_some, sum_by, string_len};
 ghost use Rattle.std.specs.Prelude.{map as mapped};
@@ -325,7 +326,7 @@ fn trim_and_count(map: &mut LruMap<u64, u64>) -> usize {
     count
 }
 
-/// Adds an entry of a new key to all others, or returns why the table has no growth left. Evicts nothing.
+/// Adds an entry of a new key, or returns why the table has no growth left. Evicts nothing.
 fn put_and_keep_all(
     map: &mut LruMap<u64, u64, UnlimitedCompact>,
     key: u64,

@@ -1,4 +1,4 @@
-//! Tests printed texts, and the numbers of errors.
+//! Tests the texts and the numbers of errors, and the debug texts of maps.
 use schnellru::{ByCost, GetOrInsertError, LruMap, ReserveError};
 use std::alloc::Global;
 use test_helpers::check;

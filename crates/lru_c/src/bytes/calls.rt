@@ -138,8 +138,8 @@ pub fn peek(map: &BytesMap, key: &[u8], buffer: &mut [u8]) -> Value
     }
 }
 
-/// Writes to `lent` where the bytes of a key's value are, and makes the key's entry the newest. Returns whether the key
-/// is there.
+/// Stores the address and the length of a key's value in `lent`, and makes the key's entry the newest. Returns whether
+/// the key is there.
 pub fn lend(map: &mut BytesMap, key: &[u8], lent: &mut Lent) -> bool
     ensures lends { Lends (lookup (names_bytes key.now) map.old.pairs) result lent.old lent.new }
     ensures promoted { map.new ≡ promoted (names_bytes key.now) map.old }

@@ -42,7 +42,7 @@ impl<F: Read + Write + Seek, const N: usize> HashedFileDevice<F, N> {
     /// let mut hashed: HashedFileDevice<_, 16> = HashedFileDevice::new(file, 3);
     /// ```
     ///
-    /// Cost: `O(1)`, and no call of the file.
+    /// Cost: `O(1)`, and no call on the file.
     pub fn new(file: F, count: u64) -> Self
         requires { 8 ≤ N }
         ensures count { result.count ≡ count }

@@ -179,7 +179,7 @@ impl<
     /// assert_eq!(rt; (texts.load_with(3, |text| text.len()), texts.len()), (Ok(3), 1));
     /// ```
     ///
-    /// Cost: as `load`, and a call of the closure.
+    /// Cost: as `load`, plus a call of the closure.
     ///
     /// # Errors
     ///

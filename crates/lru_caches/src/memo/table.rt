@@ -11,7 +11,7 @@ use std::alloc::Global;
 use std::hash::Hash;
 use std::marker::Model;
 
-/// Defines which values answer a key of a [`MemoTable`].
+/// Defines which values are answers at a key of a [`MemoTable`].
 ///
 /// ```
 /// #[derive(Drop)]
@@ -164,7 +164,7 @@ impl<
     /// assert_eq!(rt; squares.get_with(&3, |square| square.wrapping_add(1)), Some(10));
     /// ```
     ///
-    /// Cost: as `get`, and a call of the closure.
+    /// Cost: as `get`, plus a call of the closure.
     pub fn get_with<R, U: FnOnce(&V) -> R>(&mut self, key: &K, read: U) -> Option<R>
         requires readable { U.IsAlwaysCallable read }
         ensures answer { IfSome (lookup (K.eq key.now) self.old) (IsAnswer K.eq Q.answers key.now) }

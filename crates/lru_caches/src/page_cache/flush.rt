@@ -12,7 +12,7 @@ use crate::page_cache::pages::{Page, Pages};
 use crate::page_cache::{PageCache, PageError};
 use schnellru::KeyHasher;
 
-/// Reserves memory for the number of one more page, so that flushes allocate nothing.
+/// Reserves memory for one more page number, so that flushes allocate nothing.
 pub(super) fn reserve_number<E>(numbers: &mut Vec<u64>, pages: usize) -> Result<(), PageError<E>>
     ensures reserved { OnOk result (pages < vec_capacity numbers.new) }
     ensures keeps { vec_capacity numbers.old ≤ vec_capacity numbers.new }

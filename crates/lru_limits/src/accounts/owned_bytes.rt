@@ -4,7 +4,7 @@ ghost use Rattle.std.specs.Mem.{type_size};
 ghost use prog.Memory.{capped};
 ghost use Rattle.lru_limits.specs.Bytes.{in_word, block_bytes};
 
-use std::mem::size_of;
+use group_table::Table;
 
 /// A value that reports how many bytes it owns outside of itself: all blocks that it allocated, and what the values in
 /// these blocks own.
@@ -33,13 +33,6 @@ fn block_bytes(bytes: u64) -> u64
     } else {
         bytes.saturating_add(31) / 16 * 16
     }
-}
-
-#[inline]
-fn bytes_of<T>() -> usize
-    ensures { result ≡ capped (type_size T.row) }
-{
-    size_of::<T>()
 }
 
 /// Numbers, `bool` and `char` own nothing.
@@ -147,7 +140,9 @@ impl<T: OwnedBytes> OwnedBytes for Vec<T> {
         (block_bytes (in_word (vec_capacity v * capped (type_size T.row))) + sum_by T.owned v.items) };
 
     fn owned_bytes(&self) -> u64 {
-        let mut sum = block_bytes((self.capacity() as u64).saturating_mul(bytes_of::<T>() as u64));
+        let mut sum = block_bytes(
+            (self.capacity() as u64).saturating_mul(Table::<T>::entry_bytes() as u64),
+        );
         for item in self.as_slice() {
             sum = sum.saturating_add(item.owned_bytes());
         }
@@ -161,7 +156,7 @@ impl<T: OwnedBytes> OwnedBytes for Box<T> {
     #[inline]
     fn owned_bytes(&self) -> u64 {
         let value: &T = &**self;
-        block_bytes(bytes_of::<T>() as u64).saturating_add(value.owned_bytes())
+        block_bytes(Table::<T>::entry_bytes() as u64).saturating_add(value.owned_bytes())
     }
 }
 

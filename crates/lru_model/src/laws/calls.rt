@@ -82,8 +82,8 @@ pub fn calls_add_one_pair<
         length new.pairs ≤ length old.pairs + 1 }
 {}
 
-/// A call evicts only the oldest of the entries whose keys it does not name, and keeps the newer ones in their order.
-/// The law excludes `pop_newest`, which removes the newest entry.
+/// Of the entries whose keys a call does not name, the call evicts only the oldest, and keeps the others in their
+/// order. The law excludes `pop_newest`, which removes the newest entry.
 ///
 /// A call names the key that it inserts, updates, looks up or removes, and the key whose value it writes. A retain
 /// names the keys that its closure rejects.

@@ -45,8 +45,9 @@ pub fn nothing_is_lost<K: Eq + Hash, V, I: LookupKey<K>, L: Insertion<K, V, I>, 
 {}
 
 /// If growth is left, an insert changes the entries as it would change a plain list without a table (`list`), whatever
-/// `on_grow` returns. An insert of a new key returns true, evicts nothing (`added`), and passes nothing to its callback
-/// (`passed`), if growth is left, and the limiter accepts the entry and is not over its limit with it.
+/// `on_grow` returns. Suppose that growth is left, and that the limiter accepts a new entry, and is not over its limit
+/// with this entry. Then the insert returns true, evicts nothing (`added`), and passes nothing to its callback
+/// (`passed`).
 pub fn inserts_with_room_are_exact<
     K: Eq + Hash,
     V,
@@ -72,10 +73,10 @@ pub fn inserts_with_room_are_exact<
         InsertPasses L.rules L.offers I.names S.hash_of key value old result passed new → passed ≡ [] }
 {}
 
-/// With `ByLength`, a successful insert leaves its entry first, under the stored key, and then the newest other
-/// entries, up to `max_length` entries in all. The law holds for a map that keeps to its length (`newest`; see
-/// `maps_keep_to_their_length`), and for a map with at most `max_length` entries and growth left (`with_room`). If the
-/// map keeps to its length, inserts one after another leave the newest entries, too (`lists`).
+/// After a successful insert with `ByLength`, the inserted entry comes first, under the stored key, and then come the
+/// newest other entries, up to `max_length` entries in all. The law holds for a map that keeps to its length (`newest`;
+/// see `maps_keep_to_their_length`), and for a map with at most `max_length` entries and growth left (`with_room`). If
+/// the map keeps to its length, several inserts, one after another, leave the newest entries, too (`lists`).
 pub fn inserts_leave_the_newest<K: Eq + Hash + Drop, V: Drop, S: KeyHasher<K>>()
     ensures newest { (key : K) (value : V) (old : State K V ByLength S) (result : Result Bool AllocError)
         (new : State K V ByLength S) →

@@ -26,7 +26,7 @@ use std::hash::Hash;
 /// assert!(rt; refuses && answers.get(2) == Some(&Answer::Value(Some(2))));
 /// ```
 ///
-/// Cost: as `run_calls`, and one more look-up for each `Write`.
+/// Cost: as `run_calls`, plus one more look-up for each `Write`.
 ///
 /// # Errors
 ///

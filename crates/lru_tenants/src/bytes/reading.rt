@@ -50,7 +50,7 @@ impl<
         self.tenants.limiter().limit()
     }
 
-    /// Returns how many bytes the limit and the name of one more tenant may take, if the table of tenants does not
+    /// Returns how many bytes are left for the limit and the name of one more tenant, if the table of tenants does not
     /// grow.
     ///
     /// ```

@@ -155,7 +155,7 @@ impl<
     /// assert_eq!(rt; (counts.insertions, counts.rejections, counts.evictions), (2, 1, 1));
     /// ```
     ///
-    /// Cost: as `put`, and a search.
+    /// Cost: as `put`, plus a search.
     ///
     /// # Errors
     ///
@@ -187,7 +187,7 @@ impl<
     /// assert_eq!(rt; (counts.hits, counts.misses, counts.insertions, counts.evictions), (1, 1, 2, 1));
     /// ```
     ///
-    /// Cost: if the key is there, as `get`, else as `put`, and a search.
+    /// Cost: as `get` if the key is there, else as `put`, plus a search.
     ///
     /// # Errors
     ///

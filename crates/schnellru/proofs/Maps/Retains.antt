@@ -1,7 +1,7 @@
 -- A retain in progress, and one more call of its closure.
 use Rattle.std.proofs.Common.{◌≡◌, ℕ, ◌-◌, ◌<◌, ◌≤◌, Bool, true, false, Some, List, [], ◌∷◌, ◌++◌, length, refl, ap, sym}
 use Rattle.std.proofs.Common.{◌∙◌, subst, arith, append-nil, slice_get}
-use Rattle.std.proofs.lemmas.List.{append_assoc, length-append}
+use Rattle.std.proofs.lemmas.List.{append_assoc, length-append, nil_from_length}
 use Rattle.std.proofs.lemmas.Option.{same_Some}
 use Rattle.std.specs.Prelude.{map, Contains}
 use Rattle.std.specs.Borrow.{Bor}
@@ -30,10 +30,6 @@ module _ {X : Type 0} where
   has_end (x ∷ []) some = record { front = []; end = x; whole = refl }
   has_end (x ∷ y ∷ ys) some = let rest = has_end (y ∷ ys) (omega arith) in
       record { front = x ∷ rest.front; end = rest.end; whole = ap (λ l. x ∷ l) rest.whole }
-
-  no_items : (xs : List X) → length xs ≡ 0 → xs ≡ []
-  no_items [] e = refl
-  no_items (x ∷ xs) e = absurd (omega (arith, e))
 
   pub at_cut : (xs ys : List X) (x : X) → slice_get (xs ++ x ∷ ys) (length xs) ≡ Some x
   at_cut [] ys x = refl
@@ -170,11 +166,11 @@ module _ {K V S H F G : Type 0} (rules : Rules K V S) (closure : Mut F (Bor K ×
       → RetainPasses rules closure keep old i.passed st
   retains_all st f g i = record {
     asked = i.asked;
-    each = ap (λ l. l ++ map (λ one. one.0) i.asked) (sym (no_items i.rest i.many)) ∙ i.whole;
+    each = ap (λ l. l ++ map (λ one. one.0) i.asked) (sym (nil_from_length i.rest i.many)) ∙ i.whole;
     last = f;
     answers = i.answers;
     state = subst (λ left. Leaves (noted [] old) left (noted i.passed st)) (λ j. record {
-      pairs = (i.pairs ∙ ap (λ l. l ++ (after_asked i.asked).pairs) (no_items i.rest i.many)) j;
+      pairs = (i.pairs ∙ ap (λ l. l ++ (after_asked i.asked).pairs) (nil_from_length i.rest i.many)) j;
       limiter = i.notified j;
     }) i.leaves;
   }

@@ -1,7 +1,7 @@
 -- A closure has written some values of a map, and writes one more.
 use Rattle.std.proofs.Common.{◌≡◌, ℕ, zero, suc, ◌+◌, Some, None, List, [], ◌∷◌, ◌++◌, length, refl, ap, sym, ◌∙◌}
 use Rattle.std.proofs.Common.{subst, arith}
-use Rattle.std.proofs.lemmas.List.{append_assoc}
+use Rattle.std.proofs.lemmas.List.{append_assoc, length_push}
 use Rattle.std.proofs.lemmas.Option.{none-some, same_Some}
 use Rattle.std.specs.Prelude.{slice_get}
 use Rattle.std.specs.Borrow.{Bor, MutBor}
@@ -18,10 +18,6 @@ set_after : {K V : Type 0} (front : List (K × V)) (pair : K × V) (rest : List 
     → set_value_at (front ++ pair ∷ rest) (length front) w ≡ (front ++ (pair.0, w) ∷ []) ++ rest
 set_after [] pair rest w = refl
 set_after (x ∷ front) pair rest w = ap (λ l. x ∷ l) (set_after front pair rest w)
-
-length-more : {X : Type 0} (front : List X) (x : X) → length (front ++ x ∷ []) ≡ length front + 1
-length-more [] x = omega arith
-length-more (y ∷ front) x = omega (arith, length-more front x)
 
 module _ {K V F : Type 0} (closure : Mut F (Bor K × (MutBor V × Unit {0})) (Unit {0} × (MutBor V × Unit {0})))
     (old : List (K × V)) (first : F) where
@@ -64,7 +60,7 @@ module _ {K V F : Type 0} (closure : Mut F (Bor K × (MutBor V × Unit {0})) (Un
             whole = ap (λ l. set_value_at l at w) whole
                 ∙ ap (λ n. set_value_at (i.front ++ first_left ∷ rest) n w) (sym i.many)
                 ∙ set_after i.front first_left rest w;
-            many = length-more i.front (first_left.0, w) ∙ ap (λ n. n + 1) i.many;
+            many = length_push i.front (first_left.0, w) ∙ ap (λ n. n + 1) i.many;
             ahead = λ new h written. subst (λ l. WritesEach closure first old l h)
                 (sym (append_assoc i.front ((first_left.0, w) ∷ []) new))
                 (ahead ((first_left.0, w) ∷ new) h

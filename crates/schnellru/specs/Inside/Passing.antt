@@ -6,9 +6,9 @@ use Rattle.lru_model.specs.Callbacks.{CalledWith, noting, noted}
 use Rattle.lru_model.specs.State.{State}
 
 module _ {K V F : Type 0} (closure : Mut F (K × (V × Unit {0})) (Unit {0})) where
-  -- This part of a call changes the map `old` into `new` as `step` says, and the callback f into g. The callback gets
-  -- the pairs of which the limiter is notified. `before` lists the pairs that the callback got before this part, and
-  -- `after` all pairs that it got by the end of this part.
+  -- This part of a call changes the map from `old` to `new`, as `step` says. This part changes the callback from f to
+  -- g. The callback gets the pairs of which the limiter is notified. `before` lists the pairs that the callback got
+  -- before this part. `after` lists all pairs that the callback got by the end of this part.
   abbrev pub Passes : {S H : Type 0} → Rules K V S → F → F → State K V S H → State K V S H
       → (Rules K V (S × List (K × V)) → State K V (S × List (K × V)) H → State K V (S × List (K × V)) H → Type 0)
       → Type 0
@@ -16,7 +16,7 @@ module _ {K V F : Type 0} (closure : Mut F (K × (V × Unit {0})) (Unit {0})) wh
       → (after : List (K × V)) × CalledWith closure first after g
       × step (noting rules) (noted before old) (noted after new)
 
-  -- if the limiter rejected a new value, the callback gets the removed pair, as `on_removed` left the pair
+  -- if the limiter rejected a new value, the callback gets the removed pair after `on_removed` of the limiter
   abbrev pub PassesRemoved : {S : Type 0} → Rules K V S → Replaced K V S → F → F → Type 0
   PassesRemoved rules by f g = let notified = rules.on_removed by.limiter by.key by.old_value in
       Called closure f (notified.key, (notified.value, tt)) tt g

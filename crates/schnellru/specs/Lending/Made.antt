@@ -1,4 +1,4 @@
--- A get that inserts a missing key lends the value of the newest pair. `Step` says which map the get leaves, and
+-- A get that inserts a missing key lends the value of the newest pair. `Step` says what the map is after the get, and
 -- whether the get lends a value.
 use Rattle.std.specs.Prelude.{◌≡◌, Bool, Option, Result}
 use Rattle.std.specs.Borrow.{Fml, RattleType, MutBor, LendsSoOk, follows_so}
@@ -19,23 +19,23 @@ module _ (K V L S N H : RattleType) (key : HashMembers K.Denot)
     (hashed : HasherMembers S.Denot K.Denot H.Denot) (hash : hasher.Ghosts H.Denot)
     (m : MutBor (State K.Denot V.Denot L.Denot S.Denot)) {E : Type 0}
     (Step : Result Bool E → State K.Denot V.Denot L.Denot S.Denot → Type 0) where
-  -- The get left the map `made`, and lends the value of its newest pair. If the caller writes w through the loan, the
-  -- map is n afterwards.
+  -- After the get, the map is `made`, and the get lends the value of the newest pair of `made`. If the caller writes w
+  -- through the loan, the map is n after the loan.
   abbrev pub Made : Result (Option (MutBor V.Denot)) E → State K.Denot V.Denot L.Denot S.Denot → V.Denot → Type 0
   Made r n w = (made : State K.Denot V.Denot L.Denot S.Denot) × Step (is_kept r) made
       × (newest_value made.pairs ≡ value_lent r)
       × (n ≡ record made { pairs = set_newest made.pairs w }) × IsMap key.eq n
 
-  -- the get left the map n, and lends no value
+  -- after the get, the map is n, and the get lends no value
   abbrev pub LendsNone : Result (Option (MutBor V.Denot)) E → State K.Denot V.Denot L.Denot S.Denot → Type 0
   LendsNone r n = Step (is_kept r) n × IsMap key.eq n
 
-  -- What the map is after the loan of the get's result r. If no value is lent and no error occurred, r is `NotKept`.
+  -- What the map is after the loan, if the get returned r. If no value is lent and no error occurred, r is `NotKept`.
   abbrev pub lends_or : Result (MutBor V.Denot) (NotLent E) → Fml
   lends_or r = LendsSoOk (map_row K V L S N H key limits links hashed hash) V m r
       (λ n w. Made (lent_or_none r) n w) (λ n. LendsNone (lent_or_none r) n)
 
-  -- What the map is after the loan of the get's result r. If no value is lent and no error occurred, r is `Ok None`.
+  -- What the map is after the loan, if the get returned r. If no value is lent and no error occurred, r is `Ok None`.
   abbrev pub lends_made : Result (Option (MutBor V.Denot)) E → Fml
   lends_made r = follows_so (map_row K V L S N H key limits links hashed hash) V m.ghost_name
       (name_lent r)

@@ -36,7 +36,7 @@ module _ (K V L S N H : RattleType) (key : HashMembers K.Denot)
       (record { hash_of = hashed.hash_of }) (record { build_hasher = hashed.build_hasher }) hash
 
   module _ (m : MutBor (State K.Denot V.Denot L.Denot S.Denot)) where
-    -- After the loan, the map is `base`, in which the named key has the value that was written last through r. If r is
+    -- After the loan, the map is `base`, but the named key has the value that was written last through r. If r is
     -- `None`, the map does not change.
     abbrev pub lends_value : (K.Denot → Bool) → State K.Denot V.Denot L.Denot S.Denot → Option (MutBor V.Denot) → Fml
     lends_value names base r = LendsIf map_row V m r (λ last. written names last base) m.now
@@ -45,9 +45,9 @@ module _ (K V L S N H : RattleType) (key : HashMembers K.Denot)
     abbrev pub ends_as : State K.Denot V.Denot L.Denot S.Denot → Fml
     ends_as last = follows_so map_row map_row m.ghost_name none (λ _ _. ⊤) (λ n. n ≡ last)
 
-    -- If r is `Some`, r lends the value of a pair that satisfies `gives`. After the loan, the map is what `turned`
-    -- makes of it for the key of this pair, and this key has the value that was written last through r. If r is `None`,
-    -- the map does not change.
+    -- If r is `Some`, r lends the value of a pair that satisfies `gives`. `turned` says how the call changes the map
+    -- for the key of this pair. After the loan, this key also has the value that was written last through r. If r is
+    -- `None`, the map does not change.
     abbrev pub lends_given : (K.Denot × V.Denot → Type 0)
         → ((K.Denot → Bool) → State K.Denot V.Denot L.Denot S.Denot → State K.Denot V.Denot L.Denot S.Denot)
         → Option (MutBor V.Denot) → Fml

@@ -13,7 +13,7 @@ impl<
     L: Limiter<K, V> + Clone,
     S: KeyHasher<K> + Clone + Drop,
 > LruMap<K, V, L, S> {
-    /// Clones the entries in their order, the limiter and the hasher. The clone has the same bucket states and counts.
+    /// Clones the limiter, the hasher, and the entries in their order. The clone has the same bucket states and counts.
     ///
     /// ```
     /// let mut copy = map.clone()?;

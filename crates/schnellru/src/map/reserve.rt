@@ -28,9 +28,9 @@ impl<K: Eq + Hash, V, L: Limiter<K, V>, S: KeyHasher<K>> LruMap<K, V, L, S> {
     ///
     /// After an error, the entries and the table are unchanged.
     ///
-    /// - `TooLarge`: `len` + n overflows, or the table would need more buckets than the links can number, or more than
-    ///   `isize::MAX - 15` bytes. The map does not rehash its table instead, even if the entries would fit after a
-    ///   rehash.
+    /// - `TooLarge`: `len` + n overflows, or the table would need more buckets than the width of the links permits, or
+    ///   more than `isize::MAX - 15` bytes. The map does not rehash its table instead, even if the entries would fit
+    ///   after a rehash.
     ///
     /// - `Refused`: the limiter refused the larger table.
     ///

@@ -43,7 +43,7 @@ impl<K: Eq + Hash, V, L: Limiter<K, V>, S: KeyHasher<K>> LruMap<K, V, L, S> {
     /// assert_eq!(rt; removed, 2);
     /// ```
     ///
-    /// Cost: as `retain`, and the calls of the callback.
+    /// Cost: as `retain`, plus the calls of the callback.
     pub fn retain_with<F: FnMut(&K, &V) -> bool, G: FnMut(K, V)>(
         &mut self,
         mut keep: F,

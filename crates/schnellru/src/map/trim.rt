@@ -65,7 +65,7 @@ impl<K: Eq + Hash, V, L: Limiter<K, V>, S: KeyHasher<K>> LruMap<K, V, L, S> {
     /// assert_eq!(rt; evicted, 3);
     /// ```
     ///
-    /// Cost: as `trim`, and the calls of the callback.
+    /// Cost: as `trim`, plus the calls of the callback.
     pub fn trim_with<F: FnMut(K, V)>(&mut self, sink: &mut F)
         requires callable { MayTakeEach L.rules F.FnMut self.old.pairs sink.old }
         ensures step { Trims L.rules self.old self.new }
@@ -89,7 +89,7 @@ impl<K: Eq + Hash, V, L: Limiter<K, V>, S: KeyHasher<K>> LruMap<K, V, L, S> {
     /// assert_eq!(rt; evicted, 3);
     /// ```
     ///
-    /// Cost: as `set_limiter`, and the calls of the callback.
+    /// Cost: as `set_limiter`, plus the calls of the callback.
     pub fn set_limiter_with<F: FnMut(K, V)>(&mut self, limiter: L, sink: &mut F) -> L
         requires callable { MayTakeEach L.rules F.FnMut self.old.pairs sink.old }
         ensures limiter { result ≡ self.old.limiter }

@@ -46,7 +46,7 @@ impl<K: Eq + Hash, V, L: Limiter<K, V>, S: KeyHasher<K>> LruMap<K, V, L, S> {
     /// assert!(rt; left.is_none() && map.peek(&2) == Some(&21));
     /// ```
     ///
-    /// Cost: as `update`, and the calls of the callback.
+    /// Cost: as `update`, plus the calls of the callback.
     pub fn update_with<I: LookupKey<K> + Drop, F: FnMut(K, V)>(
         &mut self,
         key: I,

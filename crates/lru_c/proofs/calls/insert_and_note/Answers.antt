@@ -1,4 +1,5 @@
-use Rattle.std.proofs.Common.{◌≡◌, ◌≤◌, arith, false, rules, sym, ap, ◌∙◌, nat_eq, Result, Ok, Err, IfOk, OnErr}
+use Rattle.std.proofs.Common.{◌≡◌, ◌≤◌, arith, false, rules, sym, ap, ◌∙◌, nat_eq, Result, Ok, Err, OnErr}
+use Rattle.std.proofs.lemmas.Result.{IfOk-weaker}
 use Rattle.std.specs.Prelude.{option_map}
 use Rattle.lru_model.proofs.CallerLemmas.{lookup-entry, plain-changes_none}
 use Rattle.lru_model.specs.Inserts.{kept_of}
@@ -50,17 +51,12 @@ returns-clause-untouched c none =
     let no_pair : c.insert_full.new.sink.0.now ≡ false = search (rules, none, notes.noted) in
     search (rules, (notes.untouched no_pair).1, notes.place)
 
-if_ok : {T E : Type 0} {P Q : T → Type 0} (result : Result T E) → ((value : T) → P value → Q value) → IfOk result P
-    → IfOk result Q
-if_ok (Ok value) f holds = f value holds
-if_ok (Err error) f holds = tt
-
 on_err_kept : {V E P Q : Type 0} (result : Result (Inserted V) E) → (P → Q) → OnErr (kept_of result) P → OnErr result Q
 on_err_kept (Ok inserted) f holds = tt
 on_err_kept (Err error) f holds = f holds
 
 pub returns-clause-replaced : goal.returns-clause-replaced
-returns-clause-replaced c = if_ok c.insert_full.result (λ inserted unkept.
+returns-clause-replaced c = IfOk-weaker c.insert_full.result _ _ (λ inserted unkept.
     unkept ∙ sym (lookup-entry (nat_eq c.args.key) c.args.map.now.pairs)) c.insert_full.ensures.unkept
 
 pub returns-clause-out_of_memory : goal.returns-clause-out_of_memory

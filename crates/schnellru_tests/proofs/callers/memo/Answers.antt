@@ -2,8 +2,10 @@ use Rattle.std.proofs.Common.{◌≡◌, ℕ, nat_eq, true, sym, subst}
 use Rattle.std.proofs.lemmas.Bool.{eqb-true}
 use Rattle.std.proofs.lemmas.List.Elements.{All-contains}
 use Rattle.std.proofs.lemmas.Map.Views.{Contains-from_lookup}
+use Rattle.std.specs.List.{All}
 use Rattle.lru_limits.specs.Limiters.{length_terms}
 use Rattle.lru_model.proofs.CallerLemmas.{read-all, inserted-all, inserted-only, offers_of-keeps}
+use Rattle.schnellru_tests.proofs.callers.memo.Goals.{After-insert}
 use Rattle.schnellru_tests.proofs.callers.memo.Goals as goal
 
 alike : (answers : ℕ → ℕ → Type 0) (key value : ℕ) → answers key value
@@ -23,8 +25,8 @@ returns-in-Some-clause-knows g c =
     read-all (nat_eq c.args.key) c.args.map.now (λ p. goal.F-post g c.args.answers p.0 p.1) c.in-Some.value.now
     (sym c.in-Some.ensures.value) c.requires.known
 
-pub returns-in_err-insert-clause-knows : goal.returns-in_err-insert-clause-knows
-returns-in_err-insert-clause-knows g c =
+knows : (g : _) (c : After-insert g) → All (λ p. goal.F-post g c.args.answers p.0 p.1) c.insert.new.self.pairs
+knows g c =
     let old = c.args.map.now in
     let new = c.insert.new.self in
     let key = c.args.key in
@@ -35,14 +37,8 @@ returns-in_err-insert-clause-knows g c =
     inserted-all (λ p. goal.F-post g c.args.answers p.0 p.1) (nat_eq key) old.pairs new.pairs evicts c.requires.known
     (λ p named found. alike (goal.F-post g c.args.answers) key value c.answers-value.ensures p named (only p.1 found))
 
+pub returns-in_err-insert-clause-knows : goal.returns-in_err-insert-clause-knows
+returns-in_err-insert-clause-knows g c = knows g (goal.at.returns-in_err-insert-clause-knows g c).After-insert
+
 pub returns-clause-knows : goal.returns-clause-knows
-returns-clause-knows g c =
-    let old = c.args.map.now in
-    let new = c.insert.new.self in
-    let key = c.args.key in
-    let value = c.answers-value.result in
-    let evicts = c.inserts_evict_the_oldest.ensures key value old c.insert.result new c.insert.ensures.step in
-    let insert = c.insert.ensures in
-    let only = inserted-only (offers_of-keeps length_terms) _ nat_eq key old new c.insert.result insert.ends.says insert.ends.stores in
-    inserted-all (λ p. goal.F-post g c.args.answers p.0 p.1) (nat_eq key) old.pairs new.pairs evicts c.requires.known
-    (λ p named found. alike (goal.F-post g c.args.answers) key value c.answers-value.ensures p named (only p.1 found))
+returns-clause-knows g c = knows g (goal.at.returns-clause-knows g c).After-insert

@@ -56,7 +56,7 @@ impl<T> Table<T> {
     }
 
     /// Makes a table of `buckets` empty buckets. `buckets` must be 0, or a power of two from 4 on, and `buckets` + 16
-    /// at most `isize::MAX`.
+    /// must be at most `isize::MAX`.
     ///
     /// Allocates twice: a `T` for each bucket, and then `buckets` + 16 control bytes. With 0 buckets it allocates
     /// nothing.

@@ -8,7 +8,7 @@ use crate::erased::schnellru::{Inserted, Insertion, KeyHasher, Limiter, LookupKe
 use crate::rattle_std::alloc::AllocError;
 use crate::rattle_std::hash::Hash;
 
-/// What operators watch of a cache. Each count stops at `u64::MAX`.
+/// The counts of a cache, which an operator may watch. Each count stops at `u64::MAX`.
 ///
 /// A call counts only if its documentation says so. Evictions by other calls, such as `set_budget`, are not counted.
 ///
@@ -48,7 +48,7 @@ impl Counts {
         }
     }
 
-    /// Counts an insert by its result, and the entries that it evicted.
+    /// Counts an insert with this result, and the entries that the insert evicted.
     ///
     /// ```text
     /// let done: Result<bool, ()> = Ok(true);

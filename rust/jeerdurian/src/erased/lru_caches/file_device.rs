@@ -65,7 +65,7 @@ impl<F: Read + Write + Seek, const N: usize> FileDevice<F, N> {
     /// let mut device: FileDevice<_, 4> = FileDevice::new(file, 3);
     /// ```
     ///
-    /// Cost: `O(1)`, and no call of the file.
+    /// Cost: `O(1)`, and no call on the file.
     pub fn new(file: F, count: u64) -> Self {
         FileDevice { file: RecordedFile::new(file), count, is_usable: true }
     }

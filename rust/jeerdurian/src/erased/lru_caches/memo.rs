@@ -116,7 +116,7 @@ impl<K: Eq + Hash, V, F: Fn(&K) -> V, L: Insertion<K, V, K>, S: KeyHasher<K>> Me
     /// assert_eq!(rt; (blocks.answer_with(3, |block| block.is_some()), blocks.len()), (true, 1));
     /// ```
     ///
-    /// Cost: as `answer`, and a call of the closure.
+    /// Cost: as `answer`, plus a call of the closure.
     pub fn answer_with<R, U: FnOnce(&V) -> R>(&mut self, key: K, read: U) -> R {
         laws::inserts_evict_the_oldest::<K, V, K, L, S>();
         if let Some(value) = self.map.get(&key) {
@@ -154,7 +154,7 @@ impl<K: Eq + Hash, V, F: Fn(&K) -> V, L: Insertion<K, V, K>, S: KeyHasher<K>> Me
     /// assert_eq!(rt; lists.get_with(&3, |list| list.is_some()), Some(true));
     /// ```
     ///
-    /// Cost: as `get`, and a call of the closure.
+    /// Cost: as `get`, plus a call of the closure.
     pub fn get_with<Q: LookupKey<K>, R, U: FnOnce(&V) -> R>(&mut self, key: &Q, read: U) -> Option<R> {
         let value = self.map.get(key)?;
         Some(read(&*value))

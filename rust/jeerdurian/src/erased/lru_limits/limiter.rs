@@ -32,7 +32,7 @@ pub trait Limiter<K, V> {
     ///   calls `is_over_the_limit` on a copy of the limiter, even if the map is empty, and evicts nothing.
     ///
     /// - In `trim` and `set_limiter`, and after an insert or an update stored an entry or replaced a value, the map
-    ///   passes its length. The map repeats the call after each eviction, until it is empty.
+    ///   passes its length. The map repeats the call after each eviction, until the map is empty.
     fn is_over_the_limit(&self, length: usize) -> bool;
 
     /// Called with each entry that is evicted, removed, popped or taken by an iterator, as soon as the entry is out of

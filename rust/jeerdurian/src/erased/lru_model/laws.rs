@@ -44,9 +44,9 @@ pub fn inserts_pass_few<K: Eq + Hash, V, I: LookupKey<K>, L: Insertion<K, V, I>,
 pub fn small_inserts_are_exact<K: Eq + Hash, V, I: LookupKey<K>, L: Insertion<K, V, I>, S: KeyHasher<K>>() {}
 
 /// An insert changes the entries as the `Report` of the table says (`exact`; see `small_inserts_are_exact`). Every
-/// insert has a report (`given`). Two inserts that return `Ok` return the same, and leave the same entries and limiter,
-/// if their arguments, their reports, and the entries and limiters before them are equal (`alike`). The limiter and the
-/// arguments must determine what `on_insert` does (`IsDetermined`).
+/// insert has a report (`given`). Two inserts that return `Ok` return equal results, and leave equal entries and
+/// limiters, if their arguments, their reports, and the entries and limiters before them are equal (`alike`). The
+/// limiter and the arguments must determine what `on_insert` does (`IsDetermined`).
 pub fn inserts_are_exact_unless_refused<K: Eq + Hash, V, I: LookupKey<K>, L: Insertion<K, V, I>, S: KeyHasher<K>>() {}
 
 /// An insert changes the entries as it would change a plain list without a table (`InsertsInList`), under two premises.
@@ -59,8 +59,8 @@ pub fn inserts_grow_little<K: Eq + Hash, V, I: LookupKey<K>, L: Insertion<K, V, 
 
 /// Suppose that the map has entries, but no growth left. If the first free bucket in the search for the new key is
 /// deleted, the new entry fills this bucket, without a query of the limiter or a move (`served`). If the limiter also
-/// accepts the new entry, and is not over its limit with it, an insert evicts nothing (`added`). Conversely, if an
-/// insertion keeps the number of buckets, and evicts and moves nothing, the first free bucket was deleted (`only`).
+/// accepts the new entry, and is not over its limit with this entry, an insert evicts nothing (`added`). Conversely, if
+/// an insertion keeps the number of buckets, and evicts and moves nothing, the first free bucket was deleted (`only`).
 pub fn deleted_buckets_serve<K: Eq + Hash, V, I: LookupKey<K>, L: Insertion<K, V, I>, S: KeyHasher<K>>() {}
 
 /// An insert pays for the entries that it moves. The count of moved entries, plus the potential, rises by at most 2 for
@@ -68,9 +68,9 @@ pub fn deleted_buckets_serve<K: Eq + Hash, V, I: LookupKey<K>, L: Insertion<K, V
 /// each entry that a shrink rehashed (`paid`). The table counts every insertion into it (`counted`).
 pub fn inserts_pay_for_moves<K: Eq + Hash, V, I: LookupKey<K>, L: Insertion<K, V, I>, S: KeyHasher<K>>() {}
 
-/// If growth is refused (`IsRefusedGrowth`), the map has at least half as many entries after the insertion as the table
-/// may hold, including the new entry (`half`). If memory runs out, the map may have one entry fewer (`without_memory`).
-/// If the table has up to 16 buckets, only the oldest entry is evicted (`one`).
+/// If growth is refused (`IsRefusedGrowth`), the entries after the insertion, including the new entry, are at least
+/// half as many as the table may hold (`half`). If memory runs out, the map may have one entry fewer
+/// (`without_memory`). If the table has up to 16 buckets, only the oldest entry is evicted (`one`).
 pub fn refused_growth_keeps_half<K: Eq + Hash, V, L: Limiter<K, V>, S: KeyHasher<K>>() {}
 
 /// If an insertion grows the table, it evicts nothing (`grown`). An insertion evicts entries only if the table needs to

@@ -58,7 +58,7 @@ pub enum Updated<V> {
 /// ```
 #[derive(Clone, Copy, Debug, PartialEq, Eq)]
 pub enum ReserveError {
-    /// No table can hold the entries plus the reserved entries, or the sum of their numbers overflows.
+    /// No table can hold the entries plus the reserved entries, or the sum of the two numbers overflows.
     TooLarge = 1,
     /// The limiter refused the larger table.
     Refused = 2,

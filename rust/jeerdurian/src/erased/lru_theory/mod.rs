@@ -30,10 +30,10 @@ pub fn lru_is_competitive<K: Eq>() {}
 /// `paid` times, some demand policy with h places and the same first keys misses at most `paid` times.
 pub fn loading_ahead_gains_nothing<K: Eq>() {}
 
-/// A cache of n places is *included* in a cache of m places if the larger cache contains its keys, in the same order,
-/// and at most m - n more keys. If the smaller cache is included, it is still included after any calls (`included`). So
-/// the larger cache finds each key that the smaller cache finds (`finds`), and misses no more often in a trace
-/// (`misses`). `KeyCall` lists the calls.
+/// A cache of n places is *included* in a cache of m places if the larger cache contains the keys of the smaller cache,
+/// in the same order, and at most m - n more keys. If the smaller cache is included, it is still included after any
+/// calls (`included`). So the larger cache finds each key that the smaller cache finds (`finds`), and misses no more
+/// often in a trace (`misses`). `KeyCall` lists the calls.
 pub fn a_smaller_cache_is_included<K: Eq>() {}
 
 /// A larger budget never means more misses. If the cache with the smaller budget contains the newest keys of the other
@@ -46,9 +46,9 @@ pub fn a_larger_budget_never_misses_more<K: Eq>() {}
 pub fn a_budget_keeps_the_newest<K: Eq>() {}
 
 /// A policy that stores each referenced key pays at least as often as MIN misses, whether it loads keys ahead (`loads`)
-/// or only on demand (`demands`). MIN with bypass misses at most as often as any policy pays that need not store
-/// referenced keys (`bypasses`). All these policies have n places, and begin with no keys. If MIN has a place, it
-/// stores each referenced key (`min`). MIN with bypass is a policy that need not store referenced keys (`bypass`).
+/// or only on demand (`demands`). A policy that need not store referenced keys pays at least as often as MIN with
+/// bypass misses (`bypasses`). All these policies have n places, and begin with no keys. If MIN has a place, it stores
+/// each referenced key (`min`). MIN with bypass is a policy that need not store referenced keys (`bypass`).
 pub fn min_is_best<K: Eq>() {}
 
 /// LRU is near MIN. MIN has h ≥ 1 places, and begins with no keys. LRU has k ≥ h places, and begins with any keys. LRU

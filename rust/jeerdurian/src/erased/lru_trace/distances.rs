@@ -18,7 +18,7 @@ const MOST_LEVELS: u32 = 59;
 /// `add_weighed_key` got.
 ///
 /// Each reference takes the next slot of a log, and the slot that its key had before becomes free. If the log is full,
-/// the keys move to the front of a new log. If about half of the slots or more contain keys, the new log has twice as
+/// the keys move to the front of a new log. If at least about half of the slots contain keys, the new log has twice as
 /// many slots. The memory is in proportion to the number of keys.
 
 pub struct Distances {

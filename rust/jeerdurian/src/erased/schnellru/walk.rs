@@ -96,7 +96,7 @@ impl<K: Eq + Hash, V, L: Limiter<K, V>, S: KeyHasher<K>> LruMap<K, V, L, S> {
         Some(self.entries.index_of(b))
     }
 
-    /// Returns the next older entry than the entry of a key. So a walk needs no iterator.
+    /// Returns the neighbour of a key's entry: the next older entry. So a walk needs no iterator.
     ///
     /// ```text
     /// assert!(rt; map.peek_older(&2) == Some((&1, &10)) && map.peek_older(&1).is_none());
@@ -111,7 +111,7 @@ impl<K: Eq + Hash, V, L: Limiter<K, V>, S: KeyHasher<K>> LruMap<K, V, L, S> {
         Some(self.entries.pair(self.entries.older_unless_last(b)))
     }
 
-    /// Returns the next newer entry than the entry of a key.
+    /// Returns the neighbour of a key's entry: the next newer entry.
     ///
     /// ```text
     /// assert!(rt; map.peek_newer(&2) == Some((&3, &30)) && map.peek_newer(&3).is_none());

@@ -109,7 +109,8 @@ fn crash<'a>(store: Store<'a>, random: &mut Random) -> Files<'a> {
     (pages, log)
 }
 
-/// Recovers the store, and compares it with the committed records, without and with the interrupted transaction.
+/// Recovers the store. Compares its records with the committed records, first without the interrupted transaction, and
+/// then with it.
 fn check(store: &mut Store, model: &mut Model, counts: &mut Counts) {
     match store.recover() {
         Ok(recovered) => counts.torn = counts.torn.saturating_add(recovered.torn),
@@ -131,7 +132,7 @@ fn check(store: &mut Store, model: &mut Model, counts: &mut Counts) {
     }
 }
 
-/// Crashes a store `count` times: crash n comes after n % `CALLS` calls of the files, or after all the work. Half of
+/// Crashes a store `count` times: crash n comes after n % `CALLS` calls on the files, or after all the work. Half of
 /// the time, crashes the store again in the recovery.
 pub fn crashes(alloc: Global, count: u64) -> Result<Counts, StoreError> {
     let power = Power::new();

@@ -1,5 +1,5 @@
 // Erased from crates/group_table_tests/src/tables.rt: do not edit.
-//! Tables for tests, and the rules of docs/TABLE.md for a list with the key of each bucket.
+//! Tables for tests, and a list with the key of each bucket, which follows the rules of docs/TABLE.md.
 #[allow(unused_imports)]
 use crate::rattle_std::prelude::*;
 

@@ -1,5 +1,5 @@
 // Erased from crates/lru_caches_tests/src/beginnings.rt: do not edit.
-//! The values that the examples of the docs begin with, and tests of the texts of errors.
+//! The values with which the examples of the docs begin, and tests of error texts.
 #[allow(unused_imports)]
 use crate::rattle_std::prelude::*;
 

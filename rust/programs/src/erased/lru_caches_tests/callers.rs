@@ -1,5 +1,5 @@
 // Erased from crates/lru_caches_tests/src/callers.rt: do not edit.
-//! Callers of a page cache, of an ordered map and of a map that counts, with contracts of their own.
+//! Functions with their own contracts, which call a page cache, an ordered map and a counted map.
 
 #[allow(unused_imports)]
 use crate::rattle_std::prelude::*;

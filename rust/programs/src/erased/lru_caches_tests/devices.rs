@@ -1,5 +1,5 @@
 // Erased from crates/lru_caches_tests/src/devices.rt: do not edit.
-//! Random calls on the devices of a file, compared with a plain list of blocks.
+//! Random calls on file devices, compared with a plain list of blocks.
 #[allow(unused_imports)]
 use crate::rattle_std::prelude::*;
 

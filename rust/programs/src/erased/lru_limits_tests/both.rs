@@ -1,5 +1,5 @@
 // Erased from crates/lru_limits_tests/src/both.rt: do not edit.
-//! The examples of two limiters for one map from the docs.
+//! Examples of `Both` and `ByLength`, as in the docs.
 #[allow(unused_imports)]
 use crate::rattle_std::prelude::*;
 

@@ -1,6 +1,6 @@
 // Erased from crates/lru_replay/src/costs.rt: do not edit.
-//! The theorems of `references`, for a map with a limit of cost, such as `ByCost` or `ByWeight`, and any `weight` of an
-//! entry.
+//! The theorems of `references`, for a map whose limiter limits the cost, as `ByCost` and `ByWeight` do, and for any
+//! `weight` of an entry.
 
 #[allow(unused_imports)]
 use crate::rattle_std::prelude::*;
@@ -8,9 +8,9 @@ use crate::rattle_std::prelude::*;
 use crate::erased::lru_limits::KeyHasher;
 use crate::rattle_std::hash::Hash;
 
-/// A new map keeps to its cost (`KeepsToCost`) under these premises. The limit is below 2 ^ 63, and for each key below
-/// 234,881,023 times the cost of the key. An entry takes fewer than 2 ^ 32 - 1 bytes, and the link type can number 2 ^
-/// 31 buckets.
+/// A new map keeps to its cost (`KeepsToCost`) under these premises. The limit is below 2 ^ 63, and below 234,881,023
+/// times the cost of each key. An entry takes fewer than 2 ^ 32 - 1 bytes, and the links are wide enough for 2 ^ 31
+/// buckets.
 pub fn maps_keep_to_their_cost<K: Eq + Hash, V, S: KeyHasher<K>>() {}
 
 /// These calls make a reference if they return `Ok`: an insert, a `try_insert`, and a call of a memo. The weight of the

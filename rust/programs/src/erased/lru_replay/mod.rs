@@ -3,8 +3,8 @@
 //!
 //! [`run_calls`] carries out a list of calls on any map. [`run_summing`] is for a limiter with a running total, and
 //! makes no call that would make the total wrong. [`replay`] reads lines that spell [`Call`]s (`docs/REPLAY.md`), and
-//! writes their answers. `docs/RUNS.md` explains the steps of these runs. [`laws`] states theorems on runs, and
-//! [`references`] and [`costs`] on programs that make references (`docs/THEORY.md`).
+//! writes their answers. `docs/RUNS.md` explains the steps of these runs. [`laws`] states theorems on runs;
+//! [`references`] and [`costs`] state theorems on programs that make references (`docs/THEORY.md`).
 
 #[allow(unused_imports)]
 use crate::rattle_std::prelude::*;

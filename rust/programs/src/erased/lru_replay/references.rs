@@ -18,14 +18,14 @@ pub fn calls_make_references<K: Eq + Hash, V, S: KeyHasher<K>>() {
     laws::calls_keep_the_length::<K, V, ByLength, S>();
 }
 
-/// If `ensure_newest` or `get_or_insert`, with the closure `make`, returns `Ok`, it makes a reference.
+/// If `ensure_newest` or `get_or_insert`, with the closure `make`, returns `Ok`, the call makes a reference.
 pub fn gets_that_insert_make_references<K: Eq + Hash, V, F: FnOnce() -> V, S: KeyHasher<K>>() {
     laws::inserts_leave_the_newest::<K, V, S>();
     laws::maps_keep_to_their_length::<K, V, S>();
     laws::calls_keep_the_length::<K, V, ByLength, S>();
 }
 
-/// If the fallible form of `ensure_newest` or `get_or_insert` returns `Ok`, it makes a reference.
+/// If the fallible form of `ensure_newest` or `get_or_insert` returns `Ok`, the call makes a reference.
 pub fn gets_that_insert_if_made_make_references<K: Eq + Hash, V, E, F: FnOnce() -> Result<V, E>, S: KeyHasher<K>>() {
     laws::inserts_leave_the_newest::<K, V, S>();
     laws::maps_keep_to_their_length::<K, V, S>();

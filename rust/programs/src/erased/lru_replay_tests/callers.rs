@@ -1,5 +1,5 @@
 // Erased from crates/lru_replay_tests/src/callers.rt: do not edit.
-//! Callers of runs, whose contracts follow from laws on runs, as in docs/CALLING.md.
+//! Functions that make runs, as in docs/CALLING.md. Their contracts follow from laws on runs.
 
 #[allow(unused_imports)]
 use crate::rattle_std::prelude::*;

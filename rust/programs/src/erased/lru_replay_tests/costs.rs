@@ -1,5 +1,5 @@
 // Erased from crates/lru_replay_tests/src/costs.rt: do not edit.
-//! Programs with `String` keys under a limit of cost, whose contracts say how often they load a value.
+//! Programs with `String` keys under a limit of cost. Their contracts say how often they load a value.
 
 #[allow(unused_imports)]
 use crate::rattle_std::prelude::*;
@@ -77,7 +77,7 @@ fn read_both<L: Source>(
 }
 
 /// Makes a text the newest. If the text is not there, inserts it with a value from `make`. If each text determines how
-/// many bytes its value has, and these are within the limit, a successful call is a reference.
+/// many bytes its value has, and this number is within the limit, a successful call is a reference.
 fn remember<F: FnOnce() -> Vec<u8>>(
     map: &mut LruMap<String, Vec<u8>, ByCost>,
     text: String,

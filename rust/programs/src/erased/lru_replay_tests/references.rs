@@ -1,5 +1,5 @@
 // Erased from crates/lru_replay_tests/src/references.rt: do not edit.
-//! Programs with `String` keys, whose contracts say how often they miss.
+//! Programs with `String` keys. Their contracts say how often they miss.
 
 #[allow(unused_imports)]
 use crate::rattle_std::prelude::*;

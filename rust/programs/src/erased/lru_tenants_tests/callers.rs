@@ -1,5 +1,5 @@
 // Erased from crates/lru_tenants_tests/src/callers.rt: do not edit.
-//! Functions that call a cache and a pool, with contracts of their own.
+//! Functions with their own contracts, which call a cache and a pool.
 
 #[allow(unused_imports)]
 use crate::rattle_std::prelude::*;

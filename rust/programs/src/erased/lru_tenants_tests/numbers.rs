@@ -1,6 +1,5 @@
 // Erased from crates/lru_tenants_tests/src/numbers.rt: do not edit.
-//! The caches of numbers in the examples of the docs. Tests of the texts of errors, and of names and keys
-//! that are texts.
+//! The caches of numbers in the examples of the docs. Tests of error texts, and of texts as names and keys.
 #[allow(unused_imports)]
 use crate::rattle_std::prelude::*;
 

@@ -1,5 +1,5 @@
 // Erased from crates/rows/src/lines.rt: do not edit.
-//! Rows of lines of the program `replay`.
+//! Rows whose input is lines for the program `replay`.
 #[allow(unused_imports)]
 use crate::rattle_std::prelude::*;
 
@@ -90,8 +90,8 @@ fn with_failing_read(alloc: Global, row: &Row, at: usize) -> bool {
     end == Some(Err(ReplayError::Read)) && writer.has(text, 1)
 }
 
-/// Lets write number `at` fail, on a writer that takes single bytes. Returns whether the first `at` bytes of the text
-/// are written, no line is read after the line that was being answered, and nothing is flushed.
+/// Makes the write with the number `at` fail, on a writer that takes single bytes. Returns whether the first `at` bytes
+/// of the text are written, no line is read after the line that was being answered, and nothing is flushed.
 fn with_failing_write(alloc: Global, row: &Row, at: usize) -> bool {
     let failure = if at % 4 == 0 { Failure::NoBytes } else { Failure::Error(error_at(at)) };
     let mut reader = row.input.as_slice();

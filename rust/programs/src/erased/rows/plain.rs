@@ -1,5 +1,5 @@
 // Erased from crates/rows/src/plain.rt: do not edit.
-//! A plain list of entries under a limit, which carries out calls as the documentation of the map describes them.
+//! A plain list of entries under a limit. The list carries out calls as the documentation of the map describes them.
 #[allow(unused_imports)]
 use crate::rattle_std::prelude::*;
 

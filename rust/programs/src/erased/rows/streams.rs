@@ -47,8 +47,8 @@ pub enum Failure {
     NoBytes,
 }
 
-/// Takes at most `most` bytes in each write, and fails `times` times from write `fails_at` on, counted from 0. Counts
-/// its flushes.
+/// Takes at most `most` bytes in each write. Of the writes, counted from 0, `times` fail, from write `fails_at` on.
+/// Counts its flushes.
 
 pub struct Narrow {
     bytes: Vec<u8>,

@@ -1,5 +1,6 @@
 // Erased from crates/schnellru_tests/src/callers.rt: do not edit.
-//! Callers of a map, whose contracts follow from the contracts of its calls: the code of docs/CALLING.md.
+//! Functions that call a map: the code of docs/CALLING.md. Their contracts follow from the contracts of the map's
+//! calls.
 
 #[allow(unused_imports)]
 use crate::rattle_std::prelude::*;
@@ -218,7 +219,7 @@ fn trim_and_count(map: &mut LruMap<u64, u64>) -> usize {
     count
 }
 
-/// Adds an entry of a new key to all others, or returns why the table has no growth left. Evicts nothing.
+/// Adds an entry of a new key, or returns why the table has no growth left. Evicts nothing.
 fn put_and_keep_all(map: &mut LruMap<u64, u64, UnlimitedCompact>, key: u64, value: u64) -> Result<(), ReserveError> {
     laws::inserts_with_room_are_exact::<u64, u64, u64, UnlimitedCompact, RandomState>();
     map.try_reserve(1)?;

@@ -1,5 +1,5 @@
 // Erased from crates/schnellru_tests/src/walks.rt: do not edit.
-//! Tests printed texts, and the numbers of errors.
+//! Tests the texts and the numbers of errors, and the debug texts of maps.
 #[allow(unused_imports)]
 use crate::rattle_std::prelude::*;
 

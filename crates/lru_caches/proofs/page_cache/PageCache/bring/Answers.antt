@@ -1,10 +1,11 @@
-use Rattle.std.proofs.Common.{rules, ◌≡◌, cond, ◌∷◌, nat_eq, false, sym, ap, ◌∙◌}
+use Rattle.std.proofs.Common.{rules, cond, ◌∷◌, nat_eq, false, sym, ap, ◌∙◌}
 use Rattle.std.specs.Map.{lookup}
 use Rattle.lru_model.specs.Lists.{without}
 use Rattle.lru_caches.specs.Pages.{evicted, hit, is_dirty, is_pinned, block_or, with_room}
 use Rattle.lru_caches.specs.declared.page_cache.PageError.TheVariants.{Memory}
 use Rattle.lru_caches.proofs.EvictionCounts.{failed-counts, missed-counts}
-use Rattle.lru_caches.proofs.Outcomes.{none_there, some_there, on_ok}
+use Rattle.std.proofs.lemmas.Result.{on_ok_weaker}
+use Rattle.lru_caches.proofs.Outcomes.{none_there, some_there}
 use Rattle.lru_caches.proofs.PageOrder.{used-found, used-new}
 use Rattle.lru_caches.proofs.page_cache.PageCache.bring.Goals as goal
 
@@ -31,7 +32,7 @@ returns-clause-page g c =
     let stays = c.promote.ensures.stays c.if-promote.false in
     let none = none_there (lookup (nat_eq n) was) (sym c.promote.ensures.there ∙ c.if-promote.false) in
     let room = c.in_ok-gone.ensures.room ∙ ap (with_room it.capacity it.keeps_dirty) stays in
-    on_ok c.load.result (λ (block, shows, is). (
+    on_ok_weaker c.load.result (λ (block, shows, is). (
       block,
       shows,
       rw (← c.self.view_is) (used-new it.capacity n it.keeps_dirty _ was c.load.new.map.pairs none

@@ -1,5 +1,5 @@
-use Rattle.std.proofs.Common.{◌≡◌, nat_eq, sym, ap, ◌∙◌, subst, vec_capacity}
-use Rattle.lru_caches.specs.Pages.{block_at, shown, unpinned_at}
+use Rattle.std.proofs.Common.{sym, ap, ◌∙◌, subst, vec_capacity}
+use Rattle.lru_caches.specs.Pages.{block_at}
 use Rattle.lru_caches.proofs.FirstPages.{Holds, unpinned-holds, unpinned-shown}
 use Rattle.lru_caches.proofs.page_cache.PageCache.unpin.Goals as goal
 

@@ -1,10 +1,11 @@
-use Rattle.std.proofs.Common.{rules, ◌≡◌, cond, ◌∷◌, nat_eq, true, false, sym, ap, ◌∙◌}
+use Rattle.std.proofs.Common.{rules, cond, ◌∷◌, nat_eq, true, false, sym, ap, ◌∙◌}
 use Rattle.std.specs.Map.{lookup}
 use Rattle.lru_model.specs.Lists.{without}
 use Rattle.lru_caches.specs.Pages.{evicted, hit, is_pinned, with_room}
 use Rattle.lru_caches.specs.declared.page_cache.PageError.TheVariants.{Memory}
 use Rattle.lru_caches.proofs.EvictionCounts.{failed-counts, missed-counts}
-use Rattle.lru_caches.proofs.Outcomes.{none_there, some_there, on_ok}
+use Rattle.std.proofs.lemmas.Result.{on_ok_weaker}
+use Rattle.lru_caches.proofs.Outcomes.{none_there, some_there}
 use Rattle.lru_caches.proofs.PageOrder.{used-found, used-new}
 use Rattle.lru_caches.proofs.page_cache.PageCache.write.Goals as goal
 
@@ -25,7 +26,7 @@ returns-clause-pages g c =
     let stays = c.overwrite.ensures.stays c.if-overwrite.false in
     let none = none_there (lookup (nat_eq n) was) (sym c.overwrite.ensures.there ∙ c.if-overwrite.false) in
     let room = c.in_ok-gone.ensures.room ∙ ap (with_room it.capacity it.keeps_dirty) stays in
-    on_ok c.replace.result (λ is.
+    on_ok_weaker c.replace.result (λ is.
     rw (← c.self.view_is) (used-new it.capacity n it.keeps_dirty _ was c.replace.new.map.pairs none
     (is ∙ ap (λ l. (n, record { block = c.args.block; is_dirty = true; is_pinned = false }) ∷ l) room)
     ∙ ap (λ o. (n, record { block = c.args.block; is_dirty = true; is_pinned = is_pinned o })

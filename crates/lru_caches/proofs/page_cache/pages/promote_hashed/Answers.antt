@@ -1,10 +1,8 @@
-use Rattle.std.proofs.Common.{◌≡◌, rules, nat_eq, Option, Some, None, is_some, option_map, refl, ap, sym, ◌∙◌}
+use Rattle.std.proofs.Common.{◌≡◌, rules, nat_eq, is_some, option_map, ap, sym, ◌∙◌}
 use Rattle.std.proofs.lemmas.Cmp.{nat_eq_equiv}
-use Rattle.std.specs.Map.{lookup}
 use Rattle.std.specs.Prelude.{unwrap_or}
 use Rattle.std.specs.Option.{option_copied_mut}
 use Rattle.lru_model.specs.Calls.{promoted, written}
-use Rattle.lru_model.specs.Lists.{lookup_entry}
 use Rattle.lru_model.proofs.CallerLemmas.{given-found, given-promoted, none-found, lookup-entry, promoted-absent}
 use Rattle.lru_caches.proofs.Outcomes.{on_some}
 use Rattle.lru_caches.proofs.PageOrder.{absent-by-hash}

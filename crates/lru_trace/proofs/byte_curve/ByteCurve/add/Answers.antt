@@ -14,7 +14,7 @@ use Rattle.lru_trace.specs.Slots.{weight_in}
 use Rattle.lru_trace.proofs.Numbered.{found_more, kept_more, cases}
 use Rattle.lru_trace.proofs.SizedKeys.{sum_added, size_kept, size_added, absent}
 use Rattle.lru_trace.proofs.SizedRecency.{spared, added}
-use Rattle.lru_trace.proofs.SizedSteps.{clash}
+use Rattle.std.proofs.lemmas.Option.{none-some}
 use Rattle.lru_trace.proofs.byte_curve.ByteCurve.add.Goals as goal
 
 pub invariant_of-self-in_default-insert : goal.invariant_of-self-in_default-insert
@@ -99,7 +99,7 @@ returns-clause-made c =
       first = λ _. ap (λ ws. weight_in ws number) weights ∙ size_added d.weights c.args.bytes number last;
       only = λ x n e unnamed. elim (cases old.entries c.insert.new.self.entries name number after x n e) [
         | inl h ↦ sym h.0 ∙ c.in_ok-name.ensures.ok
-        | inr h ↦ clash n (sym unnamed ∙ ap (λ v. number_in v.names x) (sym c.self.view_is) ∙ h)
+        | inr h ↦ absurd (none-some n (sym unnamed ∙ ap (λ v. number_in v.names x) (sym c.self.view_is) ∙ h))
       ];
       recency = c.in_ok-refer.ensures.recency ∙ ap (λ xs. number ∷ remove_key (nat_eq number) xs)
           (c.in_ok-number.ensures.recency ∙ c.in_ok-reserve.ensures.recency ∙ ap (λ v. v.recency) c.self.view_is);

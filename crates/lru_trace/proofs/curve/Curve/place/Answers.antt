@@ -2,40 +2,43 @@ use Rattle.std.proofs.Common.{◌≡◌, ◌<◌, ℕ, Option, Some, None, true,
 use Rattle.std.specs.Prelude.{is_some, not}
 use Rattle.lru_trace.specs.Counted.{AreNumbered}
 use Rattle.lru_trace.proofs.CurveSteps.{place, plain_fits, plain_place, found_length, first_length}
+use Rattle.lru_trace.proofs.curve.Curve.place.Goals.{After-self, After-is_none}
 use Rattle.lru_trace.proofs.curve.Curve.place.Goals as goal
+
+spare : (c : After-self) → length c.self.inside.distances.recency < length c.self.inside.counts.items
+spare c = omega (
+  arith,
+  c.requires.spare,
+  ap (λ v. length v.recency) c.self.view_is,
+  ap (λ v. length v.counts) c.self.view_is,
+)
+
+is_placed : (c : After-is_none) → is_some (place c.args.number c.self.inside.distances.recency) ≡ not c.is_none.result
+is_placed c = ap is_some (sym (c.in_ok-refer.ensures.distance
+    ∙ plain_place c.self.inside.distances.weights c.args.number c.self.inside.distances.recency c.self.invariant.plain))
+    ∙ c.is_none.ensures
 
 pub refer-requires-clause-fits : goal.refer-requires-clause-fits
 refer-requires-clause-fits c =
     plain_fits c.self.inside.distances.weights c.args.number c.self.inside.distances.recency c.self.invariant.plain
     (omega (
       arith,
-      c.requires.spare,
-      ap (λ v. length v.recency) c.self.view_is,
-      ap (λ v. length v.counts) c.self.view_is,
+      spare (goal.at.refer-requires-clause-fits c).After-self,
       c.self.inside.counts.ok.0,
       c.self.inside.counts.small,
     ))
 
 pub invariant_of-self-then-is_none : goal.invariant_of-self-then-is_none
 invariant_of-self-then-is_none c =
+    let at = goal.at.invariant_of-self-then-is_none c in
     let is = c.self.invariant in
     let recency = c.self.inside.distances.recency in
-    let none = without (place c.args.number recency)
-    (ap is_some (sym (c.in_ok-refer.ensures.distance
-    ∙ plain_place c.self.inside.distances.weights c.args.number c.self.inside.distances.recency c.self.invariant.plain)) ∙ c.is_none.ensures ∙ ap not c.if-is_none.true) in
+    let none = without (place c.args.number recency) (is_placed at.After-is_none ∙ ap not c.if-is_none.true) in
     let long = first_length c.args.number recency none in
-    let spare : length recency < length c.self.inside.counts.items =
-    omega (
-      arith,
-      c.requires.spare,
-      ap (λ v. length v.recency) c.self.view_is,
-      ap (λ v. length v.counts)
-          c.self.view_is,
-    ) in
     record {
       numbered = subst (AreNumbered c.self.inside.numbers.entries) (sym c.in_ok-refer.ensures.keys) is.numbered;
       firsts = omega (arith, is.firsts, long, ap length c.in_ok-refer.ensures.recency);
-      few = omega (arith, is.firsts, spare);
+      few = omega (arith, is.firsts, spare at.After-self);
       total = is.total;
       plain = c.in_ok-refer.ensures.weights ∙ is.plain;
     }
@@ -49,8 +52,7 @@ invariant_of-self-else-is_none c =
     let is = c.self.invariant in
     let recency = c.self.inside.distances.recency in
     let (d, some) = within (place c.args.number recency)
-    (ap is_some (sym (c.in_ok-refer.ensures.distance
-    ∙ plain_place c.self.inside.distances.weights c.args.number c.self.inside.distances.recency c.self.invariant.plain)) ∙ c.is_none.ensures ∙ ap not c.if-is_none.false) in
+    (is_placed (goal.at.invariant_of-self-else-is_none c).After-is_none ∙ ap not c.if-is_none.false) in
     let long = found_length c.args.number d recency some in
     record {
       numbered = subst (AreNumbered c.self.inside.numbers.entries) (sym c.in_ok-refer.ensures.keys) is.numbered;

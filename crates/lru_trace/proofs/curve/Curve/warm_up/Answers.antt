@@ -1,6 +1,7 @@
 use Rattle.std.proofs.Common.{◌∷◌, ◌++◌, [], sym, subst, ap, ◌∙◌}
+use Rattle.std.proofs.lemmas.Result.{on_ok_weaker, on_err_weaker}
 use Rattle.lru_trace.specs.Counted.{IsOf, number_in}
-use Rattle.lru_trace.proofs.CurveSteps.{renamed, recounted, always_err, on_ok, on_err, of_warm}
+use Rattle.lru_trace.proofs.CurveSteps.{renamed, recounted, always_err, of_warm}
 use Rattle.lru_trace.proofs.curve.Curve.warm_up.Goals as goal
 
 pub returns-in_err-number-clause-err : goal.returns-in_err-number-clause-err
@@ -19,7 +20,7 @@ place-requires-clause-number c = (
 )
 
 pub returns-clause-ok : goal.returns-clause-ok
-returns-clause-ok c = on_ok c.place.result (λ same warm of.
+returns-clause-ok c = on_ok_weaker c.place.result (λ same warm of.
     subst (IsOf (warm ++ c.args.key.now ∷ []) []) (sym same) (of_warm
     (recounted warm [] c.number_of.new.self c.make_count.new.self c.make_count.ensures.rest c.make_count.ensures.hits
     (renamed warm [] c.args.self.now c.number_of.new.self c.number_of.ensures.rest c.number_of.ensures.others of))
@@ -28,7 +29,7 @@ returns-clause-ok c = on_ok c.place.result (λ same warm of.
     c.place.ensures.ok
 
 pub returns-clause-err : goal.returns-clause-err
-returns-clause-err c = on_err c.place.result (λ same warm past of.
+returns-clause-err c = on_err_weaker c.place.result (λ same warm past of.
     subst (IsOf warm past) (sym same)
     (recounted warm past c.number_of.new.self c.make_count.new.self c.make_count.ensures.rest c.make_count.ensures.hits
     (renamed warm past c.args.self.now c.number_of.new.self c.number_of.ensures.rest c.number_of.ensures.others of)))

@@ -102,7 +102,7 @@ impl<K: Eq + Hash, V, E, F: Fn(&K) -> Result<V, E>, L: Insertion<K, V, K>, S: Ke
     /// assert_eq!(rt; (texts.load_with(3, |text| text.len()), texts.len()), (Ok(3), 1));
     /// ```
     ///
-    /// Cost: as `load`, and a call of the closure.
+    /// Cost: as `load`, plus a call of the closure.
     ///
     /// # Errors
     ///

@@ -8,7 +8,7 @@ use crate::erased::schnellru::{Insertion, KeyHasher, LruMap, RandomState, laws};
 use crate::rattle_std::alloc::Global;
 use crate::rattle_std::hash::Hash;
 
-/// Defines which values answer a key of a [`MemoTable`].
+/// Defines which values are answers at a key of a [`MemoTable`].
 ///
 /// ```text
 /// #[derive(Drop)]
@@ -109,7 +109,7 @@ impl<K: Eq + Hash, V, Q: Question<K, V>, L: Insertion<K, V, K>, S: KeyHasher<K>>
     /// assert_eq!(rt; squares.get_with(&3, |square| square.wrapping_add(1)), Some(10));
     /// ```
     ///
-    /// Cost: as `get`, and a call of the closure.
+    /// Cost: as `get`, plus a call of the closure.
     pub fn get_with<R, U: FnOnce(&V) -> R>(&mut self, key: &K, read: U) -> Option<R> {
         let value = self.map.get(key)?;
         Some(read(&*value))

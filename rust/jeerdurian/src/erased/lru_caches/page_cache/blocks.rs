@@ -49,7 +49,7 @@ impl<B: Copy, D: BlockDevice<B>, S: KeyHasher<u64>> PageCache<B, D, S> {
     /// assert_eq!(rt; cache.read_with(1, |block| *block / 2), Ok(10));
     /// ```
     ///
-    /// Cost: as `read`, and a call of the closure.
+    /// Cost: as `read`, plus a call of the closure.
     ///
     /// # Errors
     ///
@@ -111,7 +111,7 @@ impl<B: Copy, D: BlockDevice<B>, S: KeyHasher<u64>> PageCache<B, D, S> {
     /// assert_eq!(rt; (cache.write_with(1, |block| *block = 21), cache.read(1)), (Ok(()), Ok(21)));
     /// ```
     ///
-    /// Cost: as `read`, and a call of the closure.
+    /// Cost: as `read`, plus a call of the closure.
     ///
     /// # Errors
     ///

@@ -7,7 +7,7 @@ use crate::erased::lru_caches::page_cache::pages::{Page, Pages};
 use crate::erased::lru_caches::page_cache::{PageCache, PageError};
 use crate::erased::schnellru::KeyHasher;
 
-/// Reserves memory for the number of one more page, so that flushes allocate nothing.
+/// Reserves memory for one more page number, so that flushes allocate nothing.
 pub(super) fn reserve_number<E>(numbers: &mut Vec<u64>, pages: usize) -> Result<(), PageError<E>> {
     numbers.clear();
     let Some(needed) = pages.checked_add(1) else {

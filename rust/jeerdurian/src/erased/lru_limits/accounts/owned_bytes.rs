@@ -2,7 +2,7 @@
 #[allow(unused_imports)]
 use crate::rattle_std::prelude::*;
 
-use crate::rattle_std::mem::size_of;
+use crate::erased::group_table::Table;
 
 /// A value that reports how many bytes it owns outside of itself: all blocks that it allocated, and what the values in
 /// these blocks own.
@@ -22,11 +22,6 @@ pub trait OwnedBytes {
 #[inline]
 fn block_bytes(bytes: u64) -> u64 {
     if bytes == 0 { 0 } else { bytes.saturating_add(31) / 16 * 16 }
-}
-
-#[inline]
-fn bytes_of<T>() -> usize {
-    size_of::<T>()
 }
 
 /// Numbers, `bool` and `char` own nothing.
@@ -109,7 +104,7 @@ impl OwnedBytes for String {
 
 impl<T: OwnedBytes> OwnedBytes for Vec<T> {
     fn owned_bytes(&self) -> u64 {
-        let mut sum = block_bytes((self.capacity() as u64).saturating_mul(bytes_of::<T>() as u64));
+        let mut sum = block_bytes((self.capacity() as u64).saturating_mul(Table::<T>::entry_bytes() as u64));
         for item in self.as_slice() {
             sum = sum.saturating_add(item.owned_bytes());
         }
@@ -121,7 +116,7 @@ impl<T: OwnedBytes> OwnedBytes for Box<T> {
     #[inline]
     fn owned_bytes(&self) -> u64 {
         let value: &T = &**self;
-        block_bytes(bytes_of::<T>() as u64).saturating_add(value.owned_bytes())
+        block_bytes(Table::<T>::entry_bytes() as u64).saturating_add(value.owned_bytes())
     }
 }
 

@@ -35,8 +35,8 @@ pub fn calls_keep_the_budget<K: Eq + Hash, V, L: Budgeted<K, V>, S: KeyHasher<K>
 /// Each `AnyStep` adds at most one entry.
 pub fn calls_add_one_pair<K: Eq + Hash, V, I: LookupKey<K>, L: Insertion<K, V, I>, S: KeyHasher<K>>() {}
 
-/// A call evicts only the oldest of the entries whose keys it does not name, and keeps the newer ones in their order.
-/// The law excludes `pop_newest`, which removes the newest entry.
+/// Of the entries whose keys a call does not name, the call evicts only the oldest, and keeps the others in their
+/// order. The law excludes `pop_newest`, which removes the newest entry.
 ///
 /// A call names the key that it inserts, updates, looks up or removes, and the key whose value it writes. A retain
 /// names the keys that its closure rejects.

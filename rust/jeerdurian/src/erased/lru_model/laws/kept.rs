@@ -15,14 +15,15 @@ use crate::rattle_std::hash::Hash;
 pub fn nothing_is_lost<K: Eq + Hash, V, I: LookupKey<K>, L: Insertion<K, V, I>, S: KeyHasher<K>>() {}
 
 /// If growth is left, an insert changes the entries as it would change a plain list without a table (`list`), whatever
-/// `on_grow` returns. An insert of a new key returns true, evicts nothing (`added`), and passes nothing to its callback
-/// (`passed`), if growth is left, and the limiter accepts the entry and is not over its limit with it.
+/// `on_grow` returns. Suppose that growth is left, and that the limiter accepts a new entry, and is not over its limit
+/// with this entry. Then the insert returns true, evicts nothing (`added`), and passes nothing to its callback
+/// (`passed`).
 pub fn inserts_with_room_are_exact<K: Eq + Hash, V, I: LookupKey<K>, L: Insertion<K, V, I>, S: KeyHasher<K>>() {}
 
-/// With `ByLength`, a successful insert leaves its entry first, under the stored key, and then the newest other
-/// entries, up to `max_length` entries in all. The law holds for a map that keeps to its length (`newest`; see
-/// `maps_keep_to_their_length`), and for a map with at most `max_length` entries and growth left (`with_room`). If the
-/// map keeps to its length, inserts one after another leave the newest entries, too (`lists`).
+/// After a successful insert with `ByLength`, the inserted entry comes first, under the stored key, and then come the
+/// newest other entries, up to `max_length` entries in all. The law holds for a map that keeps to its length (`newest`;
+/// see `maps_keep_to_their_length`), and for a map with at most `max_length` entries and growth left (`with_room`). If
+/// the map keeps to its length, several inserts, one after another, leave the newest entries, too (`lists`).
 pub fn inserts_leave_the_newest<K: Eq + Hash, V, S: KeyHasher<K>>() {}
 
 /// If `max_length` is at most 939,524,096, and an entry has fewer than 4,294,967,295 bytes, a new map with `ByLength`

@@ -20,7 +20,7 @@ impl<N: Eq + Hash, K: Eq + Hash, V, L: Budgeted<K, V>, S: KeyHasher<K> + Copy> T
     /// assert_eq!(rt; left, 7);
     /// ```
     ///
-    /// Cost: as `put`, and the calls of the callback.
+    /// Cost: as `put`, plus the calls of the callback.
     ///
     /// # Errors
     ///
@@ -39,8 +39,8 @@ impl<N: Eq + Hash, K: Eq + Hash, V, L: Budgeted<K, V>, S: KeyHasher<K> + Copy> T
     }
 
     /// Does what `put_with` does, and returns the value that the tenant does not keep, as [`Inserted`] says. If the
-    /// limiter rejects the entry of a new key, also returns its value, with a false `kept`. Such a rejection leaves the
-    /// tenant as it is, passes nothing to the callback, and drops the key.
+    /// limiter rejects the entry of a new key, also returns the entry's value, with a false `kept`. Such a rejection
+    /// leaves the tenant as it is, passes nothing to the callback, and drops the key.
     ///
     /// If the key was there and is not kept, the callback got its entry: with the old value if the limiter rejected the
     /// new value, and otherwise with the new value.
@@ -79,7 +79,7 @@ impl<N: Eq + Hash, K: Eq + Hash, V, L: Budgeted<K, V>, S: KeyHasher<K> + Copy> T
     /// assert_eq!(rt; evicted, 7);
     /// ```
     ///
-    /// Cost: as `set_budget`, and the calls of the callback.
+    /// Cost: as `set_budget`, plus the calls of the callback.
     ///
     /// # Errors
     ///

@@ -124,7 +124,8 @@ impl<K: Eq + Hash, V, N: LinkType> OrderedTable<K, V, N> {
 }
 
 impl<K, V, N: LinkType> OrderedTable<K, V, N> {
-    /// Clones the entries into buckets of the same numbers, in the same order. The links are copied with the entries.
+    /// Clones each entry into the bucket with the same number, in the same order. The links are copied with the
+    /// entries.
     ///
     /// Cost: `O(buckets)`, and a clone of each key and value.
     ///

@@ -8,7 +8,7 @@ use crate::rattle_std::alloc::AllocError;
 use crate::rattle_std::hash::Hash;
 
 impl<K: TryClone, V: TryClone, L: Limiter<K, V> + TryClone, S: TryClone> LruMap<K, V, L, S> {
-    /// Clones the entries in their order, the limiter and the hasher. The clone has the same bucket states and counts.
+    /// Clones the limiter, the hasher, and the entries in their order. The clone has the same bucket states and counts.
     ///
     /// ```text
     /// let mut copy = map.clone()?;

@@ -66,7 +66,7 @@ impl<K: Eq + Hash, V, L: Limiter<K, V>, S: KeyHasher<K>> LruMap<K, V, L, S> {
     /// assert_eq!(rt; left, Some((1, 10)));
     /// ```
     ///
-    /// Cost: as `insert`, and the calls of the callback.
+    /// Cost: as `insert`, plus the calls of the callback.
     ///
     /// # Errors
     ///

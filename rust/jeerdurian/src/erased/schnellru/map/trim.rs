@@ -55,7 +55,7 @@ impl<K: Eq + Hash, V, L: Limiter<K, V>, S: KeyHasher<K>> LruMap<K, V, L, S> {
     /// assert_eq!(rt; evicted, 3);
     /// ```
     ///
-    /// Cost: as `trim`, and the calls of the callback.
+    /// Cost: as `trim`, plus the calls of the callback.
     pub fn trim_with<F: FnMut(K, V)>(&mut self, sink: &mut F) {
         if !self.is_empty() {
             self.evict_over_limit(sink);
@@ -71,7 +71,7 @@ impl<K: Eq + Hash, V, L: Limiter<K, V>, S: KeyHasher<K>> LruMap<K, V, L, S> {
     /// assert_eq!(rt; evicted, 3);
     /// ```
     ///
-    /// Cost: as `set_limiter`, and the calls of the callback.
+    /// Cost: as `set_limiter`, plus the calls of the callback.
     pub fn set_limiter_with<F: FnMut(K, V)>(&mut self, limiter: L, sink: &mut F) -> L {
         let old = mem::replace(&mut self.limiter, limiter);
         self.trim_with(sink);

@@ -15,7 +15,7 @@ const CAPACITIES: usize = 6;
 
 const MOST: u64 = 80;
 
-/// How many disk calls the runs of all capacities make, as another program counted them.
+/// How many disk calls the runs of all capacities make together. Another program counted them.
 pub const NEEDED: u64 = 310;
 
 const WORKS: u64 = 1 << 60;

@@ -48,7 +48,7 @@ fn is_cloned_once(map: &Map, lives: &Lives, allowed: u64) -> bool {
     (is_made == (allowed >= 16)) & (left == allowed.saturating_sub(16)) & lives.are(8)
 }
 
-/// Also tests that the limiter is notified of a clear after the entries were dropped.
+/// Also tests that a clear drops the entries before it notifies the limiter.
 #[ignore = "the clone of a `Storing` cannot fail"]
 #[test]
 fn each_key_and_value_is_cloned_once() {
