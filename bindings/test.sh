@@ -32,8 +32,8 @@ for compiler in g++ clang++; do
 done
 if has clang; then
     for name in random_calls random_bytes; do
-        quiet clang -std=c11 "${flags[@]}" -fsanitize=address,undefined "c/$name.c" "$library" "$wrapped" \
-            -o "$out/sanitized"
+        quiet clang -std=c11 "${flags[@]}" -fsanitize=address,undefined -fno-sanitize-recover=undefined \
+            "c/$name.c" "$library" "$wrapped" -o "$out/sanitized"
         quiet "$out/sanitized" 625000
     done
     done+=("address sanitizer")

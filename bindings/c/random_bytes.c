@@ -9,6 +9,10 @@
 
 enum { LONGEST_KEY = 3, LONGEST = 300, MOST = 85, SPARE = 4 };
 
+NO_NULL(lru_bytes_put) NO_NULL(lru_bytes_get) NO_NULL(lru_bytes_peek) NO_NULL(lru_bytes_lend)
+NO_NULL(lru_bytes_contains) NO_NULL(lru_bytes_remove) NO_NULL(lru_bytes_pop_oldest) NO_NULL(lru_bytes_pop_for)
+NO_NULL(lru_bytes_peek_oldest) NO_NULL(lru_bytes_peek_at) NO_NULL(lru_bytes_peek_older)
+
 struct text {
     uint8_t bytes[LONGEST];
     size_t len;
@@ -146,13 +150,24 @@ static bool try_read(struct lru_bytes *lru, struct list *list, bool promotes, st
     return true;
 }
 
+/* The value that was lent last, and the map that has its bytes, until a call that may change the map. */
+static const struct lru_bytes *lender;
+static struct text lent_value;
+static struct lru_lent lent;
+
+static bool is_lent(void) { return !lent.len || !memcmp(lent.bytes, lent_value.bytes, lent.len); }
+
 /* Reads the bytes of a value where the map has them. */
 static bool try_lend(struct lru_bytes *lru, struct list *list, struct text key) {
     int i = find(list, &key);
-    struct lru_lent lent = {NULL, 3};
-    CHECK(lru_bytes_lend(lru, bytes_of(&key), key.len, &lent) == (i >= 0));
-    if (i < 0) return !lent.bytes && lent.len == 3;
-    CHECK(lent.len == list->value[i].len && (!lent.len || !memcmp(lent.bytes, list->value[i].bytes, lent.len)));
+    struct lru_lent found = {NULL, 3};
+    CHECK(lru_bytes_lend(lru, bytes_of(&key), key.len, &found) == (i >= 0));
+    CHECK(!lender || is_lent());
+    if (i < 0) return !found.bytes && found.len == 3;
+    lender = lru;
+    lent = found;
+    lent_value = list->value[i];
+    CHECK(lent.len == lent_value.len && is_lent());
     make_newest(list, i);
     return true;
 }
@@ -319,6 +334,7 @@ static bool run(uint64_t budget, long calls) {
     static struct list lists[2];
     struct lru_bytes maps[2] = {LRU_NONE, LRU_NONE};
     uint64_t seeds[4] = {next(), next(), next(), next()};
+    lender = NULL;
     for (int i = 0; i < 2; i++) {
         CHECK(try_nothing(&maps[i]));
         lists[i].len = 0;
@@ -328,6 +344,8 @@ static bool run(uint64_t budget, long calls) {
     for (long n = 0; n < calls; n++) {
         struct lru_bytes *lru = &maps[n % 2];
         struct list *list = &lists[n % 2];
+        CHECK(!lender || is_lent());
+        if (lender == lru) lender = NULL;
         CHECK(try_call(lru, list, seeds));
         CHECK(lru_bytes_len(lru) == list->len && lru_bytes_cost(lru) == cost(list));
         CHECK(lru_bytes_budget(lru) == budget);

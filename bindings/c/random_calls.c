@@ -9,14 +9,17 @@
 
 enum { MOST = 64 };
 
+NO_NULL(lru_copy_newest)
+
 /* Entries, the oldest first. */
 struct list {
     uint64_t key[MOST + 1], value[MOST + 1];
     size_t len, most;
 };
 
-/* What the header counts, and what the list counts. */
-static struct lru_counts counts, counted;
+/* What the header counts, and what the list counts. The counts begin high, so a count of 32 bits differs. */
+#define HIGH UINT64_MAX / 2
+static struct lru_counts counts = {HIGH, HIGH, HIGH, HIGH, HIGH}, counted = {HIGH, HIGH, HIGH, HIGH, HIGH};
 
 static int find(const struct list *list, uint64_t key) {
     for (size_t i = 0; i < list->len; i++)
@@ -177,6 +180,8 @@ static bool try_nothing(struct lru *lru) {
     struct lru_entry entry = {3, 4};
     struct lru_inserted in = lru_insert(lru, 1, 2, &entry);
     CHECK(in.code == LRU_NO_MAP && !in.evicted && !in.replaced && lru_put(lru, 1, 2) == LRU_NO_MAP);
+    lru_count_insert(&counts, in.code, 3);
+    counted.evictions += 3;
     in = lru_get_or_insert(lru, 1, 2, &entry);
     CHECK(in.code == LRU_NO_MAP && !in.evicted && !in.replaced);
     CHECK(!lru_get(lru, 1).found && !lru_peek(lru, 1).found && !lru_remove(lru, 1).found);

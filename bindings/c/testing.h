@@ -27,6 +27,9 @@ static uint64_t next(void) {
     return state ^= state << 17;
 }
 
+/* With clang, the sanitizer fails if a macro of the header passes null to this function. */
+#define NO_NULL(f) extern __typeof__(f) f __attribute__((nonnull));
+
 #define CHECK(c) do { if (!(c)) { fprintf(stderr, "%s, line %d\n", #c, __LINE__); return false; } } while (0)
 
 #endif

@@ -51,14 +51,16 @@ module _ {K V S : Type 0} {one : Contents K V S → Contents K V S} {gives : Con
   nothing_given : (n : ℕ) (c : Contents K V S) → c.pairs ≡ [] → all n c ≡ []
   nothing_given zero c empty = p.nothing c
   nothing_given (suc n) c empty = p.given n c
-      ∙ ap (λ l. l ++ all n (one c)) (subst (λ l. gives (record c { pairs = l }) ≡ []) (sym empty) (p.without c.limiter))
+      ∙ ap (λ l. l ++ all n (one c)) (subst (λ l. gives (record c { pairs = l }) ≡ []) (sym empty)
+      (p.without c.limiter))
       ∙ ap (all n) (subst (λ l. one (record c { pairs = l }) ≡ record c { pairs = l }) (sym empty) (p.still c.limiter))
       ∙ nothing_given n c empty
 
   pub many_enough : (n k : ℕ) (c : Contents K V S) → k ≤ n → (k < n → length c.pairs ≤ k) → many k c ≡ many n c
   many_enough zero zero c most enough = refl
   many_enough zero (suc k) c most enough = absurd (omega arith)
-  many_enough (suc n) zero c most enough = p.none c ∙ sym (none_left (suc n) c (nil_from_length c.pairs (omega (arith, enough (omega arith)))))
+  many_enough (suc n) zero c most enough = p.none c ∙ sym (none_left (suc n) c
+      (nil_from_length c.pairs (omega (arith, enough (omega arith)))))
   many_enough (suc n) (suc k) c most enough =
       p.more k c ∙ many_enough n k (one c) (omega arith)
       (λ less. let few = enough (omega arith) in omega (arith, p.shorter c, few)) ∙ sym (p.more n c)
@@ -66,7 +68,8 @@ module _ {K V S : Type 0} {one : Contents K V S → Contents K V S} {gives : Con
   pub all_enough : (n k : ℕ) (c : Contents K V S) → k ≤ n → (k < n → length c.pairs ≤ k) → all k c ≡ all n c
   all_enough zero zero c most enough = refl
   all_enough zero (suc k) c most enough = absurd (omega arith)
-  all_enough (suc n) zero c most enough = p.nothing c ∙ sym (nothing_given (suc n) c (nil_from_length c.pairs (omega (arith, enough (omega arith)))))
+  all_enough (suc n) zero c most enough = p.nothing c ∙ sym (nothing_given (suc n) c
+      (nil_from_length c.pairs (omega (arith, enough (omega arith)))))
   all_enough (suc n) (suc k) c most enough =
       p.given k c ∙ ap (λ l. gives c ++ l) (all_enough n k (one c) (omega arith)
       (λ less. let few = enough (omega arith) in omega (arith, p.shorter c, few))) ∙ sym (p.given n c)

@@ -3,6 +3,7 @@ use Rattle.std.proofs.Common.{◌≡◌, ℕ, zero, suc, ◌+◌, ◌-◌, ◌�
 use Rattle.std.proofs.Common.{refl, ap, ◌∙◌, subst, arith}
 use Rattle.std.proofs.lemmas.List.{length-take}
 use Rattle.std.proofs.lemmas.Map.Made.{length-remove_key}
+use Rattle.std.proofs.lemmas.Bool.{or_right}
 use Rattle.std.specs.Cmp.{IsEquivalence}
 use Rattle.std.specs.Prelude.{◌||◌}
 use Rattle.std.specs.Set.{remove_key}
@@ -91,11 +92,7 @@ module _ {K : Type 0} {eq : K → K → Bool} (laws : IsEquivalence eq) where
       go b true is e ih = refl
       go true false is e ih = clash is refl
       go false false is e ih = ih e
-  sub_in key _ _ (skips y xs ys h) e = go (eq key y) (sub_in key xs ys h e)
-    where
-      go : (b : Bool) → is_in eq key ys ≡ true → (b || is_in eq key ys) ≡ true
-      go true ih = refl
-      go false ih = ih
+  sub_in key _ _ (skips y xs ys h) e = or_right (eq key y) (is_in eq key ys) (sub_in key xs ys h e)
 
   without_few : (key : K) (xs : List K) → length (remove_key (eq key) xs) ≤ length xs
   without_few key xs = go (is_in eq key xs) refl

@@ -43,7 +43,8 @@ module _ {K : Type 0} {eq : K → K → Bool} (laws : IsEquivalence eq) where
   near_fewer (suc d) [] p q h = omega arith
   near_fewer (suc d) (x ∷ trace) p q h =
       let later = near_fewer d trace (λ z. p z && not (eq x z)) (λ z. q z && not (eq x z))
-      (λ z e. and_from (q z) (not (eq x z)) (h z (and_parts (p z) (not (eq x z)) e).0) (and_parts (p z) (not (eq x z)) e).1)
+      (λ z e. and_from (q z) (not (eq x z)) (h z (and_parts (p z) (not (eq x z)) e).0)
+      (and_parts (p z) (not (eq x z)) e).1)
       in
       omega (arith, bit (p x) (q x) (h x), later)
 
@@ -160,7 +161,8 @@ module _ {K : Type 0} {eq : K → K → Bool} (laws : IsEquivalence eq) where
         let none : eq key u ≡ false = sym (named_alike laws key z u same) ∙ apart in
         let at : is_in eq u old ≡ true = or_first (is_in eq u old) (eq key u) none held in
         or_right (b && eq key z) (others z)
-        (and_from (is_in eq z old) (not (eq key z)) (in_named laws z u old same ∙ at) (not_from_false (eq key z) apart)))
+        (and_from (is_in eq z old) (not (eq key z)) (in_named laws z u old same ∙ at)
+        (not_from_false (eq key z) apart)))
       where
         or_first : (b d : Bool) → d ≡ false → (b || d) ≡ true → b ≡ true
         or_first true d e h = refl

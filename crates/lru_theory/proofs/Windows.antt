@@ -2,7 +2,7 @@
 -- began with, and the keys that it paid for.
 use Rattle.std.proofs.Common.{◌≡◌, ℕ, zero, suc, ◌+◌, ◌≤◌, ◌<◌, Bool, true, false, cond, List, [], ◌∷◌, ◌++◌}
 use Rattle.std.proofs.Common.{length, take, refl, sym, ap, ◌∙◌, arith, ◌⊎◌, inl, inr}
-use Rattle.std.proofs.lemmas.Bool.{cases_lt, or_parts}
+use Rattle.std.proofs.lemmas.Bool.{cases_lt, or_parts, or_right}
 use Rattle.std.proofs.lemmas.List.{length-append}
 use Rattle.std.proofs.lemmas.Map.Made.{length-remove_key}
 use Rattle.std.specs.Cmp.{IsEquivalence}
@@ -61,11 +61,7 @@ module _ {K : Type 0} (eq : K → K → Bool) where
       go false ih = ih
 
   in_second : (key : K) (xs ys : List K) → is_in eq key ys ≡ true → is_in eq key (xs ++ ys) ≡ true
-  in_second key xs ys e = in_either key xs ys ∙ go (is_in eq key xs) e
-    where
-      go : (b : Bool) → is_in eq key ys ≡ true → (b || is_in eq key ys) ≡ true
-      go true e = refl
-      go false e = e
+  in_second key xs ys e = in_either key xs ys ∙ or_right (is_in eq key xs) (is_in eq key ys) e
 
   within_more : (xs ys zs : List K) → Within ys zs → Within (xs ++ ys) (xs ++ zs)
   within_more xs ys zs h key e =
@@ -100,16 +96,9 @@ module _ {K : Type 0} {eq : K → K → Bool} (laws : IsEquivalence eq) where
   pigeons (x ∷ xs) ys h within =
       let here = within x (ap (λ b. b || is_in eq x xs) (laws.refl x)) in
       let rest = pigeons xs (remove_key (eq x) ys) h.1
-      (λ key e. is_in_without laws key x ys (other key e) ∙ within key (later key e)) in
+      (λ key e. is_in_without laws key x ys (other key e) ∙ within key (or_right (eq key x) (is_in eq key xs) e)) in
       omega (arith, rest, length-remove_key (eq x) ys here)
     where
-      later : (key : K) → is_in eq key xs ≡ true → (eq key x || is_in eq key xs) ≡ true
-      later key e = go (eq key x) e
-        where
-          go : (b : Bool) → is_in eq key xs ≡ true → (b || is_in eq key xs) ≡ true
-          go true e = refl
-          go false e = e
-
       other : (key : K) → is_in eq key xs ≡ true → eq key x ≡ false
       other key e = go (eq key x) refl
         where

@@ -1,4 +1,5 @@
-use Rattle.std.proofs.Common.{◌≡◌, ℕ, ◌≤◌, ◌<◌, ◌-◌, ◌^◌, ◌++◌, true, List, [], map, get_or, refl, sym, ap, ◌∙◌, subst, arith}
+use Rattle.std.proofs.Common.{◌≡◌, ℕ, ◌≤◌, ◌<◌, ◌-◌, ◌^◌, ◌++◌, true, List, [], map, get_or, refl, sym, ap, ◌∙◌}
+use Rattle.std.proofs.Common.{subst, arith}
 use Rattle.std.proofs.lemmas.Bool.{or_right, eq-eqb}
 use Rattle.std.proofs.lemmas.List.{get_or-map, length-map}
 use Rattle.std.proofs.lemmas.List.Elements.{All-from_get_or, All-weaker}
@@ -82,4 +83,5 @@ module _ (bits : ℕ) (sizes limits : List ℕ) (curve : Sized) (same : IsPermut
 
   pub has_powers : (most : ℕ) → most < 2 ^ 128 → HasAll (curves.Bytes curve) bits (powers most 64 0)
   has_powers most less = fewer_powers HasIt most (2 ^ 128 - 1) (omega (arith, less)) 64 0
-      (there all (λ n h. list_any-append (nat_eq n) (scaled sizes) (scaled all) ∙ or_right (is_in nat_eq n (scaled sizes)) _ h))
+      (there all (λ n h. list_any-append (nat_eq n) (scaled sizes) (scaled all)
+      ∙ or_right (is_in nat_eq n (scaled sizes)) _ h))

@@ -46,7 +46,8 @@ plain_fits weights key xs none few =
     go : (b : Bool) → is_in nat_eq key xs ≡ b → sum_by (weight_in []) (key ∷ remove_key (nat_eq key) xs) < 2 ^ 64
     go true e = omega (arith, plain_sum (key ∷ remove_key (nat_eq key) xs), length-remove_key (nat_eq key) xs e, few)
     go false e =
-        omega (arith, plain_sum (key ∷ remove_key (nat_eq key) xs), ap length (without_absent nat_eq_equiv key xs e), few)
+        let same = ap length (without_absent nat_eq_equiv key xs e) in
+        omega (arith, plain_sum (key ∷ remove_key (nat_eq key) xs), same, few)
 
 pub position_some : (key d : ℕ) (xs : List ℕ) → place key xs ≡ Some d
     → (is_in nat_eq key xs ≡ true) × (length (since nat_eq key xs) ≡ d)

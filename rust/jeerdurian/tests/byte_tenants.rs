@@ -120,17 +120,22 @@ fn many_tenants() {
         assert_eq!(bytes.left(), LIMIT - 1000 * (n + 1) - table.memory_usage() as u64);
     }
     assert_eq!(format!("{bytes:?}"), "ByteTenants { len: 5000, .. }");
-    assert!((0..5000).all(|n| bytes.get(&n, &1) == Ok(Some(&n)) && bytes.close(&n) == Ok(1)));
+    assert!((0..5000).all(|n| bytes.get(&n, &1) == Ok(Some(&n)) && bytes.peek(&n, &1) == Ok(Some(&n))));
+    assert!((0..4000).all(|n| bytes.remove(&n, &1) == Ok(Some(n)) && bytes.close(&n) == Ok(0)));
+    assert!((4000..5000).all(|n| bytes.close(&n) == Ok(1)));
 }
 
 #[test]
 fn many_entries_of_a_tenant() {
+    let base = held();
     let mut bytes: ByteTenants<u64, u64, u64> = ByteTenants::new(1 << 30);
     assert_eq!(bytes.open(1, 1 << 29), Ok(()));
     assert!((0..50_000).all(|n| bytes.put(&1, n, n) == Ok(true)));
     assert!((0..50_000).all(|n| bytes.peek(&1, &n) == Ok(Some(&n))));
     assert!((0..20_000).all(|n| bytes.remove(&1, &n) == Ok(Some(n))));
     assert_eq!(bytes.close(&1), Ok(30_000));
+    drop(bytes);
+    assert_eq!(held(), base);
 }
 
 /// A tenant with the bytes of its name fits exactly what is left.

@@ -2,7 +2,7 @@
 
 mod refusing;
 
-use jeerdurian::{ByBytes, LruMap, More};
+use jeerdurian::{ByBytes, LruMap, More, OwnedBytes};
 use refusing::held;
 
 type Texts = LruMap<String, Option<Vec<String>>, ByBytes>;
@@ -70,7 +70,7 @@ fn memory_stays_within_the_limit_between_calls() {
             997..999 => {
                 map.shrink_to_fit();
                 if random.below(2) == 0 {
-                    let limiter = map.limiter().with_table(map.memory_usage() as u64);
+                    let limiter = map.limiter().with_table(map.memory_usage() as u64).with_limit(300_000);
                     map.set_limiter(limiter);
                 }
             }
@@ -84,4 +84,20 @@ fn memory_stays_within_the_limit_between_calls() {
         most = most.max(held() - base);
     }
     assert!(most > 270_000, "the limit was not reached: {most}");
+}
+
+/// A value owns at least the bytes that the allocator gave to it.
+#[test]
+fn owned_bytes_are_those_of_the_allocator() {
+    fn check<T: OwnedBytes>(make: impl Fn() -> T) {
+        let base = held();
+        let value = std::hint::black_box(make());
+        assert!(held() > base && held() - base <= value.owned_bytes() as i64);
+    }
+    check(|| (0..5000).map(|n| "a".repeat(n)).collect::<Vec<_>>());
+    check(|| Box::new(1u64));
+    check(|| Box::new("a".repeat(100)));
+    check(|| (1u8, "a".repeat(100)));
+    check(|| ("a".repeat(100), 1u8));
+    check(|| Some(vec![1u64; 100]));
 }

@@ -210,6 +210,7 @@ fn tenants_are_lists() {
                 assert!(list.iter().all(|key| cache.peek(&name, &Key::new(*key)) == Ok(Some(&(key / 3)))));
             }
             assert_eq!([cache.len(), cache.names().len(), cache.names().count()], [lists.len(); 3]);
+            assert_eq!(cache.total_budget(), lists.values().map(|(budget, _)| u128::from(*budget)).sum());
         }
         drop(cache);
         assert_eq!(LIVE.get(), 0, "seed {seed}");
@@ -224,7 +225,9 @@ fn a_tenant_loses_what_was_used_first() {
     assert_eq!(cache.get(&1, &0), Ok(Some(&1)));
     let mut lost = Vec::new();
     assert!(cache.put_full(&1, 2, 1, |key, value| lost.push((key, value))).is_ok());
-    assert_eq!((lost, cache.contains(&1, &0)), (vec![(1, 1)], Ok(true)));
+    assert_eq!((&lost, cache.contains(&1, &0)), (&vec![(1, 1)], Ok(true)));
+    assert_eq!(cache.put_with(&1, 3, 2, |key, value| lost.push((key, value))), Ok(true));
+    assert_eq!(lost, [(1, 1), (0, 1), (2, 1)]);
 }
 
 #[test]
@@ -272,9 +275,14 @@ fn memos_call_their_functions_once() {
     for _ in 0..10_000 {
         let key = next(&mut state, 100);
         let is_new = memo.get(&key).is_none();
-        assert_eq!((memo.answer_full(key), calls.replace(0)), ((key * key, is_new), u32::from(is_new)));
+        let lends = next(&mut state, 2) == 0;
+        let given = if lends { (memo.answer_with(key, |it| *it), is_new) } else { memo.answer_full(key) };
+        assert_eq!((given, calls.replace(0)), ((key * key, is_new), u32::from(is_new)));
+        assert_eq!(memo.get(&key), Some(key * key));
         assert_eq!((loader.load(key), calls.replace(0)), (Ok(key * key), u32::from(is_new)));
     }
+    memo.clear();
+    assert!(memo.is_empty() && loader.len() == 60);
 }
 
 #[test]

@@ -124,6 +124,7 @@ fn counts_of_tenants_are_plain_counts() {
     for _ in 0..100_000 {
         let random = [100, 8, 40, 70].map(|n| next(&mut state, n));
         call(&mut cache, &mut tenants, random);
+        assert_eq!(cache.total_budget(), tenants.values().map(|own| u128::from(own.budget)).sum());
         for (name, own) in &tenants {
             assert_eq!(cache.counts(name), Ok(own.counts));
             assert_eq!(cache.entries(name), Ok(own.list.len()));
@@ -145,10 +146,47 @@ fn counts_of_many_tenants_and_entries() {
         let counts = Counts { insertions: name % 5, evictions: (name % 5).saturating_sub(2), ..Counts::default() };
         assert_eq!([cache.take_counts(&name), cache.take_counts(&name)], [Ok(counts), Ok(Counts::default())]);
     }
+    assert_eq!((cache.total_cost(), cache.total_budget()), (600 * (1 + 2 + 2 + 2), 6000));
     assert_eq!(cache.set_budget(&7, 6000), Ok(()));
     (0..6000).for_each(|key| assert_eq!(cache.put_counted(&7, key, 1), Ok(true)));
     assert_eq!(cache.put_counted(&7, 6000, 5500), Ok(true));
     assert_eq!(cache.counts(&7), Ok(Counts { insertions: 6001, evictions: 5500, ..Counts::default() }));
+    assert_eq!(cache.get_counted(&7, &0), Ok(None));
+    assert_eq!(cache.get_counted(&7, &5999), Ok(Some(&1)));
+    assert_eq!(cache.get_or_put_counted(&7, 5998, || unreachable!()), Ok(Some(&1)));
+    assert_eq!(cache.get_or_put_counted(&7, 0, || 300), Ok(Some(&300)));
+    let counts = Counts { hits: 2, misses: 2, insertions: 6002, evictions: 5800, ..Counts::default() };
+    assert_eq!(cache.counts(&7), Ok(counts));
+}
+
+/// Each count stops at the greatest number, and calls that do not count leave it, also if they fail.
+#[test]
+fn counts_stop() {
+    let mut cache = Tenants::new();
+    assert_eq!((cache.open(1, 60), cache.set_total_limit(Some(60))), (Ok(()), Ok(())));
+    (0..60).for_each(|key| assert_eq!(cache.put(&1, key, 1), Ok(true)));
+    let most = u64::MAX;
+    let counts = Counts { hits: most, misses: most, insertions: most, rejections: most, evictions: most };
+    assert_eq!((cache.set_counts(&1, counts), cache.counts(&1)), (Ok(()), Ok(counts)));
+    assert_eq!(cache.get_counted(&1, &0), Ok(Some(&1)));
+    assert_eq!(cache.get_counted(&1, &60), Ok(None));
+    assert_eq!([cache.put_counted(&1, 60, 1), cache.put_counted(&1, 61, 61)], [Ok(true), Ok(false)]);
+    let full = cache.put_full(&1, 61, 61, |_, _| unreachable!()).unwrap();
+    assert_eq!((full.kept, full.unkept), (false, Some(61)));
+    assert_eq!((cache.set_budget(&1, 61), cache.total_budget()), (Err(TenantError::OverTotal), 60));
+    assert_eq!((cache.counts(&1), cache.entries(&1)), (Ok(counts), Ok(60)));
+}
+
+/// A closure that panics leaves the tenant and its counts.
+#[test]
+fn a_closure_that_panics_counts_nothing() {
+    let mut cache = Tenants::new();
+    assert_eq!((cache.open(1, 60), cache.put_counted(&1, 7, 60)), (Ok(()), Ok(true)));
+    let counts = cache.counts(&1);
+    let panics = || std::panic::resume_unwind(Box::new(()));
+    let call = std::panic::AssertUnwindSafe(|| cache.get_or_put_counted(&1, 8, panics).is_ok());
+    assert!(std::panic::catch_unwind(call).is_err());
+    assert_eq!((cache.counts(&1), cache.peek(&1, &7)), (counts, Ok(Some(&60))));
 }
 
 /// A cache evicts exactly the pages that were brought and are no longer cached.

@@ -248,8 +248,9 @@ fn calls_and_moves_hash_once() {
     let taken = [map.remove_entry(&5).is_some(), matches!(map.update(6, 0), Updated::Replaced(_))];
     let others = [map.get_key_value(&6).is_some(), map.get_index_of(&6).is_some(), map.try_insert(8, 0).is_ok()];
     let fails = map.get_or_insert_fallible(4, || Err::<u64, _>(0)).is_err();
-    assert!(found.into_iter().chain(moved).chain(taken).chain(others).all(|it| it) && fails);
-    assert_eq!(map.hasher().0.replace(0), 14);
+    let next = [map.peek_older(&1).is_some(), map.peek_newer(&1).is_some()];
+    assert!(found.into_iter().chain(moved).chain(taken).chain(others).chain(next).all(|it| it) && fails);
+    assert_eq!(map.hasher().0.replace(0), 16);
     let before = map.move_report().moved;
     for key in 1000..3000 {
         map.insert(key, key);

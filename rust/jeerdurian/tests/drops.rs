@@ -1,7 +1,7 @@
 //! Each key, value and closure is dropped once: what calls evict, what they reject, and what closures own.
 
-use jeerdurian::caches::Memo;
-use jeerdurian::tenants::{Counting, TenantCache, TenantError};
+use jeerdurian::caches::{Loader, Memo};
+use jeerdurian::tenants::{Counting, TenantCache, TenantError, TenantPool};
 use jeerdurian::{
     ByCost, ByLength, ByMemoryUsage, ByWeight, Costed, Limiter, LruMap, More, Unlimited, UnlimitedCompact,
 };
@@ -148,4 +148,81 @@ fn what_counted_inserts_and_memos_do_not_keep_is_dropped() {
     }
     drop((cache, memo));
     assert!(is_alive(0));
+}
+
+/// A closure that owns a value, and reads a number.
+fn reads(n: u64) -> impl FnOnce(&u64) -> u64 {
+    let owned = Live::new(n);
+    // Without the reference, the closure would own only a copy of the number.
+    move |it| (&owned, *it).1
+}
+
+/// Tenants, memos and loaders drop each closure, called or not, and each key and name that they do not store.
+#[test]
+fn closures_and_names_of_caches_are_dropped() {
+    let mut cache: TenantCache<Live, Live, Live, Counting<ByCost>> = TenantCache::new();
+    assert_eq!((cache.set_total_limit(Some(60)), cache.open(Live::new(1), 60)), (Ok(()), Ok(())));
+    let mut memo = Memo::new(ByLength::new(60), |key: &Live| key.0);
+    let mut loader = Loader::new(ByLength::new(60), |key: &Live| if key.0 % 3 == 1 { Ok(key.0) } else { Err(key.0) });
+    for n in 0..1000 {
+        let (name, key, owned) = (Live::new(1 + n % 2), || Live::new(n * n % 97), || Live::new(n));
+        let (first, second, third) = (owned(), owned(), owned());
+        assert_eq!(cache.get_or_put(&name, key(), move || first).is_ok(), name.0 == 1);
+        assert_eq!(cache.get_or_put_counted(&name, owned(), move || second).is_ok(), name.0 == 1);
+        assert_eq!(cache.retain(&name, move |key, _| (&third, key.0 % 50 > 0).1).is_ok(), name.0 == 1);
+        assert_eq!(cache.open(Live::new(2), 1), Err(TenantError::OverTotal));
+        assert!([0; 2].iter().all(|_| memo.answer_with(key(), reads(n)) == key().0));
+        assert_eq!(memo.get_with(&owned(), reads(n)).is_some(), memo.get(&owned()).is_some());
+        assert!([0; 2].iter().all(|_| loader.load_with(key(), reads(n)).is_ok() == (key().0 % 3 == 1)));
+        drop(name);
+        let entries = cache.entries(&Live::new(1)).unwrap();
+        assert_eq!(LIVE.get(), 1 + 2 * entries + memo.len() + loader.len(), "call {n}");
+    }
+}
+
+/// A callback that owns a value.
+fn takes(n: u64) -> impl FnMut(Live, Live) {
+    let owned = Live::new(n);
+    move |_, _| _ = &owned
+}
+
+/// Callbacks that get the entries that leave are dropped, whether they are called or not.
+#[test]
+fn callbacks_are_dropped() {
+    let mut cache: TenantCache<u64, Live, Live> = TenantCache::new();
+    let mut map = LruMap::new(ByLength::new(60));
+    assert_eq!(cache.open(1, 60), Ok(()));
+    for n in 0..1000 {
+        let (name, key, owned) = (1 + n % 2, || Live::new(n * n % 97), || Live::new(n));
+        assert_eq!(cache.put_with(&name, key(), owned(), takes(n)).is_ok(), name == 1);
+        assert_eq!(cache.put_full(&name, owned(), owned(), takes(n)).is_ok(), name == 1);
+        assert_eq!(cache.set_budget_with(&name, 50 + n % 9, takes(n)).is_ok(), name == 1);
+        assert_eq!(cache.close_with(&2, takes(n)), Err(TenantError::NotOpen));
+        assert!(map.insert_with(key(), owned(), takes(n)) && map.insert_full(owned(), owned(), takes(n)).kept);
+        assert!(is_alive(cache.entries(&1).unwrap() + map.len()), "call {n}");
+    }
+    assert!(cache.close_with(&1, takes(0)).is_ok() && is_alive(map.len()));
+}
+
+/// Tenants of many entries pass on or drop each of them, the oldest first.
+#[test]
+fn many_entries_of_a_tenant_are_dropped() {
+    let mut cache: TenantCache<u64, Live, Live> = TenantCache::new();
+    let mut pool: TenantPool<u64, Live, Live> = TenantPool::new(6000);
+    for _ in 0..2 {
+        let mut lost = Vec::new();
+        assert_eq!((cache.open(1, 6000), pool.open(1, 0)), (Ok(()), Ok(())));
+        for n in 0..6000 {
+            assert_eq!(cache.put(&1, Live::new(n), Live::new(n)), Ok(true));
+            assert_eq!(pool.put(&1, Live::new(n), Live::new(n)), Ok(true));
+        }
+        assert_eq!(cache.set_budget_with(&1, 4000, |key, _| lost.push(key.0)), Ok(()));
+        assert_eq!((cache.set_budget(&1, 2000), pool.close(&1), is_alive(2000)), (Ok(()), Ok(6000), true));
+        assert!(cache.iter(&1).unwrap().map(|entry| entry.0.0).eq((4000..6000).rev()));
+        assert_eq!(cache.close_with(&1, |key, _| lost.push(key.0)), Ok(2000));
+        assert!(lost.into_iter().eq((0..2000).chain(4000..6000)) && is_alive(0));
+        assert_eq!(cache.open(1, 6000), Ok(()));
+        (0..6000).for_each(|n| assert_eq!(cache.put(&1, Live::new(n), Live::new(n)), Ok(true)));
+        assert_eq!((cache.close(&1), is_alive(0)), (Ok(6000), true));
+    }
 }

@@ -2,8 +2,8 @@
 
 mod refusing;
 
-use jeerdurian::caches::{FileDevice, OrderedMap, PageCache};
-use jeerdurian::tenants::TenantCache;
+use jeerdurian::caches::{FileDevice, Loader, Memo, OrderedMap, PageCache};
+use jeerdurian::tenants::{ByteTenants, TenantCache, TenantPool};
 use jeerdurian::trace::{Curve, report};
 use jeerdurian::{ByLength, ByMemoryUsage, LruMap, More, ReserveError, Unlimited, UnlimitedCompact};
 use refusing::{aligned, held, refused};
@@ -56,6 +56,19 @@ fn an_insert_out_of_memory_returns_false_and_evicts_nothing() {
 fn a_new_map_and_its_copy_take_no_memory() {
     let made = refused(1, || (Map::new(UnlimitedCompact).clone().len(), LruMap::<u8, u8, _>::new(Unlimited).len()));
     assert_eq!(made, ((0, 0), false));
+}
+
+#[test]
+fn new_caches_take_no_memory() {
+    let device = FileDevice::<_, 8>::new(Cursor::new([0; 64]), 8);
+    let (blocks, was_refused) = refused(1, || {
+        drop((TenantCache::<u64, u64, u64>::new(), TenantPool::<u64, u64, u64>::new(9)));
+        drop((ByteTenants::<u64, u64, u64>::new(9), OrderedMap::<u64, u64>::new()));
+        drop(Memo::new(ByLength::new(9), |key: &u64| *key));
+        drop(Loader::new(ByLength::new(9), |key: &u64| Ok::<_, ()>(*key)));
+        PageCache::new(device, 8).discard().len()
+    });
+    assert_eq!((blocks, was_refused), (8, false));
 }
 
 #[test]

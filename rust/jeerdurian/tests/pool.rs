@@ -108,6 +108,14 @@ fn put(tenants: &mut [Tenant], pool: &mut Pool, name: u64, key: u64, cost: u64) 
     assert_eq!(kept, Ok(there));
 }
 
+/// Each call on a tenant that is not open says so.
+fn is_not_open(pool: &mut Pool, name: u64, n: u64) {
+    let no = TenantError::NotOpen;
+    assert_eq!(pool.get(&name, &n), Err(no));
+    assert_eq!((pool.peek(&name, &n), pool.contains(&name, &n)), (Err(no), Err(no)));
+    assert_eq!((pool.cost(&name), pool.share(&name), pool.remove(&name, &n)), (Err(no), Err(no), Err(no)));
+}
+
 fn call(tenants: &mut Vec<Tenant>, pool: &mut Pool, kind: u64, name: u64, n: u64) {
     match kind {
         0 => {
@@ -157,6 +165,9 @@ fn pools_are_lists() {
     let (mut state, mut pool, mut tenants) = (1, Pool::new(LIMIT), Vec::new());
     for _ in 0..100_000 {
         let (kind, name, n) = (next(&mut state, 12), next(&mut state, 5), next(&mut state, 30));
+        if find(&mut tenants, name).is_none() {
+            is_not_open(&mut pool, name, n);
+        }
         call(&mut tenants, &mut pool, kind, name, n);
         assert_eq!(LIVE.get(), tenants.iter().map(|tenant| tenant.2.len()).sum::<usize>());
         assert!(pool.total_cost() <= LIMIT.into() && pool.len() == tenants.len());
@@ -168,4 +179,24 @@ fn pools_are_lists() {
     }
     drop(pool);
     assert_eq!(LIVE.get(), 0);
+}
+
+/// The tenant furthest above its share is found among many, and the total is the sum.
+#[test]
+fn pools_of_many_tenants() {
+    let mut pool: TenantPool<u64, u64, u64> = TenantPool::new(6000);
+    for name in 0..3000 {
+        assert_eq!(pool.open(name, if name == 1500 { 0 } else { 2 }), Ok(()));
+        (0..2).for_each(|key| assert_eq!(pool.put(&name, key, 1), Ok(true)));
+    }
+    assert_eq!((pool.put(&7, 2, 1), pool.cost(&1500), pool.contains(&1500, &0)), (Ok(true), Ok(1), Ok(false)));
+    assert_eq!(format!("{pool:?}"), "TenantPool { len: 3000, .. }");
+    for name in 0..3000 {
+        assert_eq!(pool.total_cost(), 6000 - u128::from(name));
+        assert_eq!(pool.get(&name, &1), Ok(Some(&1)));
+        assert_eq!(pool.peek(&name, &1), Ok(Some(&1)));
+        assert_eq!(pool.remove(&name, &1), Ok(Some(1)));
+    }
+    (0..3000).for_each(|name| assert_eq!(pool.close(&name), Ok(1 + (name == 7) as usize - (name == 1500) as usize)));
+    assert_eq!((pool.total_cost(), pool.open(1, 6000)), (0, Ok(())));
 }

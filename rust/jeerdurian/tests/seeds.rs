@@ -56,3 +56,12 @@ fn each_new_takes_random_seeds() {
     is_seeded(|| TenantPool::<Key, u64, u64>::new(9).open(Key, 1) == Ok(()));
     is_seeded(|| ByteTenants::<Key, u64, u64>::new(9000).open(Key, 1) == Ok(()));
 }
+
+/// A cache of tenants hashes as a map of the same seeds does.
+#[test]
+fn tenants_take_the_seeds() {
+    for seed in [[0; 4], [1, 2, 3, 4]] {
+        let hash = hash_of(&|| LruMap::with_seed(ByLength::new(9), seed).insert(Key, 1));
+        assert_eq!(hash_of(&|| TenantCache::<Key, u64, u64>::with_seed(seed).open(Key, 1) == Ok(())), hash);
+    }
+}

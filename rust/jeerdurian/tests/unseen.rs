@@ -4,7 +4,7 @@
 mod refusing;
 
 use jeerdurian::caches::{CountedMap, Counts, OrderedMap};
-use jeerdurian::tenants::{Counting, TenantCache, TenantError};
+use jeerdurian::tenants::{Counting, TenantCache, TenantError, TenantPool};
 use jeerdurian::{ByCost, ByLength, LruMap, More, UnlimitedCompact};
 use refusing::refused;
 use std::hash::{BuildHasher, Hasher};
@@ -139,6 +139,17 @@ fn a_counted_get_or_put_without_memory() {
     assert_eq!((cache.entries(&1), cache.get_or_put_counted(&1, OF_HASH_28, &mut make)), (Ok(27), Ok(Some(&1))));
     assert_eq!(cache.counts(&1), Ok(Counts { misses: 1, insertions: 1, ..Counts::default() }));
     assert_eq!(made, 2);
+}
+
+/// A pool that runs out of memory keeps its shares, and its total is the sum.
+#[test]
+fn a_pool_without_memory() {
+    let mut pool: TenantPool<u64, u64, u64, ByCost, _> = TenantPool::with_hasher(Thousands::default(), 28);
+    assert_eq!(refused(1, || pool.open(1, 28)), (Err(TenantError::Memory), true));
+    assert_eq!((pool.len(), pool.open(1, 28)), (0, Ok(())));
+    (0..28).for_each(|n| assert_eq!(pool.put(&1, n, 1), Ok(true)));
+    assert_eq!(refused(1, || pool.put(&1, OF_HASH_28, 1)), (Err(TenantError::Memory), true));
+    assert_eq!((pool.cost(&1), pool.total_cost(), pool.put(&1, OF_HASH_28, 1)), (Ok(27), 27, Ok(true)));
 }
 
 /// No form of an insert fails above some number of entries.

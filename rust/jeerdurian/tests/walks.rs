@@ -24,5 +24,9 @@ fn iterators_are_those_of_a_list() {
             assert_eq!(walk(map.clone().drain(), turns), walk(list.clone().into_iter(), turns));
             assert_eq!(walk(map.clone().into_iter(), turns), walk(list.clone().into_iter(), turns));
         }
+        for (newer, older) in list.iter().zip(list.iter().skip(1)) {
+            assert_eq!(map.peek_older(&newer.0), Some((&older.0, &older.1)));
+            assert_eq!(map.peek_newer(&older.0), Some((&newer.0, &newer.1)));
+        }
     }
 }

@@ -1,4 +1,4 @@
-ghost use Rattle.std.specs.Prelude.{◌≡◌, ℕ, length, Some};
+ghost use Rattle.std.specs.Prelude.{◌≡◌, ℕ, Some};
 ghost use Rattle.group_table.specs.Bucket.{IsFull, entry_at};
 ghost use Rattle.ordered_table.specs.Offers.{IsOffered, Offered};
 ghost use Rattle.ordered_table.specs.OrderedTable.{IsLinked, KeysFit};

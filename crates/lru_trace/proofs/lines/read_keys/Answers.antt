@@ -6,7 +6,8 @@ use Rattle.lru_trace.specs.References.{bits_of, references_in, others_so}
 use Rattle.lru_trace.specs.Samples.{sampled}
 use Rattle.lru_trace.proofs.AnyCurves.{no_references, alike, alike_still, too_large_from}
 use Rattle.lru_trace.proofs.CurveSteps.{if_passed}
-use Rattle.lru_trace.proofs.ReadLines.{ReadSoFar, both, few_others, none_read, line_read, last_read, large_line, some_part}
+use Rattle.lru_trace.proofs.ReadLines.{ReadSoFar, both, few_others, none_read, line_read, last_read, large_line}
+use Rattle.lru_trace.proofs.ReadLines.{some_part}
 use Rattle.lru_trace.proofs.ReadLines.{taken_part, taken_feed}
 use Rattle.lru_trace.proofs.lines.read_keys.Goals.{After-add}
 use Rattle.lru_trace.proofs.lines.read_keys.Goals as goal
@@ -18,7 +19,8 @@ module _ (g : _) (c : After-add g) where
   follows : Follows warm c.loop-lines.curve (sampled (bits_of c.args.options)
       (references_in c.args.options (c.read_line.new.line.items ∷ []))) c.refer_line.new.curve
   follows = subst (λ l. Follows warm c.loop-lines.curve (sampled (bits_of c.args.options)
-      (references_in c.args.options (l ∷ []))) c.refer_line.new.curve) c.deref.ensures.value c.in_ok-refer_line.ensures.ok
+      (references_in c.args.options (l ∷ []))) c.refer_line.new.curve) c.deref.ensures.value
+      c.in_ok-refer_line.ensures.ok
 
   added : c.add.new.self ≡ both c.loop-lines.others (others_so c.args.options (c.read_line.new.line.items ∷ []) warm)
   added = c.add.ensures ∙ ap (both c.loop-lines.others) c.in_ok-refer_line.ensures.others
@@ -62,8 +64,9 @@ loop-lines-preserved g c =
       omega (arith, inv.1, ap (λ o. o.skipped) more, few.1),
       omega (arith, inv.2, c.in_ok-refer_line.ensures.references),
       alike_still inv.3 c.in_ok-refer_line.ensures.alike,
-      subst (ReadSoFar (g.R.Read.remaining c.args.reader.now) to c.args.options c.refer_line.new.curve (c.loop-lines.lines + 1))
-          (sym more) (line_read inv.4 to line (warm g at) (ap (nat_lt _) c.warm_up-warm_up.ensures) c.refer_line.new.curve
+      subst (ReadSoFar (g.R.Read.remaining c.args.reader.now) to c.args.options c.refer_line.new.curve
+          (c.loop-lines.lines + 1)) (sym more)
+          (line_read inv.4 to line (warm g at) (ap (nat_lt _) c.warm_up-warm_up.ensures) c.refer_line.new.curve
           (follows g at) taken),
     )
 

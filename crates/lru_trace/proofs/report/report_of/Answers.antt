@@ -27,7 +27,8 @@ module _ (c : In_ok-best) where
     axis = c.in_ok-axis.ensures.all ∙ ap (λ end. powers end 64 0) (c.end_of.ensures
         ∙ (λ i. max ((c.needed.ensures warm trace of ∙ ap (λ m. needed m warm trace) same) i) 1 * 2 ^ few i))
 
-    are : c.powers_in-powers.result.now ≡ powers_in (measure_of c.args.options.policies) warm trace (bits_of c.args.options)
+    are : c.powers_in-powers.result.now ≡ powers_in (measure_of c.args.options.policies) warm trace
+        (bits_of c.args.options)
     are = c.powers_in-powers.ensures ∙ (λ i. drop (few i) ((c.deref.ensures.value ∙ axis) i))
 
     rows_are : {best wanted : Bool} {mine theirs : List ℕ} → best ≡ wanted → mine ≡ theirs
@@ -54,7 +55,8 @@ returns-in-Text c = λ warm trace of.
 
 pub returns-in-Csv : goal.returns-in-Csv
 returns-in-Csv c = λ warm trace of.
-    let rows = c.deref-in-Csv.ensures.value ∙ c.in_ok-rows-in-Csv.ensures warm trace of (c.in_ok-best.ensures.all warm trace of)
+    let rows = c.deref-in-Csv.ensures.value ∙ c.in_ok-rows-in-Csv.ensures warm trace of
+    (c.in_ok-best.ensures.all warm trace of)
     ∙ points_are (goal.at.returns-in-Csv c).In_ok-best warm trace of in
     c.in_ok-csv-in-Csv.ensures ∙ (λ i. csv_of (c.best-in-Csv.ensures i) (rows i))
     ∙ ap (written_as c.args.options warm trace c.args.sizes.now c.args.others) (sym c.in-Csv.is)
@@ -62,8 +64,10 @@ returns-in-Csv c = λ warm trace of.
 pub returns : goal.returns
 returns c = λ warm trace of.
     let at = (goal.at.returns c).In_ok-best in
-    let rows = c.deref-in-Svg-2.ensures.value ∙ c.in_ok-rows-in-Svg.ensures warm trace of (c.in_ok-best.ensures.all warm trace of)
+    let rows = c.deref-in-Svg-2.ensures.value ∙ c.in_ok-rows-in-Svg.ensures warm trace of
+    (c.in_ok-best.ensures.all warm trace of)
     ∙ points_are at warm trace of in
     c.in_ok-svg-in-Svg.ensures
-    ∙ (λ i. svg_text (counts at warm trace of i) (c.best-in-Svg.ensures i) ((c.deref-in-Svg.ensures.value ∙ axis at warm trace of) i) (rows i))
+    ∙ (λ i. svg_text (counts at warm trace of i) (c.best-in-Svg.ensures i)
+    ((c.deref-in-Svg.ensures.value ∙ axis at warm trace of) i) (rows i))
     ∙ ap (written_as c.args.options warm trace c.args.sizes.now c.args.others) (sym c.in-Svg.is)

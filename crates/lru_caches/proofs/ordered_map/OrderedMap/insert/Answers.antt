@@ -20,7 +20,8 @@ none g c =
 same : (g : _) (c : In-Err g) → lookup (g.K.PartialEq.eq c.in-Err.key) c.try_insert.new.self.pairs
     ≡ lookup (g.K.PartialEq.eq c.args.key) c.self.inside.map.pairs
 same g c =
-    ap (λ k. lookup (g.K.PartialEq.eq k) c.try_insert.new.self.pairs) (ap (λ back. back.0) c.in-Err.ensures.ends.returned)
+    ap (λ k. lookup (g.K.PartialEq.eq k) c.try_insert.new.self.pairs)
+    (ap (λ back. back.0) c.in-Err.ensures.ends.returned)
     ∙ ap (lookup (g.K.PartialEq.eq c.args.key)) c.in-Err.ensures.ends.keeps
 
 pub returns-in_default-clause-old : goal.returns-in_default-clause-old
@@ -33,7 +34,8 @@ returns-in_default-clause-entries g c =
     let key = c.args.key in
     rw (← c.self.view_is)
     (ap reverse c.in_default.ensures.ends.added
-    ∙ put-new (g.K.PartialEq.eq key) (g.met.K.Eq.laws.congr key) c.self.inside.map.pairs c.distinct.ensures key c.args.value
+    ∙ put-new (g.K.PartialEq.eq key) (g.met.K.Eq.laws.congr key) c.self.inside.map.pairs c.distinct.ensures key
+    c.args.value
     (none g (goal.at.returns-in_default-clause-entries g c).In_default))
 
 pub returns-in-Some-clause-old : goal.returns-in-Some-clause-old
@@ -56,7 +58,8 @@ returns-in-Some-clause-entries g c =
     ∙ ap (λ k. reverse (set_value (eq k) left value)) key_is
     ∙ ap (λ l. reverse (set_value (eq key) l value)) c.in-Err.ensures.ends.keeps
     ∙ put-there (eq key) (g.met.K.Eq.laws.congr key) c.self.inside.map.pairs c.distinct.ensures key value
-    c.in-Some.place.now (sym (same g (goal.at.returns-in-Some-clause-entries g c).In-Err) ∙ sym c.in-Some.ensures.value))
+    c.in-Some.place.now (sym (same g (goal.at.returns-in-Some-clause-entries g c).In-Err)
+    ∙ sym c.in-Some.ensures.value))
 
 pub returns-clause-there : goal.returns-clause-there
 returns-clause-there g c = rw (← c.self.view_is) (λ some.

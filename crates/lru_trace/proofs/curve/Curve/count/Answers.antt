@@ -2,7 +2,8 @@ use Rattle.std.proofs.Common.{◌≡◌, ◌+◌, ◌<◌, set, sum, length, sym
 use Rattle.std.proofs.lemmas.List.{get_or_read, length-set}
 use Rattle.std.specs.Option.{option_map}
 use Rattle.lru_trace.specs.Counted.{IsOf, number_in, AreNumbered}
-use Rattle.lru_trace.proofs.CurveSteps.{place, plain_fits, plain_place, of_found, of_first, found_length, first_length, entry_few, sum_counted}
+use Rattle.lru_trace.proofs.CurveSteps.{place, plain_fits, plain_place, of_found, of_first, found_length}
+use Rattle.lru_trace.proofs.CurveSteps.{first_length, entry_few, sum_counted}
 use Rattle.lru_trace.proofs.curve.Curve.count.Goals.{After-self, In_ok-distance, in-Some, in-None}
 use Rattle.lru_trace.proofs.curve.Curve.count.Goals as goal
 
@@ -32,13 +33,15 @@ refer-requires-clause-fits c =
 pub index_mut-requires : goal.index_mut-requires
 index_mut-requires c =
     let at = goal.at.index_mut-requires c in
-    let within = found_length c.args.number c.in-Some.distance c.self.inside.distances.recency (placed at.In_ok-distance ∙ c.in-Some.is) in
+    let within = found_length c.args.number c.in-Some.distance c.self.inside.distances.recency
+    (placed at.In_ok-distance ∙ c.in-Some.is) in
     omega (arith, within.1, spare at.After-self, c.self.inside.counts.ok.0)
 
 pub overflow_add-index_mut : goal.overflow_add-index_mut
 overflow_add-index_mut c =
     let at = goal.at.overflow_add-index_mut c in
-    let within = found_length c.args.number c.in-Some.distance c.self.inside.distances.recency (placed at.In_ok-distance ∙ c.in-Some.is) in
+    let within = found_length c.args.number c.in-Some.distance c.self.inside.distances.recency
+    (placed at.In_ok-distance ∙ c.in-Some.is) in
     let counts = c.self.inside.counts.items in
     let few = entry_few counts c.in-Some.distance in
     let read = get_or_read counts c.in-Some.distance c.index_mut.result.now

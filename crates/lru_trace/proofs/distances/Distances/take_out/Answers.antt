@@ -47,7 +47,12 @@ returns-in_default-clause-absent c =
 
 pub weight_behind-behind-requires : goal.weight_behind-behind-requires
 weight_behind-behind-requires c =
-    omega (arith, within (goal.at.weight_behind-behind-requires c).In-Some, c.self.invariant.few, c.self.inside.log.ok.0)
+    omega (
+      arith,
+      within (goal.at.weight_behind-behind-requires c).In-Some,
+      c.self.invariant.few,
+      c.self.inside.log.ok.0,
+    )
 
 pub clear-requires-clause-within : goal.clear-requires-clause-within
 clear-requires-clause-within c =
@@ -63,7 +68,11 @@ index_mut-requires c = omega (arith, within (goal.at.index_mut-requires c).In-So
 
 pub overflow_sub-self : goal.overflow_sub-self
 overflow_sub-self c =
-    omega (arith, freed_counted c.self.invariant c.args.key c.in-Some.slot (at_slot (goal.at.overflow_sub-self c).In-Some))
+    omega (
+      arith,
+      freed_counted c.self.invariant c.args.key c.in-Some.slot
+          (at_slot (goal.at.overflow_sub-self c).In-Some),
+    )
 
 pub invariant_of-self : goal.invariant_of-self
 invariant_of-self c =

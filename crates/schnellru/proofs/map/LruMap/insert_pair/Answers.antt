@@ -10,9 +10,10 @@ use Rattle.schnellru.proofs.map.LruMap.insert_pair.Goals as goal
 
 still_new : (g : _) (c : After-make_room g)
     → IsNew g.S.KeyHasher.hash_of g.K.PartialEq.eq c.args.hash c.args.pair c.make_room.new.self
-still_new g c = stays_new g.L.Limiter.rules g.S.KeyHasher.hash_of g.K.PartialEq.eq c.args.hash c.args.pair c.args.self.now
-    c.make_room.new.self _ ((rw c.settle.ensures at c.make_room.ensures.passed) c.args.sink.now [] refl).2 c.requires.hash
-    c.requires.absent
+still_new g c =
+    stays_new g.L.Limiter.rules g.S.KeyHasher.hash_of g.K.PartialEq.eq c.args.hash c.args.pair c.args.self.now
+    c.make_room.new.self _ ((rw c.settle.ensures at c.make_room.ensures.passed) c.args.sink.now [] refl).2
+    c.requires.hash c.requires.absent
 
 pub make_room-requires : goal.make_room-requires
 make_room-requires g c = rw c.settle.ensures record { callable = (c.args.pair, c.requires.callable) }
