@@ -1,5 +1,4 @@
--- The limit of `ByBytes`, on the bytes of the table and of what pairs own, after evictions and after an insertion into
--- the table.
+-- The limit of `ByBytes`, after evictions and after an insertion into the table.
 use Rattle.std.proofs.Common.{◌≡◌, ℕ, zero, suc, ◌+◌, ◌≤◌, ◌⊎◌, inl, inr, Bool, true, false, cond, List, [], ◌∷◌}
 use Rattle.std.proofs.Common.{length, Option, Some, None, if◌then◌else◌, refl, sym, ap, ◌∙◌, subst, arith}
 use Rattle.std.proofs.lemmas.Bool.Decides.{nat_tests}

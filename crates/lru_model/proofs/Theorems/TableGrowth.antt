@@ -96,7 +96,6 @@ module _ {K V S : Type 0} (rules : Rules K V S) (P : S → Type 0) where
     pub granted : (rules.on_grow limiter bytes).allowed ≡ true
 
 module _ {K V S H : Type 0} (rules : Rules K V S) (P : S → Type 0) where
-  -- the table has no more buckets than before, or some limiter with the property P permits the table
   abbrev pub IsNextCount : State K V S H → ℕ → Type 0
   IsNextCount old count = (count ≤ buckets old) ⊎ IsPermitted rules P old.entry_bytes count
 
