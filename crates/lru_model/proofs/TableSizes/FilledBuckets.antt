@@ -1,3 +1,4 @@
+-- A table with a deleted bucket has more than 16 buckets, and not all of its growth is left.
 use Rattle.std.proofs.Common.{inl, inr, ◌≡◌, ℕ, ◌+◌, ◌<◌, ◌⊎◌, List, ◌∷◌, length, refl, sym, ap, ◌∙◌, arith, count_by}
 use Rattle.std.proofs.Common.{slice_set, if◌then◌else◌}
 use Rattle.std.proofs.lemmas.Bool.{false≢true}
