@@ -23,7 +23,6 @@ module _ {K V S H : Type 0} (rules : Rules K V S) (hash_of : H → K → ℕ) (p
     pub one : buckets old ≤ 16 → new.pairs ≡ pair ∷ without_last old.pairs
     pub same_table : buckets new ≡ buckets old
 
-  -- the pair is stored, and all others stay; if growth is refused, the table has more than 16 buckets
   pub record KeepsAll (new : State K V S H) : Type 0 where
     pub pairs : new.pairs ≡ pair ∷ old.pairs
     pub large : IsRefusedGrowth rules old → 16 < buckets old
