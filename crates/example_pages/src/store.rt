@@ -42,7 +42,6 @@ impl From<AllocError> for StoreError {
     }
 }
 
-/// The number of pages of the file, of the log and of the cache.
 #[derive(Clone, Copy)]
 pub struct Sizes {
     pub pages: u64,

@@ -68,7 +68,6 @@ distinct-keys {keys = keys} {cost = cost} {account = account} {budget = budget} 
     (λ map is. is.map.distinct)
     (values_of cache.tenants) all)
 
--- A `None` is not fresh, and a fresh response is what is there.
 fresh-same : (now : ℕ) (o : Option Response) → is_some (fresh_at now o) ≡ true → fresh_at now o ≡ o
 fresh-same now None e = refl
 fresh-same now (Some response) e = go (nat_lt now response.expires) e

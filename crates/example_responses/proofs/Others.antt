@@ -1,4 +1,3 @@
--- How many responses a host has for other paths.
 use Rattle.std.proofs.Common.{◌≡◌, ℕ, ◌-◌, Bool, length, Option, Some, None, Ok}
 use Rattle.std.proofs.Common.{refl, sym, ap, ◌∙◌, arith, is_some, option_map}
 use mir.Val.{bool_byte}

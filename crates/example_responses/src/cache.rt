@@ -117,7 +117,6 @@ impl ResponseCache {
         }
     }
 
-    /// Returns the hosts in order.
     pub fn hosts(&self) -> Result<Vec<&str>, AllocError> {
         let mut hosts = Vec::new(self.alloc);
         for host in self.entries.names() {
@@ -154,7 +153,6 @@ impl ResponseCache {
         Ok(("budget set", evicted))
     }
 
-    // How many responses the host has for other paths.
     fn others(&self, host: &str, path: &str) -> u64
         ensures { result ≡ others (names_text path.now) (tenant (names_text host.now) self.now.entries) }
     {

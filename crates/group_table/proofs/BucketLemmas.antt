@@ -1,4 +1,3 @@
--- Buckets, their states, and how many there are of each kind.
 use Rattle.std.proofs.Common.{◌≡◌, ◌≢◌, ℕ, suc, ◌+◌, ◌-◌, ◌<◌, ◌≤◌, Bool, true, cond, List, [], ◌∷◌, length, set, refl}
 use Rattle.std.proofs.Common.{ap, sym, ◌∙◌, arith, count_by, get_or-set_same, get_or-set_other}
 use Rattle.std.proofs.lemmas.Bool.{false≢true}

@@ -1,4 +1,3 @@
--- How an insertion and a removal change the buckets, the bucket states and the counts.
 use Rattle.std.proofs.Common.{◌≡◌, ◌≢◌, ℕ, ◌+◌, ◌<◌, cond, List, [], ◌∷◌, length, set, None, inl, inr, refl, ap}
 use Rattle.std.proofs.Common.{sym, ◌∙◌, arith, length-set}
 use Rattle.group_table.specs.Bucket.{Bucket, Slot, Tagged, empty, deleted, full, bucket_at, is_full, IsFull, entry_at}

@@ -1,4 +1,3 @@
--- A copy of a table has the bucket states, the counts and the fitting hashes of the table.
 use Rattle.std.proofs.Common.{◌≡◌, ℕ, zero, suc, ◌<◌, List, [], ◌∷◌, length, get_or}
 use Rattle.std.proofs.Common.{Option, Some, None, Result, refl, ap, sym, ◌∙◌, subst}
 use Rattle.std.proofs.Common.{arith, count_by, cond, nat_eq, true, false, Bool, replicate}

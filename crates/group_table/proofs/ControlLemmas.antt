@@ -1,4 +1,3 @@
--- The control bytes and the entries of a table, before and after a write to one bucket.
 use Rattle.std.proofs.Common.{◌≡◌, ◌≢◌, ℕ, ◌+◌, ◌-◌, ◌<◌, ◌≤◌, max, List, length, replicate, set, get_or, Option}
 use Rattle.std.proofs.Common.{ap, sym, ◌∙◌, arith, inl, inr, length-set, get_or-set_same, get_or-set_other}
 use Rattle.std.proofs.Common.{◌*◌, ◌%◌, ◌^◌, pow_pos, pow_mono}

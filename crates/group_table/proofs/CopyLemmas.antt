@@ -1,4 +1,4 @@
--- A list that repeats one element: what is at each of its places, and which lists equal it.
+-- Lists that repeat one element.
 use Rattle.std.proofs.Common.{◌≡◌, ℕ, zero, suc, ◌<◌, List, [], ◌∷◌, length, get_or, replicate, refl, ap, ◌∙◌, arith}
 
 module _ {X : Type 0} where

@@ -1,4 +1,3 @@
--- Facts about the bucket states of every table.
 use Rattle.std.proofs.Common.{◌≡◌, ℕ, ◌+◌, ◌<◌, ◌≤◌, List, length, ap, arith, inl, inr, subst}
 use Rattle.group_table.specs.Sizes.{full_capacity, IsPowerFromFour}
 use Rattle.group_table.specs.Bucket.{BucketState, empty, bucket_at, is_full, entry_count, growth_left}

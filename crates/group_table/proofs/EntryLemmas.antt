@@ -1,4 +1,3 @@
--- What the fields of `Entries` say about their places.
 use Rattle.std.proofs.Common.{◌≡◌, ℕ, List, get_or, Option, Some, None, IsSome, refl, sym, ◌∙◌, ap}
 use Rattle.std.proofs.lemmas.Bool.{false≢true}
 use Rattle.std.specs.declared.alloc.Global.{Global}

@@ -1,4 +1,4 @@
--- Facts about a table whose buckets are all empty.
+-- Tables whose buckets are all empty.
 use Rattle.std.proofs.Common.{◌≡◌, ℕ, zero, suc, ◌+◌, ◌^◌, ◌<◌, ◌≤◌, [], ◌∷◌, length, replicate, Option, None}
 use Rattle.std.proofs.Common.{◌⊎◌, refl}
 use Rattle.std.proofs.Common.{ap, sym, ◌∙◌, arith, inl, inr, count_by, cond, Bool, false, List, Some, true, get_or}

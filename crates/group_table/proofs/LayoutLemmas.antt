@@ -1,4 +1,3 @@
--- What control bytes and entries say about buckets.
 use Rattle.std.proofs.Common.{◌≡◌, ℕ, zero, suc, ◌<◌, ◌≤◌, List, [], ◌∷◌, length, get_or, set, Option, Some, None, refl}
 use Rattle.std.proofs.Common.{ap, arith, inl, inr, nat_lt, nat_eq, cond, sym, ◌∙◌, Bool, true, false, IsSome}
 use Rattle.std.proofs.lemmas.Bool.{lt-ltb, false≢true}

@@ -1,4 +1,3 @@
--- How many places have an entry, before and after a write to one place.
 use Rattle.std.proofs.Common.{◌≡◌, ℕ, suc, ◌+◌, ◌<◌, ◌≤◌, ◌⊎◌, cond, List, [], ◌∷◌, length, get_or, set}
 use Rattle.std.proofs.Common.{Option, Some, None, ap, sym, ◌∙◌, arith, inl, inr, count_by, is_some}
 use Rattle.std.proofs.lemmas.Option.{none-some}

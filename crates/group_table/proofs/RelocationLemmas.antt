@@ -1,4 +1,3 @@
--- What a relocation did, bucket by bucket.
 use Rattle.std.proofs.Common.{◌≡◌, ℕ, ◌+◌, ◌≤◌, List, [], ◌∷◌, length, get_or, Option, Some, None, refl, ap, sym, ◌∙◌}
 use Rattle.std.proofs.Common.{arith, count_by, cond, is_some, nat_eq, true, false}
 use Rattle.std.proofs.lemmas.List.{get_or_past}

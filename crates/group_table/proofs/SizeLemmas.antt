@@ -1,4 +1,3 @@
--- Powers of two from 4 on, and how many entries n buckets may hold.
 use Rattle.std.proofs.Common.{◌≡◌, ℕ, ◌+◌, ◌-◌, ◌*◌, ◌/◌, ◌^◌, ◌<◌, ◌≤◌, inr, arith, sym, ap, ◌∙◌}
 use Rattle.std.specs.Int.{IsPowerOfTwo}
 use Rattle.std.proofs.Math.Pow.{pow_mono}

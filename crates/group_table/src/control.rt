@@ -145,7 +145,6 @@ impl Control {
     }
 }
 
-// Returns the control byte of a bucket with an entry of this hash.
 #[inline]
 pub(crate) fn tag_of(hash: u64) -> u8
     ensures value { result ≡ hash_tag hash }
@@ -154,7 +153,6 @@ pub(crate) fn tag_of(hash: u64) -> u8
     (hash >> 57) as u8
 }
 
-// Returns the control byte of a bucket whose entry was taken out.
 #[inline]
 pub(crate) fn emptied_byte(gives_room: usize) -> u8
     ensures { (gives : Bool) → gives_room ≡ (if gives then 2 ^ 64 - 1 else 0) →

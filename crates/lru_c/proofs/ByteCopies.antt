@@ -1,4 +1,3 @@
--- A clone of a map of byte strings has the same bytes.
 use Rattle.std.proofs.Common.{◌≡◌, List, [], ◌∷◌, refl}
 use Rattle.std.specs.List.{AllZip}
 use Rattle.lru_model.specs.Clones.{IsPairClone}

@@ -89,7 +89,6 @@ module _ (k v : Bytes) (map new : BytesMap) (result : Result Bool AllocError) (f
         ((bytes_decides k.items pair.0.items).1 (sym key));
   }
 
-  -- if the key is new, `added` says that the pair is added
   stored : (lookup_entry (same_bytes k) map.pairs ≡ None
       → IsAdded bytes_rules bytes_offers same_bytes k v (k, v) map result new)
       → Insert bytes_rules bytes_offers same_bytes hash_of_bytes k v map result new

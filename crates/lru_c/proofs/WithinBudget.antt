@@ -1,4 +1,3 @@
--- After each call of a map of byte strings, the running total is the sum of the weights, and within the budget.
 use Rattle.std.proofs.Common.{◌≡◌, ◌≤◌, ◌+◌, ℕ, Bool, Option, List, [], ◌∷◌, length, Ok, inl}
 use Rattle.std.proofs.Common.{inr, refl, sym, ap, ◌∙◌, subst, arith}
 use Rattle.std.specs.Prelude.{vec_len}

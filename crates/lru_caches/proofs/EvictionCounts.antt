@@ -1,5 +1,4 @@
--- What a call on an uncached page counts. `mid` and `between` are the pages and the counts before the call looks for
--- room, and `room` is left of the pages.
+-- `mid` and `between` are the pages and the counts before the call looks for room, and `room` is left of the pages.
 use Rattle.std.proofs.Common.{◌≡◌, ◌⊎◌, ◌-◌, List, length, Option, None, is_some, Result, IfErr, OnOk, cond, sym}
 use Rattle.std.proofs.Common.{ap, ◌∙◌, subst}
 use Rattle.lru_caches.specs.Pages.{evicts, hit, missed}

@@ -1,4 +1,3 @@
--- What a cache shows, and its invariant, after a change of its newest page or the end of a pin.
 use Rattle.std.proofs.Common.{◌≡◌, ◌≢◌, ◌<◌, ◌≤◌, ℕ, Bool, true, false, cond, nat_eq, List, ◌∷◌, length, Option, Some, None}
 use Rattle.std.proofs.Common.{IsTrue, refl, sym, ap, ◌∙◌, subst, ne_eqb}
 use Rattle.std.proofs.lemmas.Cmp.{nat_eq_equiv}

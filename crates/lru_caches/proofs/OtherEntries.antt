@@ -1,4 +1,3 @@
--- How many pairs of other keys than the named key a list contains.
 use Rattle.std.proofs.Common.{◌≡◌, ◌+◌, Bool, List, length, Option, Some, None, refl, ap, arith, is_some}
 use Rattle.lru_model.proofs.CallerLemmas.{without_none}
 use Rattle.lru_model.proofs.Theorems.Limits.{length-without_found}
@@ -6,7 +5,6 @@ use mir.Val.{bool_byte}
 use Rattle.lru_model.specs.Lists.{lookup_entry, without}
 
 module _ {K V : Type 0} (names : K → Bool) (pairs : List (K × V)) where
-  -- one pair fewer if the key is there
   pub other-count : (there : Bool) → there ≡ is_some (lookup_entry names pairs)
       → length (without names pairs) + bool_byte there ≡ length pairs
   other-count there is = go (lookup_entry names pairs) refl is

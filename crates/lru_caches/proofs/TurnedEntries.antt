@@ -1,4 +1,4 @@
--- Reversed lists of entries: keys, look-ups, removals, writes, ends and equality.
+-- Reversed lists of entries.
 use Rattle.std.proofs.Common.{◌≡◌, Bool, true, false, cond, List, [], ◌∷◌, ◌++◌, reverse, Option, Some, None, refl}
 use Rattle.std.proofs.Common.{sym, ap, ◌∙◌, subst, ◌&&◌}
 use Rattle.std.proofs.lemmas.List.{reverse-append, reverse-reverse, append-nil, map-append}

@@ -1,4 +1,3 @@
--- The Fibonacci numbers of small indices, and of three indices one after another.
 use Rattle.std.proofs.Common.{◌≡◌, ◌<◌, ◌≤◌, ◌+◌, ◌-◌, ◌%◌, ◌^◌, ℕ, zero, suc, refl, ap, ◌∙◌, arith}
 use Rattle.lru_caches_tests.specs.Fibonacci.{fibonacci_number}
 

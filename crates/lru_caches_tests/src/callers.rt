@@ -7,7 +7,6 @@ use lru_caches::{BlockDevice, CountedMap, OrderedMap, PageCache, PageError};
 use schnellru::ByLength;
 use std::alloc::AllocError;
 
-/// Copies a block to another number.
 pub fn copy_block<D: BlockDevice<u64>>(
     cache: &mut PageCache<u64, D>,
     from: u64,
@@ -23,7 +22,6 @@ pub fn copy_block<D: BlockDevice<u64>>(
     cache.write(to, block)
 }
 
-/// Writes a block so that no crash loses it.
 pub fn write_durably<D: BlockDevice<u64>>(
     cache: &mut PageCache<u64, D>,
     n: u64,
@@ -36,7 +34,6 @@ pub fn write_durably<D: BlockDevice<u64>>(
     cache.flush()
 }
 
-/// Returns whether the key is in the map. If the key is there, writes the value under it.
 pub fn overwrite(map: &mut OrderedMap<u64, u64>, key: u64, value: u64) -> bool
     ensures there { result ≡ is_some (lookup (nat_eq key) map.old) }
     ensures written { result ≡ true → map.new ≡ set_value (nat_eq key) map.old value }

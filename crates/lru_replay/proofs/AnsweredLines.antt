@@ -1,4 +1,3 @@
--- One more line of a run, from a reader to a writer, and how the answers end.
 use Rattle.std.proofs.Common.{◌≡◌, ℕ, ◌<◌, List, [], ◌∷◌, ◌++◌, length, sym, ap, ◌∙◌, subst, inl, inr, Option, Result}
 use Rattle.std.proofs.Common.{Ok, Err, IfSome, OnSome, nat_eq}
 use Rattle.std.proofs.lemmas.List.{append-nil}

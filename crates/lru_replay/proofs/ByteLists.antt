@@ -1,4 +1,3 @@
--- Lists of bytes: the first n bytes, and the bytes before a given byte.
 use Rattle.std.proofs.Common.{◌≡◌, ℕ, zero, suc, ◌<◌, ◌≤◌, List, [], ◌∷◌, ◌++◌, length, take, refl, sym, ap, ◌∙◌, arith}
 use Rattle.std.proofs.Common.{Option, Some, None, OnSome}
 use Rattle.std.proofs.lemmas.List.{length-take, take_all, take-append-le, length-append}

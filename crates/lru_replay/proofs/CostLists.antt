@@ -1,4 +1,3 @@
--- Lists of pairs under a limit of cost: which pairs a trim leaves, and their keys.
 use Rattle.std.proofs.Common.{◌≡◌, ℕ, zero, suc, ◌+◌, ◌-◌, ◌<◌, Bool, true, false, cond, List, [], ◌∷◌, length}
 use Rattle.std.proofs.Common.{Some, sum_by, refl, sym, ap, ◌∙◌, arith, inl, inr}
 use Rattle.std.proofs.lemmas.Bool.{lt-ltb, le-ltb, lt-leb, le-leb, cases_lt}
@@ -44,7 +43,6 @@ module _ {K V : Type 0} (weight : K → V → ℕ) where
     abbrev pub spending : ℕ → Budget
     spending sum = record { limit = n; cost = sum }
 
-    -- the contents with these pairs and a limiter that counts their cost
     abbrev pub holding : List (K × V) → Contents K V Budget
     holding pairs = record { pairs = pairs; limiter = spending (spent worth pairs) }
 

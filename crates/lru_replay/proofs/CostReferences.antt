@@ -1,4 +1,3 @@
--- Which calls make a reference on a map with a limit of cost.
 use Rattle.std.proofs.Common.{◌≡◌, ℕ, ◌+◌, ◌*◌, ◌≤◌, Bool, true, List, ◌∷◌}
 use Rattle.std.proofs.Common.{Some, Ok, sum_by, refl, sym, ap, ◌∙◌, subst, arith}
 use Rattle.std.proofs.lemmas.Map.{length-set_value}

@@ -1,4 +1,3 @@
--- The pairs that pops of the newest pair take out, one after another, and the text of these pairs.
 use Rattle.std.proofs.Common.{◌≡◌, ℕ, Bool, not, List, [], ◌∷◌, ◌++◌, Option, Some, None}
 use Rattle.std.proofs.Common.{option_to_list, refl, sym, ap, ◌∙◌, append_assoc, codes}
 use Rattle.std.specs.Prelude.{◌||◌, is_some, if◌then◌else◌}

@@ -1,4 +1,3 @@
--- The first line together with the other lines, and how a replay ends.
 use Rattle.std.proofs.Common.{◌≡◌, ℕ, List, [], ◌∷◌, ◌++◌, append_assoc, refl, sym, ap, ◌∙◌, subst, inl}
 use Rattle.std.proofs.Common.{inr, ◌⊎◌, Option, Some, None, Result, Ok, Err, IfSome, OnSome}
 use Rattle.std.proofs.lemmas.List.{append-nil}

@@ -1,4 +1,4 @@
--- What a call does to the keys if it makes no reference: one lemma for each call.
+-- What a call does to the keys if it makes no reference.
 use Rattle.std.proofs.Common.{◌≡◌, ℕ, Bool, true, cond, List, [], ◌∷◌, Option, Some, None, Result}
 use Rattle.std.proofs.Common.{refl, sym, ap, ◌∙◌, subst}
 use Rattle.std.proofs.lemmas.Map.{keys-set_value}

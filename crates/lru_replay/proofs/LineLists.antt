@@ -1,4 +1,3 @@
--- The lines of an input, and the lines of the bytes that were read so far.
 use Rattle.std.proofs.Common.{◌≡◌, ℕ, ◌<◌, List, [], ◌∷◌, ◌++◌, length, flat_map, refl, sym, ap, ◌∙◌, subst, arith}
 use Rattle.std.proofs.Common.{Option, Some, None, IfSome, append_assoc}
 use Rattle.std.proofs.lemmas.List.{append-nil, flat_map_more}

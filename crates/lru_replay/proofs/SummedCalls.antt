@@ -1,4 +1,3 @@
--- If calls keep the cost, the running total stays the sum of the costs.
 use Rattle.std.proofs.Common.{ℕ, Bool, inl, inr, sym, ◌∙◌, subst}
 use Rattle.lru_limits.specs.Rules.{Rules, Offers}
 use Rattle.lru_model.specs.Runs.{StepOrKeptWrite, Run, ends, goes_on}

@@ -1,4 +1,3 @@
--- Lemmas about the value of a result, if it is `Ok`.
 use Rattle.std.proofs.Common.{Result, Ok, Err, IfOk, OnOk}
 
 pub follows : {T E : Type 0} {P : T → Type 0} {Q : Type 0} (result : Result T E) → ((value : T) → P value → Q)

@@ -34,7 +34,7 @@ trait Source {
     ghost alike: { (text other : String Global) → string_eq text other ≡ true → size text ≡ size other };
 }
 
-/// Looks up a text. If the text is not there, loads and inserts its value. Returns how many values it loaded.
+/// Returns how many values it loaded.
 fn load_at_miss<L: Source>(
     map: &mut LruMap<String, Vec<u8>, ByCost>,
     text: &String,
@@ -55,8 +55,7 @@ fn load_at_miss<L: Source>(
     Ok(1)
 }
 
-/// Looks up each text by `load_at_miss`, and returns how many values this loaded: one for each miss of a cache with
-/// this limit.
+/// Returns how many values it loaded: one for each miss of a cache with this limit.
 fn read_through<L: Source>(
     map: &mut LruMap<String, Vec<u8>, ByCost>,
     texts: &[String],
@@ -88,7 +87,7 @@ fn map_within<L: Source>(alloc: Global, limit: u64) -> LruMap<String, Vec<u8>, B
     LruMap::new(alloc, ByCost::new(limit), [1, 2, 3, 4], 40)
 }
 
-/// Reads the texts through two new maps. The map with the larger limit loads no more values.
+/// The map with the larger limit loads no more values.
 fn compare<L: Source>(
     alloc: Global,
     texts: &[String],
@@ -132,8 +131,8 @@ fn read_both<L: Source>(
     ))
 }
 
-/// Makes a text the newest. If the text is not there, inserts it with a value from `make`. If each text determines how
-/// many bytes its value has, and this number is within the limit, a successful call is a reference.
+/// If each text determines how many bytes its value has, and this number is within the limit, a successful call is a
+/// reference.
 fn remember<F: FnOnce() -> Vec<u8>>(
     map: &mut LruMap<String, Vec<u8>, ByCost>,
     text: String,
@@ -169,8 +168,7 @@ fn try_to_remember<F: FnOnce() -> Result<Vec<u8>, u64>>(
     Ok(kept)
 }
 
-/// Inserts a text under a number, with a limit of weight. If the weight of the entry is the cost of its key, and at
-/// most the limit, a successful call is a reference.
+/// If the weight of the entry is the cost of its key, and at most the limit, a successful call is a reference.
 fn insert_weighed(
     map: &mut LruMap<u64, String, ByWeight<16>>,
     key: u64,

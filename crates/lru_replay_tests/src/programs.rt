@@ -15,7 +15,7 @@ use lru_replay::references::{
 use schnellru::{ByLength, GetOrInsertError, LruMap, RandomState};
 use std::alloc::AllocError;
 
-/// Makes a text the newest. If the text is not there, computes its value. A successful call is a reference.
+/// A successful call is a reference.
 fn remember<F: FnOnce() -> u64>(
     map: &mut LruMap<String, u64>,
     text: String,
@@ -44,7 +44,7 @@ fn try_to_remember<F: FnOnce() -> Result<u64, u64>>(
     Ok(kept)
 }
 
-/// Inserts a text that is not there. A successful call is a reference that misses.
+/// A successful call is a reference that misses.
 fn insert_new(map: &mut LruMap<String, u64>, text: String, value: u64) -> Result<bool, AllocError>
     requires absent { lookup (string_eq text) map.old.pairs ≡ None }
     requires keeps { KeepsToLength map.old }

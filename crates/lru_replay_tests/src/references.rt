@@ -13,7 +13,7 @@ use lru_replay::references::{
 use schnellru::{ByLength, LruMap, RandomState, laws};
 use std::alloc::{AllocError, Global};
 
-/// Looks up a text. If the text is not there, computes and inserts its value. Returns how many values it computed.
+/// Returns how many values it computed.
 fn compute_at_miss<F: Fn(&String) -> u64>(
     map: &mut LruMap<String, u64>,
     text: &String,
@@ -33,7 +33,7 @@ fn compute_at_miss<F: Fn(&String) -> u64>(
     Ok(1)
 }
 
-/// Looks up each text by `compute_at_miss`, and returns how many values this computed: one for each miss of the trace.
+/// Returns how many values it computed: one for each miss of the trace.
 pub fn read_through<F: Fn(&String) -> u64>(
     map: &mut LruMap<String, u64>,
     texts: &[String],
@@ -54,9 +54,9 @@ pub fn read_through<F: Fn(&String) -> u64>(
     Ok(count)
 }
 
-/// Computes the values of the texts with two new maps. The larger map computes no more values than the smaller map. If
-/// the smaller map has `length` places and computes n values, each policy with h ≤ `length` places pays at least
-/// (length + 1 - h) / length * n times. The policy begins empty, stores each text, and may load texts ahead.
+/// The larger map computes no more values than the smaller map. If the smaller map has `length` places and computes n
+/// values, each policy with h ≤ `length` places pays at least (length + 1 - h) / length * n times. The policy begins
+/// empty, stores each text, and may load texts ahead.
 fn compare<F: Fn(&String) -> u64>(
     alloc: Global,
     texts: &[String],

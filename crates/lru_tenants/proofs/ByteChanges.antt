@@ -1,4 +1,3 @@
--- What a call does to the named tenant determines what it does to a cache of bytes.
 use Rattle.std.proofs.Common.{◌≡◌, ◌+◌, ◌≤◌, arith, ℕ, Bool, true, false, cond, List, ◌∷◌, Option, Some, None, is_some, refl, sym, ap}
 use Rattle.std.proofs.Common.{◌∙◌, subst}
 use Rattle.std.proofs.lemmas.Bool.Decides.{nat_tests}
@@ -19,7 +18,6 @@ module _ {N K V S : Type 0} where
   cache_of tenants table limit hasher =
       record { tenants = tenants; table = table; limit = limit; hasher = hasher }
 
-  -- a removal changes neither the table of tenants nor the limit
   pub left-view : (old new : State N (State K V Bytes S) Bytes S) (left : Contents N (State K V Bytes S) Bytes)
       → Stays old left new → limit_of new ≡ limit_of old
       → cache_of new.pairs (table_bytes new) (limit_of new) new.hasher

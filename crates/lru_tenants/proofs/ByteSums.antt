@@ -1,4 +1,3 @@
--- What a cache of tenants takes is within its limit, and stays there if one tenant's map changes.
 use Rattle.std.proofs.Common.{◌≡◌, ◌+◌, ◌-◌, ◌^◌, ◌≤◌, ◌<◌, ◌⊎◌, inl, ℕ, Bool, List, [], ◌∷◌, Option, Some, None, length, refl, sym}
 use Rattle.std.proofs.Common.{ap, ◌∙◌, arith, sum_by, subst}
 use Rattle.std.specs.List.{All}
@@ -25,12 +24,10 @@ pub no_table : (entry_bytes : ℕ) → unwrap_or (usage entry_bytes 0) 0 ≡ 0
 unfolding usage
 no_table entry_bytes = refl
 
--- the table uses at most as many bytes as the limiter counts
 table-within : {K V H : Type 0} {bytes_of : K → V → ℕ} (st : State K V Bytes H) → KeepsBytes bytes_of st
     → table_bytes st ≤ st.limiter.table
 table-within st k = omega (arith, ap (λ o. unwrap_or o 0) k.counts.table.1, k.counts.table.2)
 
--- a map with an entry has a table
 has_table : {K V L H : Type 0} (st : State K V L H) (n : ℕ) → IsSized st → n < length st.pairs → 0 < table_bytes st
 has_table st n sized more = omega (
   arith,
@@ -65,7 +62,6 @@ module _ {N K V S : Type 0} (of_name : N → ℕ) (of_pair : K → V → ℕ) wh
   abbrev counted : N × State K V Bytes S → ℕ
   counted t = both_own of_name limit_of t.0 t.1
 
-  -- if no number of bytes reaches 2 ^ 64 - 1, the tenants take at most what is counted for them
   taken-counted : (ts : List (N × State K V Bytes S)) → All (KeepsBytes of_pair) (values_of ts)
       → sum_by counted ts < 2 ^ 64 - 1 → sum_by (taken of_name of_pair) ts ≤ sum_by counted ts
   taken-counted [] all small = omega arith

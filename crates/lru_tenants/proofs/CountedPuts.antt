@@ -1,4 +1,3 @@
--- What a counted insert needs to know of its key.
 use Rattle.std.proofs.Common.{◌≡◌, ℕ, Bool, true, false, List, Option, Some, None, Result, Ok, Err, is_some, refl, sym}
 use Rattle.std.proofs.Common.{ap, ◌∙◌, cond, subst}
 use Rattle.std.specs.Option.{option_map}
@@ -39,7 +38,6 @@ newest-there rules names new done says is =
     let (newest, within) = subst (λ r. SaysWhether rules names r new) is says in
     ap (λ xs. is_some (first xs)) newest.first
 
--- a counted insert, with the answer of the put
 module _ {K V L S : Type 0} (rules : Rules K V (Counting L)) (offers : Offers K V (Counting L) K) (budget_of : L → ℕ)
     (eq : K → K → Bool) (hash_of : S → K → ℕ) (key : K) (value : V) (old : State K V (Counting L) S) where
   pub counts-put : (done : Result Bool AllocError) (answer : Result Bool TenantError) (new : State K V (Counting L) S)

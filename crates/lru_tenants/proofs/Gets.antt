@@ -1,4 +1,3 @@
--- A get keeps what holds for a tenant's map.
 use Rattle.std.proofs.Common.{◌≡◌, ℕ, Bool, List, Some, Option, Ok, sym, ap, subst}
 use Rattle.lru_limits.specs.Laws.{IsLookup}
 use Rattle.lru_model.specs.Calls.{promoted}

@@ -1,4 +1,3 @@
--- The search for the tenant furthest above its share, and one eviction.
 use Rattle.std.proofs.Common.{◌≡◌, ◌≤◌, ◌<◌, ◌+◌, ℕ, zero, suc, Bool, true, List, [], ◌∷◌, Option, Some, None, length}
 use Rattle.std.proofs.Common.{refl, sym, ap, ◌∙◌, arith, sum_by, nat_eq}
 use Rattle.std.specs.Borrow.{Bor}

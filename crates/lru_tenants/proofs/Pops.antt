@@ -1,4 +1,3 @@
--- The pairs that pops remove from the map of a tenant, oldest first.
 use Rattle.std.proofs.Common.{◌≡◌, Option, Some, None, List, [], ◌∷◌, ◌++◌, reverse, refl, sym, ap, ◌∙◌, arith}
 use Rattle.std.proofs.lemmas.List.{reverse-append}
 use Rattle.lru_limits.specs.Rules.{Rules}

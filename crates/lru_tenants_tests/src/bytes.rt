@@ -10,7 +10,7 @@ use test_helpers::{all, check};
 
 type Pages = ByteTenants<String, String, String>;
 
-/// Gets the page of each path of a host, or puts the page if it is not there. Returns how many pages were there.
+/// Returns how many pages were there.
 fn serve(pages: &mut Pages, host: &str, paths: Vec<String>) -> Result<u64, TenantError>
     ensures { pages.new.limit ≡ pages.old.limit }
 {

@@ -9,7 +9,6 @@ use schnellru::RandomState;
 use std::test::Fail;
 use test_helpers::{all, check};
 
-/// Puts a value for one tenant.
 fn put_beside(
     cache: &mut TenantCache<u64, u64, u64>,
     name: &u64,
@@ -29,7 +28,7 @@ pub fn page_of(path: &String) -> Result<String, TenantError> {
     }
 }
 
-/// Gets the page of each path of a host, or puts the page if it is not there. Returns how many pages were there.
+/// Returns how many pages were there.
 fn serve(
     pool: &mut TenantPool<String, String, String>,
     host: &str,

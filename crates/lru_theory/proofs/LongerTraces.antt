@@ -1,4 +1,3 @@
--- What one more reference, or one more call, adds.
 use Rattle.std.proofs.Common.{◌≡◌, ℕ, ◌+◌, Bool, cond, List, [], ◌∷◌, ◌++◌, refl, arith}
 use Rattle.lru_theory.specs.Traces.{is_far, misses, cached_by, faults_by, fault, past_after}
 use Rattle.lru_theory.specs.Inclusion.{KeyCall, after_call, after_calls}

@@ -23,7 +23,6 @@ use Rattle.lru_trace.proofs.Numbered.{Named, none_named, named_from, named_on, p
 use Rattle.lru_trace.proofs.SizedCosts.{reweighed, within_more}
 
 module _ (limits : List ℕ) (need : ℕ) where
-  -- the first limit that is at least `need`
   pub below_found : IsNonDecreasing limits → (at : ℕ) → at < length limits
       → ((j : ℕ) → j < at → get_or limits j 0 < need) → need ≤ get_or limits at 0
       → (i : ℕ) → i < length limits → nat_lt i at ≡ exceeds (Some need) (get_or limits i 0)

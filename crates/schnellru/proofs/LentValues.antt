@@ -1,4 +1,3 @@
--- What the two forms of `get_or_insert` lend, and the types of their results.
 use mathlib.Core.Path.{◌≡◌, refl}
 use mathlib.Core.List.{List, [], ◌∷◌}
 use lib.Dec.{T}

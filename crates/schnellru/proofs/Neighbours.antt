@@ -1,4 +1,3 @@
--- The entries next to the entry of a key, by their buckets.
 use Rattle.std.proofs.Common.{◌≡◌, ◌≢◌, ◌+◌, ℕ, zero, suc, Bool, Option, length, Some, None, refl, sym, ap, ◌∙◌, arith}
 use Rattle.std.specs.Prelude.{slice_get, position}
 use Rattle.std.specs.Option.{option_and_then}

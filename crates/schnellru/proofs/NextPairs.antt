@@ -1,5 +1,4 @@
 -- One proof for `next` and `next_back` of an `IterMut`: if a pair is left, each lends what another function lends.
---
 use mathlib.Core.Path.{◌≡◌, refl, sym, ap}
 use mathlib.Core.List.{List, [], ◌∷◌}
 use Prim.Native.Nat.{◌<◌}

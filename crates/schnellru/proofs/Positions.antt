@@ -1,4 +1,3 @@
--- Buckets by their positions in the order of use.
 use Rattle.std.proofs.Common.{◌≡◌, ◌≢◌, ℕ, zero, suc, ◌<◌, ◌≤◌, ◌+◌, ◌-◌, List, [], ◌∷◌, length, None, Some, slice_get}
 use Rattle.std.proofs.Common.{◌∙◌, arith, refl, sym, ap, subst, ne_eqb}
 use Rattle.std.specs.Prelude.{AllPairs, Contains}

@@ -1,4 +1,3 @@
--- The values of the first n pairs become 0.
 use Rattle.std.proofs.Common.{◌≡◌, ℕ, zero, suc, ◌≤◌, ◌+◌, List, [], ◌∷◌, map, length, refl, ap, arith, ◌∙◌}
 use Rattle.lru_model.specs.Lists.{set_value_at}
 

@@ -17,8 +17,7 @@ fn cache_of_texts(alloc: Global) -> LruMap<String, String, ByBytes>
     LruMap::with_limiter(alloc, ByBytes::new(200 << 20))
 }
 
-/// Puts a text into the cache, updates a second, removes a third, and shrinks the table. Whatever the calls return, the
-/// cache takes at most its limit.
+/// Whatever the calls return, the cache takes at most its limit.
 fn change(
     map: &mut LruMap<String, String, ByBytes>,
     key: String,

@@ -27,8 +27,6 @@ use schnellru::{
 use std::alloc::{AllocError, Global};
 use std::hash::Hash;
 
-/// Puts a value under a key, and returns whether the key is there afterwards. If the key is there, a look-up returns
-/// the value.
 fn put(map: &mut LruMap<u64, u64>, key: u64, value: u64) -> Result<bool, AllocError>
     ensures { result ≡ Ok true → lookup (nat_eq key) map.new.pairs ≡ Some value }
 {
@@ -59,7 +57,6 @@ fn touch(map: &mut LruMap<u64, u64>, key: u64) -> bool
     map.promote(&key)
 }
 
-/// If the key is there, writes a value under it. Returns whether the key is there.
 fn overwrite(map: &mut LruMap<u64, u64>, key: u64, value: u64) -> bool
     ensures { result ≡ true → lookup (nat_eq key) map.new.pairs ≡ Some value }
 {
@@ -72,8 +69,7 @@ fn overwrite(map: &mut LruMap<u64, u64>, key: u64, value: u64) -> bool
     }
 }
 
-/// Returns what the closure returns for a key, from the map if the key is there. Before and after the call, the value
-/// of each key of the map is what the closure returns for the key.
+/// Before and after the call, the value of each key of the map is what the closure returns for the key.
 fn memo<F: Fn(u64) -> u64>(
     map: &mut LruMap<u64, u64>,
     answers: F,
@@ -93,7 +89,6 @@ fn memo<F: Fn(u64) -> u64>(
     Ok(value)
 }
 
-/// Returns the text of a key, from the map if the key is there, and otherwise from the closure.
 fn fetch<F: Fn(&String) -> String>(
     map: &mut LruMap<String, String>,
     key: String,
@@ -111,7 +106,6 @@ fn fetch<F: Fn(&String) -> String>(
     Ok(text)
 }
 
-/// Writes 0 as each value, newest first. Nothing else changes.
 fn reset(map: &mut LruMap<String, u64>)
     ensures { map.new ≡ record map.old { pairs = mapped (λ pair. (pair.0, 0)) map.old.pairs } }
 {
@@ -122,7 +116,7 @@ fn reset(map: &mut LruMap<String, u64>)
     }
 }
 
-/// Puts a number under each text into a new map. On average, growth moved each stored entry at most twice.
+/// On average, growth moves each stored entry at most twice.
 fn count_all(alloc: Global, texts: &[String]) -> Result<MoveReport, AllocError>
     ensures { IfOk result (λ report. report.moved ≤ 2 * report.placed) }
 {
@@ -135,8 +129,7 @@ fn count_all(alloc: Global, texts: &[String]) -> Result<MoveReport, AllocError>
     Ok(map.move_report())
 }
 
-/// Tries to put a number under each text into a new map, and evicts nothing. The table makes at most three insertions
-/// for each text, including the insertions of moved entries.
+/// The table makes at most three insertions for each text, including the insertions of moved entries.
 fn keep_all(alloc: Global, texts: &[String]) -> Result<LruMap<String, u64>, AllocError>
     ensures { IfOk result (λ map. map.counts.insertions ≤ 3 * length texts.now) }
 {
@@ -149,7 +142,6 @@ fn keep_all(alloc: Global, texts: &[String]) -> Result<LruMap<String, u64>, Allo
     Ok(map)
 }
 
-/// Puts an entry into a map. If the map was within its maximum length, it still is.
 fn put_within(map: &mut LruMap<String, u64>, key: String, value: u64) -> Result<bool, AllocError>
     requires { length map.old.pairs ≤ map.old.limiter }
     ensures { length map.new.pairs ≤ map.new.limiter }
@@ -191,8 +183,8 @@ fn exchange(
     map.insert(new, text)
 }
 
-/// Inserts an entry, pops it, and inserts another entry. Each insert evicts only the oldest entries, both inserts pay
-/// for the entries that they move, and no two keys are equal afterwards.
+/// Each insert evicts only the oldest entries, both inserts pay for the entries that they move, and no two keys are
+/// equal afterwards.
 fn put_two(
     map: &mut LruMap<String, u64>,
     first: String,
@@ -318,7 +310,6 @@ fn put_and_show<F: FnMut(u64, u64)>(
     map.insert_with(key, value, callback)
 }
 
-/// Evicts the entries over the limit, and returns their number.
 fn trim_and_count(map: &mut LruMap<u64, u64>) -> usize {
     let _len = map.len();
     let mut count = 0usize;

@@ -7,7 +7,6 @@ use schnellru::{ByLength, Insertion, KeyHasher, LruMap, RandomState, laws};
 use std::alloc::AllocError;
 use std::hash::Hash;
 
-/// Puts a pair into a map.
 fn put_exactly<K: Eq + Hash + Drop, V: Drop, L: Insertion<K, V, K>, S: KeyHasher<K>>(
     map: &mut LruMap<K, V, L, S>,
     key: K,

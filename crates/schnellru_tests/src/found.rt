@@ -6,7 +6,6 @@ ghost use Rattle.lru_model.specs.Calls.{promoted, demoted, written};
 
 use schnellru::LruMap;
 
-/// Writes the value of a text and makes its entry the newest, if the text is there. Returns whether the text is there.
 fn refresh(map: &mut LruMap<String, u64>, text: &str, value: u64) -> bool
     ensures there { result ≡ is_some (lookup (names_text text.now) map.old.pairs) }
     ensures map { map.new ≡ promoted (names_text text.now) (written (names_text text.now) value map.old) }
@@ -21,7 +20,6 @@ fn refresh(map: &mut LruMap<String, u64>, text: &str, value: u64) -> bool
     }
 }
 
-/// Removes the entry of a text if its value is below `least`, and otherwise makes the entry the newest.
 fn take_below(map: &mut LruMap<String, u64>, text: &str, least: u64) -> Option<(String, u64)>
     ensures below { IfSome result (λ pair. pair.1 < least) }
     ensures taken { IfSome result (λ pair. lookup_entry (names_text text.now) map.old.pairs ≡ Some pair) }
@@ -36,7 +34,6 @@ fn take_below(map: &mut LruMap<String, u64>, text: &str, least: u64) -> Option<(
     None
 }
 
-/// Writes the value of a text and makes its entry the oldest, if the text is there. Returns whether the text is there.
 fn put_last(map: &mut LruMap<String, u64>, text: &str, value: u64) -> bool
     ensures there { result ≡ is_some (lookup (names_text text.now) map.old.pairs) }
     ensures map { map.new ≡ written (names_text text.now) value (demoted (names_text text.now) map.old) }

@@ -23,7 +23,6 @@ macro_rules! check {
     };
 }
 
-/// Returns whether all conditions hold.
 #[macro_export]
 macro_rules! all {
     ($($holds:expr),+) => {

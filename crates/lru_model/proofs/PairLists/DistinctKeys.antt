@@ -1,4 +1,3 @@
--- The keys of the pairs stay distinct, and a pair is found if its key is named.
 use Rattle.std.proofs.Common.{◌≡◌, ℕ, Bool, true, false, cond, List, [], ◌∷◌, ◌++◌, length, Option, Some, None, refl}
 use Rattle.std.proofs.Common.{sym, ◌∙◌, subst, arith, zero, suc}
 use Rattle.std.specs.Prelude.{Contains, option_to_list}

@@ -1,4 +1,3 @@
--- A list contains its head, and what its tail contains.
 use Rattle.std.proofs.Common.{◌≡◌, ℕ, zero, suc, ◌<◌, List, [], ◌∷◌, length, get_or, ◌⊎◌, inl, inr, refl, arith}
 use Rattle.std.specs.Prelude.{Contains}
 

@@ -1,4 +1,3 @@
--- The place of the pair of the named key, before and after the pair moves to the front.
 use Rattle.std.proofs.Common.{◌≡◌, ℕ, Bool, true, false, cond, List, [], ◌∷◌, Some, None, refl, sym, ap, ◌∙◌}
 use Rattle.std.proofs.Common.{Option, option_map}
 use Rattle.std.specs.Prelude.{is_some, IfSome, IfNone}

@@ -1,4 +1,3 @@
--- The position of a key among the pairs, and its bucket among the places.
 use Rattle.std.proofs.Common.{◌≡◌, ℕ, ◌+◌, suc, Bool, true, false, List, [], ◌∷◌, Some, None, refl, sym, ap, ◌∙◌}
 use Rattle.std.proofs.Common.{arith, cond}
 use Rattle.std.specs.Prelude.{slice_get, position}

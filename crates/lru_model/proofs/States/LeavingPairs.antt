@@ -1,4 +1,3 @@
--- Which pairs are left when pairs are evicted or removed, and when growth is refused.
 use Rattle.std.proofs.Common.{◌≡◌, ℕ, zero, suc, ◌-◌, ◌<◌, ◌≤◌, true, false, List, [], ◌∷◌, length, refl, sym, ap, ◌∙◌}
 use Rattle.std.proofs.Common.{subst, arith}
 use Rattle.lru_model.specs.Lists.{without_first, without_last}

@@ -1,4 +1,3 @@
--- After `make_room` the new pair still has its hash, and its key is still new.
 use Rattle.std.proofs.Common.{◌≡◌, ℕ, Bool, List, [], None, ap, sym, ◌∙◌, subst}
 use Rattle.lru_limits.specs.Rules.{Rules}
 use Rattle.lru_model.specs.Lists.{lookup_entry, IsFront}

@@ -1,4 +1,3 @@
--- No two outcomes are the same, and no result is both `Ok` and `Err`.
 use Rattle.std.proofs.Common.{◌≡◌, Bool, Result, Ok, Err, arith}
 use Rattle.std.specs.Prelude.{IsOk, IsErr, IfOk, OnOk, OnErr}
 use Rattle.std.specs.declared.alloc.AllocError.{AllocError}

@@ -1,4 +1,3 @@
--- A map stays sound if a pair becomes the first or the last, or gets another value.
 use Rattle.std.proofs.Common.{◌≡◌, ℕ, Bool, List, [], length, Option, refl, sym, subst, ◌∙◌}
 use Rattle.std.specs.Cmp.{IsEquivalence}
 use Rattle.std.specs.List.{IsDistinct}

@@ -1,4 +1,3 @@
--- A `RemoveEntry` is also a `Remove`, and it may find no pair.
 use Rattle.std.proofs.Common.{Bool, Option, None, option_map, sym, ap, ◌≡◌, subst}
 use Rattle.lru_limits.specs.Rules.{Rules}
 use Rattle.lru_model.specs.Lists.{lookup_entry}

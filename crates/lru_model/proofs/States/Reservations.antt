@@ -1,4 +1,3 @@
--- How a reservation goes on, for each case of `Reserve`.
 use Rattle.std.proofs.Common.{◌≡◌, ℕ, ◌<◌, Ok, Err, true, false, List, [], ◌∷◌, length, refl, ap, ◌∙◌, subst, arith}
 use Rattle.std.proofs.Common.{inl, inr}
 use Rattle.lru_limits.specs.Rules.{Rules}

@@ -1,4 +1,3 @@
--- For every map, `Place` permits at least one outcome and one map after the insertion into the table.
 use Rattle.std.proofs.Common.{◌≡◌, ℕ, ◌+◌, ◌-◌, ◌/◌, ◌^◌, ◌<◌, ◌≤◌, inl, inr, Bool, true, false, ◌∷◌, length}
 use Rattle.std.proofs.Common.{◌⊎◌, if◌then◌else◌, cond, List, Some, slice_set, length-set, refl, sym, ap, ◌∙◌, subst}
 use Rattle.std.proofs.Common.{arith, count_by}

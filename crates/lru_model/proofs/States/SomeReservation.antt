@@ -1,4 +1,3 @@
--- For every map with a sound table, `Reserve` permits a result and a map. A clear leaves a sound table.
 use Rattle.std.proofs.Common.{◌≡◌, ℕ, ◌+◌, ◌-◌, ◌^◌, ◌≤◌, Bool, true, false, Result, Ok, Err, List, [], length}
 use Rattle.std.proofs.Common.{replicate, refl, subst, arith, inl, inr}
 use native.Mathlib.Decide.{dec_lt}

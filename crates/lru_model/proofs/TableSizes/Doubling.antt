@@ -1,4 +1,3 @@
--- A table grows to at most twice the buckets that it needs.
 use Rattle.std.proofs.Common.{◌≡◌, ℕ, zero, suc, ◌+◌, ◌*◌, ◌/◌, ◌^◌, ◌<◌, ◌≤◌, ◌⊎◌, Bool, true, false, cond, Option}
 use Rattle.std.proofs.Common.{Some, None, refl, sym, ◌∙◌, arith, inl, inr, pow-add}
 use native.Mathlib.Decide.{dec_lt}

@@ -1,4 +1,3 @@
--- If there is a table for eight times as many pairs, there are the tables of `HasTables`.
 use Rattle.std.proofs.Common.{◌≡◌, ◌≢◌, ℕ, zero, suc, ◌+◌, ◌-◌, ◌*◌, ◌/◌, ◌^◌, ◌<◌, ◌≤◌, ◌⊎◌, inl, inr, Bool, true}
 use Rattle.std.proofs.Common.{false, cond, length, Some, refl, ap, arith, pow-add}
 use native.Mathlib.Decide.{dec_lt}

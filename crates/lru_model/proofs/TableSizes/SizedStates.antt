@@ -1,4 +1,3 @@
--- What the bucket states of a sound table say about the pairs of the map.
 use Rattle.std.proofs.Common.{◌≡◌, ℕ, ◌+◌, ◌<◌, ◌≤◌, inl, inr, List, length, arith}
 use Rattle.group_table.specs.Sizes.{IsPowerFromFour, full_capacity}
 use Rattle.group_table.specs.Bucket.{BucketState, growth_left}

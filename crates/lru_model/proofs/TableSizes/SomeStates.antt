@@ -1,4 +1,3 @@
--- Bucket states of a table with given numbers of full and of deleted buckets.
 use Rattle.std.proofs.Common.{◌≡◌, ℕ, ◌+◌, ◌-◌, ◌*◌, ◌^◌, ◌<◌, ◌≤◌, ◌⊎◌, Bool, List, ◌++◌, length, Some, refl, sym, ap}
 use Rattle.std.proofs.Common.{subst, arith, cond, count_by}
 use Rattle.std.proofs.Math.ListN.{replicate}
@@ -13,7 +12,6 @@ use Rattle.lru_model.specs.Sizes.{usage}
 use Rattle.lru_model.specs.State.{State, Counts, buckets, IsSound, IsSized}
 use Rattle.lru_model.proofs.TableSizes.Growth.{full_capacity-at_most}
 
--- `fulls` full buckets, then `deletions` deleted buckets, and then `empties` empty buckets
 abbrev pub row : ℕ → ℕ → ℕ → List BucketState
 row fulls deletions empties = replicate fulls (full tt) ++ (replicate deletions deleted ++ replicate empties empty)
 
@@ -49,7 +47,6 @@ count-row p f d e =
 
 module _ {K V S H : Type 0} (old : State K V S H) (ok : IsSized old) (pairs : List (K × V)) (d : ℕ)
     (within : length pairs + d ≤ full_capacity (buckets old)) where
-  -- some bucket states: a full bucket for each pair, then d deleted buckets, and empty buckets up to the old number
   abbrev pub some_states : List BucketState
   some_states = row (length pairs) d (buckets old - length pairs - d)
 

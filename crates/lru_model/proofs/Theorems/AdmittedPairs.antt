@@ -1,7 +1,4 @@
--- A pair for which `can_store` is true.
---     accepts_new      the limiter accepts such a pair when an insert offers it
---     adds             if growth is left, an insert adds the pair and evicts nothing
---     try_ends         how `try_insert` ends
+-- Pairs for which `can_store` is true.
 use Rattle.std.proofs.Common.{◌≡◌, ℕ, ◌+◌, ◌<◌, Bool, true, false, ◌∷◌, length, None, Result, Ok, Err, refl}
 use Rattle.std.proofs.Common.{ap, ◌∙◌, subst, arith}
 use Rattle.std.specs.Prelude.{not, if◌then◌else◌}

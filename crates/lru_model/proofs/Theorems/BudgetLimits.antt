@@ -1,4 +1,3 @@
--- Each `Step`, and so each run of steps, keeps a limit by a budget, such as the limit of `ByCost` or `ByWeight`.
 use Rattle.std.proofs.Common.{◌≡◌, ℕ, ◌≤◌, Bool, false, Result, refl, sym}
 use Rattle.std.proofs.Common.{ap, ◌∙◌, subst, arith, ◌⊎◌, inl, inr}
 use Rattle.std.proofs.lemmas.Bool.Decides.{nat_tests}

@@ -1,5 +1,4 @@
--- The limit of `ByBytes`, on the bytes of the table and of what pairs own, after evictions and after an insertion into
--- the table.
+-- The limit of `ByBytes`, after evictions and after an insertion into the table.
 use Rattle.std.proofs.Common.{◌≡◌, ℕ, zero, suc, ◌+◌, ◌≤◌, ◌⊎◌, inl, inr, Bool, true, false, cond, List, [], ◌∷◌}
 use Rattle.std.proofs.Common.{length, Option, Some, None, if◌then◌else◌, refl, sym, ap, ◌∙◌, subst, arith}
 use Rattle.std.proofs.lemmas.Bool.Decides.{nat_tests}
@@ -214,8 +213,6 @@ module _ {K V : Type 0} (bytes_of : K → V → ℕ) where
     evicted_calm hash (suc n) old new (before, more, none, l) = calm_trans old before new
         (evicted_calm hash n old before more) (leaves_calm before _ new l (pop_frees (contents before)))
 
-    -- What an insertion leaves if the limiter already counts the pair: the pair is stored, or the limiter was notified
-    -- of its removal.
     abbrev pub Lands : Outcome → State K V Bytes H → Type 0
     Lands outcome new = Counts new × ((outcome ≡ placed) ⊎ Within 0 new)
 

@@ -1,4 +1,3 @@
--- Each `Step`, and so each run of steps, keeps a limit of the bytes of the table and of what pairs own.
 use Rattle.std.proofs.Common.{◌≡◌, ℕ, ◌+◌, ◌-◌, ◌≤◌, ◌⊎◌, inl, inr, Bool, true, false, List, length}
 use Rattle.std.proofs.Common.{Some, None, Result, if◌then◌else◌, refl, sym, ap, ◌∙◌, subst, arith}
 use Rattle.std.proofs.lemmas.Bool.Decides.{nat_tests}

@@ -1,4 +1,3 @@
--- The table counts each insertion that an insert makes into it.
 use Rattle.std.proofs.Common.{◌≡◌, ℕ, Bool, Result, refl, sym, ap, subst, arith}
 use Rattle.std.specs.declared.alloc.AllocError.{AllocError}
 use Rattle.lru_limits.specs.Rules.{Rules, Offers}

@@ -84,7 +84,6 @@ module _ {K V S : Type 0} (rules : Rules K V S) where
   pub front_make_room : (c : Contents K V S) → IsFront (make_room rules c).pairs c.pairs
   front_make_room = make_room_keeps rules _ front_way
 
-  -- either the newest of the old pairs are left, or the new pair and the newest of the old pairs
   abbrev pub Ends : {H : Type 0} → K × V → State K V S H → State K V S H → Type 0
   Ends pair old new = IsFront new.pairs (pair ∷ old.pairs) ⊎ IsFront new.pairs old.pairs
 

@@ -1,4 +1,3 @@
--- What the result of an insert says about the map.
 use Rattle.std.proofs.Common.{None, ◌≡◌, ℕ, zero, suc, ◌⊎◌, inl, inr, Bool, true, false, cond, not, List, [], ◌∷◌}
 use Rattle.std.proofs.Common.{length, Result, Ok, Err, refl, sym, ap, ◌∙◌, subst, arith}
 use Rattle.std.proofs.lemmas.Bool.{false≢true, true≢false, not-true}
@@ -61,8 +60,6 @@ module _ {K V S : Type 0} (rules : Rules K V S) where
       go (inr t) = record { pair = n.pair; rest = t.0; first = t.2; named = n.named }
 
 module _ {K V S H : Type 0} (rules : Rules K V S) (hash_of : H → K → ℕ) (pair : K × V) (old : State K V S H) where
-  -- If the pair was placed, it is the newest. If it was refused, no pair is left. If memory ran out, only some of the
-  -- oldest pairs may have been evicted.
   abbrev pub Comes : Outcome → State K V S H → Type 0
   Comes placed new = (rest : List (K × V)) × (new.pairs ≡ pair ∷ rest)
   Comes refused new = new.pairs ≡ []

@@ -1,5 +1,4 @@
--- Searches by a hash, whose closure tests each pair and changes nothing. If it tests for a key, the search finds the
--- key's pair.
+-- Searches by a hash, whose closure tests each pair and changes nothing.
 use Rattle.std.proofs.Common.{◌≡◌, ℕ, zero, suc, Bool, true, false, cond, List, [], ◌∷◌, ◌++◌, Some, refl}
 use Rattle.std.proofs.Common.{sym, ap, ◌∙◌, subst, arith}
 use Rattle.std.specs.Prelude.{Contains, unwrap_or}

@@ -1,4 +1,3 @@
--- If there is a table for one pair more, and an entry takes a byte or more, there is a table for the pairs.
 use Rattle.std.proofs.Common.{◌≡◌, ◌≢◌, ℕ, ◌+◌, ◌*◌, ◌/◌, ◌^◌, ◌<◌, ◌≤◌, inl, inr, ◌⊎◌, length, Some, refl, arith}
 use Rattle.std.proofs.Common.{pow-add, pow_pos}
 use Rattle.std.proofs.Math.Nat.{mul-le-mul_right}

@@ -30,16 +30,13 @@ use Rattle.lru_model.proofs.Theorems.CallChanges.{pairs_calm, cleared_calm}
 use Rattle.lru_model.proofs.Theorems.Ways.{Lands, place_lands}
 
 module _ {K V S H : Type 0} where
-  -- insertions into the table and the potential together rise by at most n
   abbrev pub RisesBy : ℕ → State K V S H → State K V S H → Type 0
   RisesBy n old new = new.counts.insertions + potential new ≤ old.counts.insertions + potential old + n
 
-  -- insertions plus potential rise by at most 3, and the insertions are paid for
   pub record StoresOne (old new : State K V S H) : Type 0 where
     pub rises : RisesBy 3 old new
     pub pays : PaysForInsertions old new
 
-  -- insertions plus potential do not rise; no entry is counted as stored or rehashed
   pub record StoresNone (old new : State K V S H) : Type 0 where
     pub rises : RisesBy 0 old new
     pub placed : new.counts.placed ≡ old.counts.placed

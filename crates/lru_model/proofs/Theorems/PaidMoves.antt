@@ -1,4 +1,3 @@
--- Moved entries plus potential are at most twice the stored entries, plus the entries that shrinks rehashed.
 use Rattle.std.proofs.Common.{ℕ, ◌+◌, ◌-◌, ◌*◌, ◌^◌, ◌<◌, ◌≤◌, Bool, inl, inr, ap, arith}
 use native.Mathlib.Decide.{dec_lt}
 use Rattle.group_table.specs.Sizes.{full_capacity}

@@ -1,4 +1,3 @@
--- An insert under a limiter with a list is an insert under the limiter alone.
 use Rattle.std.proofs.Common.{◌≡◌, ℕ, zero, suc, ◌+◌, Bool, true, false, List, [], ◌∷◌, length, Option, Some, None}
 use Rattle.std.proofs.Common.{Result, refl}
 use Rattle.std.proofs.Common.{ap, ◌∙◌, subst}

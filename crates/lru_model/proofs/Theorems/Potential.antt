@@ -75,7 +75,6 @@ module _ {K V S H : Type 0} where
       }
 
 module _ {K V S H : Type 0} where
-  -- the pairs and the growth left fit the table, the table fits the memory, and the counts fit 64 bits
   pub record IsBounded (st : State K V S H) : Type 0 where
     pub count : IsBucketCount (buckets st)
     pub addressable : buckets st < 2 ^ 63

@@ -1,4 +1,3 @@
--- Which pairs an insertion keeps, whether growth is refused or not.
 use Rattle.std.proofs.Common.{◌≡◌, ◌≢◌, ℕ, suc, ◌+◌, ◌-◌, ◌/◌, ◌<◌, ◌≤◌, ◌⊎◌, inl, inr, ◌∷◌, length}
 use Rattle.std.proofs.Common.{refl, sym, ap, ◌∙◌, arith}
 use Rattle.std.proofs.lemmas.Bool.{true≢false}
@@ -24,7 +23,6 @@ module _ {K V S H : Type 0} (rules : Rules K V S) (hash_of : H → K → ℕ) (p
     pub one : buckets old ≤ 16 → new.pairs ≡ pair ∷ without_last old.pairs
     pub same_table : buckets new ≡ buckets old
 
-  -- the pair is stored, and all others stay; if growth is refused, the table has more than 16 buckets
   pub record KeepsAll (new : State K V S H) : Type 0 where
     pub pairs : new.pairs ≡ pair ∷ old.pairs
     pub large : IsRefusedGrowth rules old → 16 < buckets old

@@ -1,4 +1,3 @@
--- Runs of steps and writes keep a limit by length and a limit by memory usage.
 use Rattle.std.proofs.Common.{◌≡◌, ℕ, ◌≤◌, Bool, length, refl, sym, ap, ◌∙◌, subst, arith, inl, inr}
 use Rattle.std.proofs.lemmas.Map.{length-set_value}
 use Rattle.lru_limits.specs.Rules.{Rules, Offers}

@@ -1,4 +1,3 @@
--- If each move keeps a relation, every step and every run keep it.
 use Rattle.std.proofs.Common.{◌≡◌, ℕ, Bool, List, inl, inr, subst, ◌∙◌}
 use Rattle.std.specs.Cmp.{IsEquivalence}
 use Rattle.std.specs.List.{IsDistinct}

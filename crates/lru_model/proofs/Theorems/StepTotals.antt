@@ -1,4 +1,3 @@
--- How calls change the sum of the costs of the pairs, whatever the costs are.
 use Rattle.std.proofs.Common.{ℕ, ◌≤◌, ◌⊎◌, inr, Bool, List, [], ◌∷◌, Result, ap, arith}
 use Rattle.std.specs.declared.alloc.AllocError.{AllocError}
 use Rattle.lru_limits.specs.Rules.{Rules, Offers}

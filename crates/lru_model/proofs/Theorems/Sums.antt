@@ -1,4 +1,3 @@
--- The running total stays the sum of the costs.
 use Rattle.std.proofs.Common.{◌≡◌, ℕ, ◌+◌, ◌≤◌, ◌++◌, Bool, true, false, cond, List, [], ◌∷◌, length, Option, Some}
 use Rattle.std.proofs.Common.{None, refl, sym, ap, ◌∙◌, subst, arith, sum_by, MatchOption}
 use Rattle.std.specs.Prelude.{option_to_list}
@@ -27,7 +26,6 @@ module _ {X : Type 0} (f : X → ℕ) where
   pub total-least : (xs ys : List X) → IsFront xs ys → total xs ≤ total ys
   total-least xs ys h = omega (arith, ap total h.1, total-append xs h.0)
 
-  -- the total of xs is the total of ys, plus the cost of the removed element, if there is one
   abbrev pub IsSplit : List X → Option X → List X → Type 0
   IsSplit xs None ys = ys ≡ xs
   IsSplit xs (Some x) ys = total ys + f x ≡ total xs

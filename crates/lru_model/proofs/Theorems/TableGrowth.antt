@@ -87,7 +87,6 @@ module _ {K V S H : Type 0} where
   }
 
 module _ {K V S : Type 0} (rules : Rules K V S) (P : S → Type 0) where
-  -- a table of `count` buckets is possible, and some limiter with the property P permits it
   pub record IsPermitted (entry_bytes count : ℕ) : Type 0 where
     pub bytes : ℕ
     pub usable : usage entry_bytes count ≡ Some bytes
@@ -96,7 +95,6 @@ module _ {K V S : Type 0} (rules : Rules K V S) (P : S → Type 0) where
     pub granted : (rules.on_grow limiter bytes).allowed ≡ true
 
 module _ {K V S H : Type 0} (rules : Rules K V S) (P : S → Type 0) where
-  -- the table has no more buckets than before, or some limiter with the property P permits the table
   abbrev pub IsNextCount : State K V S H → ℕ → Type 0
   IsNextCount old count = (count ≤ buckets old) ⊎ IsPermitted rules P old.entry_bytes count
 

@@ -1,4 +1,3 @@
--- What writing a link changes, and the chain after a bucket was taken out of it or became its newest.
 use Rattle.std.proofs.Common.{◌≡◌, ◌≢◌, ℕ, ◌<◌, List, [], ◌∷◌, length, set, Option, Some, None, ◌⊎◌, inl, inr}
 use Rattle.std.proofs.Common.{refl, ap, sym, ◌∙◌, subst, arith}
 use Rattle.std.specs.Prelude.{option_map, Contains}

@@ -1,4 +1,3 @@
--- After all entries moved and their links were rewritten, the links are a chain again.
 use Rattle.std.proofs.Common.{◌≡◌, ◌≢◌, ℕ, ◌+◌, ◌<◌, ◌≤◌, List, length, map, set, get_or, Option, Some, None, inl}
 use Rattle.std.proofs.Common.{inr, refl, ap, sym, ◌∙◌, subst, arith}
 use Rattle.std.specs.Prelude.{option_map, Contains}

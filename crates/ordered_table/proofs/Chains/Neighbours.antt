@@ -1,4 +1,3 @@
--- The neighbours of a bucket in an order, after another bucket is taken out or put in, or all buckets move.
 use Rattle.std.proofs.Common.{◌≡◌, ◌≢◌, ℕ, cond, List, [], ◌∷◌, map, Option, Some, None, inl, inr, refl, ap, sym, ◌∙◌}
 use Rattle.std.proofs.Common.{subst, eq-eqb, ne_eqb}
 use Rattle.std.specs.Prelude.{Contains, AllPairs, nat_eq, option_map}

@@ -1,4 +1,3 @@
--- A search of the linked table that calls a closure with pairs.
 use Rattle.std.proofs.Common.{◌≡◌, ℕ, Bool, true, false, List, [], ◌∷◌, refl, arith, ap, sym, ◌∙◌}
 use Rattle.std.specs.Prelude.{option_map, filter, map, cond}
 use Rattle.std.specs.List.{FoldsTo, range_with_len}

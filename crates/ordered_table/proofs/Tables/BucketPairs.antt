@@ -1,4 +1,3 @@
--- The pairs of a linked table, by their buckets.
 use Rattle.std.proofs.Common.{◌≡◌, ℕ, suc, Bool, true, false, List, [], ◌∷◌, ◌++◌, length, Some, None, refl, sym, ap}
 use Rattle.std.proofs.Common.{◌∙◌, subst, arith, append-nil, inl, inr}
 use Rattle.std.specs.Cmp.{IsEquivalence}

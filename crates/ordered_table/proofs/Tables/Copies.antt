@@ -1,4 +1,3 @@
--- A copy of a linked table has the same links in the same buckets, so the same order, and clones of the pairs.
 use Rattle.std.proofs.Common.{◌≡◌, ℕ, zero, suc, List, [], ◌∷◌, ◌++◌, length, Option, Some, None, Ok, refl, sym, ap}
 use Rattle.std.proofs.Common.{◌∙◌}
 use Rattle.std.specs.Prelude.{option_map, option_to_list, unwrap_or, Result}

@@ -1,4 +1,3 @@
--- The hashes of the keys still fit after a pair was removed, inserted or written.
 use Rattle.std.proofs.Common.{◌≡◌, ◌≢◌, ℕ, ◌<◌, true, List, length, set, Option, Some, None, inl, inr, refl, ap, sym}
 use Rattle.std.proofs.Common.{◌∙◌, subst, eq-eqb, ne_eqb}
 use Rattle.std.specs.Prelude.{option_map, unwrap_or, IfNone}

@@ -1,4 +1,3 @@
--- An order of buckets, cut at one of them, and the entries of its buckets.
 use Rattle.std.proofs.Common.{◌≡◌, ℕ, zero, suc, ◌<◌, Bool, true, false, cond, List, [], ◌∷◌, ◌++◌, length, Some, refl}
 use Rattle.std.proofs.Common.{sym, ap, ◌∙◌, subst, arith, slice_set, slice_index_or}
 use Rattle.std.specs.Prelude.{◌≢◌, nat_eq, not, Contains, AllPairs, option_to_list}

@@ -1,4 +1,3 @@
--- An entry was inserted into the first free bucket of a table, and then linked in front of the chain.
 use Rattle.std.proofs.Common.{◌≡◌, ℕ, ◌+◌, ◌<◌, List, ◌∷◌, length, Some, ap, ◌∙◌, slice_set}
 use Rattle.std.proofs.lemmas.List.{get_or-set_same}
 use Rattle.std.specs.Prelude.{Contains, option_map}

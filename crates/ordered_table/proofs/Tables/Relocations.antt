@@ -1,4 +1,3 @@
--- After its entries moved, a table is whole again: it has the same pairs in the same order, and its keys fit.
 use Rattle.std.proofs.Common.{◌≡◌, ℕ, List, [], ◌∷◌, ◌++◌, map, Some, inl, inr, refl, ap, sym, ◌∙◌, subst, arith}
 use Rattle.std.specs.Prelude.{option_map, option_to_list, unwrap_or, Contains}
 use Rattle.std.proofs.lemmas.List.{length-map}

@@ -1,4 +1,3 @@
--- What a search of the linked table says about the pairs.
 use Rattle.std.proofs.Common.{◌≡◌, ℕ, Bool, true, false, cond, List, [], ◌∷◌, Some, None, refl, sym}
 use Rattle.std.proofs.Common.{Option}
 use Rattle.std.specs.Cmp.{IsEquivalence}

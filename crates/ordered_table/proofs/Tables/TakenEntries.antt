@@ -1,4 +1,3 @@
--- The pairs that are left after an entry was taken out of the table and the chain.
 use Rattle.std.proofs.Common.{◌≡◌, ℕ, ◌+◌, List, length, ◌∙◌}
 use Rattle.group_table.specs.Link.{IsLinkType}
 use Rattle.group_table.specs.Bucket.{Slot, IsFull, bucket_states, growth_left, growth_left_at}

@@ -1,4 +1,3 @@
--- What is left of a walk over a linked table.
 use Rattle.std.proofs.Common.{◌≡◌, ℕ, ◌-◌, ◌<◌, List, [], ◌∷◌, ◌++◌, length, take, Option, Some, None, refl, sym, ap}
 use Rattle.std.proofs.Common.{◌∙◌, subst, arith, eq-eqb, ne_eqb, append-nil}
 use Rattle.std.specs.Prelude.{◌≢◌, AllPairs, Contains, option_to_list, unwrap_or}

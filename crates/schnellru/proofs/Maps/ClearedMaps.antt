@@ -1,4 +1,3 @@
--- A map whose buckets were all emptied.
 use Rattle.std.proofs.Common.{◌≡◌, ℕ, Bool, [], length, replicate, sym, ap, ◌∙◌, subst, arith}
 use Rattle.std.proofs.lemmas.List.{length-replicate}
 use Rattle.group_table.specs.Sizes.{full_capacity}

@@ -1,4 +1,3 @@
--- The newest pair of a linked table: a pair becomes the newest, or the newest is written.
 use Rattle.std.proofs.Common.{◌≡◌, ℕ, Bool, true, List, [], ◌∷◌, ◌++◌, Some, None, refl, sym, ap, ◌∙◌, subst}
 use Rattle.std.specs.Prelude.{option_to_list}
 use Rattle.std.specs.Cmp.{IsEquivalence}

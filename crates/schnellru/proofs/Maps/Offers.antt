@@ -1,4 +1,3 @@
--- The limiter was offered a new value for a pair.
 use Rattle.std.proofs.Common.{◌≡◌, ℕ, ◌<◌, Bool, true, false, List, [], ◌∷◌, length, Some, refl, option_map, ap, sym}
 use Rattle.std.proofs.Common.{◌∙◌, subst, arith, not, Ok}
 use Rattle.std.specs.Fn.{Mut}

@@ -1,4 +1,3 @@
--- A pair in a bucket of a linked table, after the limiter wrote to it.
 use Rattle.std.proofs.Common.{◌≡◌, ℕ, suc, ◌+◌, Bool, true, false, refl, Some, sym, ap, ◌∙◌, subst, arith, length}
 use Rattle.std.specs.Prelude.{if◌then◌else◌}
 use Rattle.std.specs.Cmp.{IsEquivalence}

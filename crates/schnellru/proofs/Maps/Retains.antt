@@ -1,4 +1,3 @@
--- A retain in progress, and one more call of its closure.
 use Rattle.std.proofs.Common.{◌≡◌, ℕ, ◌-◌, ◌<◌, ◌≤◌, Bool, true, false, Some, List, [], ◌∷◌, ◌++◌, length, refl, ap, sym}
 use Rattle.std.proofs.Common.{◌∙◌, subst, arith, append-nil, slice_get}
 use Rattle.std.proofs.lemmas.List.{append_assoc, length-append, nil_from_length}

@@ -1,4 +1,3 @@
--- A shrink keeps the pairs and their order, and counts the rehashed pairs.
 use Rattle.std.proofs.Common.{◌≡◌, ℕ, ◌+◌, ◌<◌, ◌≤◌, ◌⊎◌, inl, inr, Bool, length, Option, Some, sym, ap, ◌∙◌}
 use Rattle.std.proofs.Common.{subst, arith}
 use Rattle.group_table.specs.Sizes.{full_capacity, buckets_for}

@@ -1,4 +1,3 @@
--- A pair was taken out of its bucket, and the limiter was notified.
 use Rattle.std.proofs.Common.{◌≡◌, ℕ, suc, Bool, Option, Some, length, refl, sym, ap, ◌∙◌, subst}
 use Rattle.std.specs.Cmp.{IsEquivalence}
 use Rattle.group_table.proofs.ChangeLemmas.{length-removed, states-removed}

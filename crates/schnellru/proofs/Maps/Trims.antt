@@ -1,4 +1,3 @@
--- A trim in progress, and one more pair that it evicts.
 use Rattle.std.proofs.Common.{◌≡◌, ◌<◌, true, Some, [], ◌∷◌, ◌++◌, length, ap, sym, ◌∙◌, subst}
 use Rattle.std.specs.Fn.{Mut, Called}
 use Rattle.lru_limits.specs.Rules.{Rules}

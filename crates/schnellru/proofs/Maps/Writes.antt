@@ -1,4 +1,3 @@
--- A pair of a linked table is written, or becomes the newest.
 use Rattle.std.proofs.Common.{◌≡◌, ◌≢◌, ℕ, Bool, true, false, cond, List, [], ◌∷◌, ◌++◌, Some, refl, sym, ap, ◌∙◌, subst}
 use Rattle.std.proofs.Common.{◌⊎◌, inl, eq-eqb, ne_eqb}
 use Rattle.std.specs.Prelude.{option_to_list, Contains, AllPairs}

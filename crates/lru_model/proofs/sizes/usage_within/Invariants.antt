@@ -1,4 +1,3 @@
--- The greatest usage among the tables so far.
 use Rattle.lru_model.proofs.TableSizes.Budgets.{IsBest}
 use Rattle.lru_model.proofs.sizes.usage_within.Given as goal
 

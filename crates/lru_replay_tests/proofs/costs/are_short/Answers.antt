@@ -8,7 +8,6 @@ use Rattle.std.specs.declared.alloc.Global.{Global}
 use Rattle.std.specs.declared.string.String.{String}
 use Rattle.lru_replay_tests.proofs.costs.are_short.Goals as goal
 
--- a text whose value is within the limit
 abbrev IsShort : ℕ → String Global → Type 0
 IsShort limit text = length (string_bytes text) + 1 ≤ limit
 

@@ -83,13 +83,11 @@ impl Control {
     }
 }
 
-// Returns the control byte of a bucket with an entry of this hash.
 #[inline]
 pub(crate) fn tag_of(hash: u64) -> u8 {
     (hash >> 57) as u8
 }
 
-// Returns the control byte of a bucket whose entry was taken out.
 #[inline]
 pub(crate) fn emptied_byte(gives_room: usize) -> u8 {
     (gives_room & 0x7f) as u8 | DELETED

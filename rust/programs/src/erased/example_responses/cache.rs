@@ -82,7 +82,6 @@ impl ResponseCache {
         ResponseCache { alloc, entries: TenantCache::with_hasher(alloc, RandomState::with_seeds([1, 2, 3, 4])) }
     }
 
-    /// Returns the hosts in order.
     pub fn hosts(&self) -> Result<Vec<&str>, AllocError> {
         let mut hosts = Vec::new(self.alloc);
         for host in self.entries.names() {
@@ -115,7 +114,6 @@ impl ResponseCache {
         Ok(("budget set", evicted))
     }
 
-    // How many responses the host has for other paths.
     fn others(&self, host: &str, path: &str) -> u64 {
         match (self.entries.entries(&host), self.entries.contains(&host, &path)) {
             (Ok(entries), Ok(there)) => entries.saturating_sub(there as usize) as u64,

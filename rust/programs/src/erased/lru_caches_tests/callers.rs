@@ -8,7 +8,6 @@ use crate::erased::lru_caches::{BlockDevice, CountedMap, OrderedMap, PageCache, 
 use crate::erased::schnellru::ByLength;
 use crate::rattle_std::alloc::AllocError;
 
-/// Copies a block to another number.
 pub fn copy_block<D: BlockDevice<u64>>(
     cache: &mut PageCache<u64, D>,
     from: u64,
@@ -18,7 +17,6 @@ pub fn copy_block<D: BlockDevice<u64>>(
     cache.write(to, block)
 }
 
-/// Writes a block so that no crash loses it.
 pub fn write_durably<D: BlockDevice<u64>>(
     cache: &mut PageCache<u64, D>,
     n: u64,
@@ -28,7 +26,6 @@ pub fn write_durably<D: BlockDevice<u64>>(
     cache.flush()
 }
 
-/// Returns whether the key is in the map. If the key is there, writes the value under it.
 pub fn overwrite(map: &mut OrderedMap<u64, u64>, key: u64, value: u64) -> bool {
     match map.get_mut(&key) {
         Some(place) => {

@@ -8,14 +8,13 @@ use crate::erased::lru_caches::{BlockDevice, Loader, Memo, PageCache, PageError}
 use crate::erased::schnellru::{ByLength, RandomState};
 use crate::programs::lru_replay::references::calls_make_references;
 
-/// Returns an answer of a memo. If the memo did not run out of memory, the call is a reference.
+/// If the memo does not run out of memory, the call is a reference.
 fn answer<F: Fn(&String) -> u64>(memo: &mut Memo<String, u64, F, ByLength>, key: String) -> u64 {
     calls_make_references::<String, u64, RandomState>();
     memo.answer(key)
 }
 
-/// Returns a value of a loader. If the call returns `Ok`, and the loader did not run out of memory, the call is a
-/// reference.
+/// If the call returns `Ok`, and the loader does not run out of memory, the call is a reference.
 fn load<F: Fn(&String) -> Result<u64, u64>>(
     loader: &mut Loader<String, u64, F, ByLength>,
     key: String,
@@ -35,7 +34,7 @@ fn read<D: BlockDevice<u8>>(cache: &mut PageCache<u8, D>, n: u64) -> Result<u8, 
     Ok(block)
 }
 
-/// Reads a block through two page caches as in `read`. The smaller cache stays included in the larger cache.
+/// The smaller cache stays included in the larger cache.
 fn read_both<D: BlockDevice<u8>>(
     small: &mut PageCache<u8, D>,
     large: &mut PageCache<u8, D>,

@@ -10,8 +10,8 @@ use crate::programs::lru_replay::laws::{granted_calls_are_exact, lists_are_runs}
 use crate::programs::lru_replay::{Answer, Call, run_calls, run_summing};
 use crate::rattle_std::alloc::{AllocError, Global};
 
-/// Inserts two entries by a list of calls. A map that was within its limits still is. Entries of other keys keep their
-/// order, and only the oldest of them may be evicted. The stored entries pay for the moves of entries (`PaysForMoves`).
+/// A map that was within its limits still is. Entries of other keys keep their order, and only the oldest of them may
+/// be evicted. The stored entries pay for the moves of entries (`PaysForMoves`).
 fn put_both(
     alloc: Global,
     map: &mut LruMap<u64, u64, Both<ByLength, ByMemoryUsage>>,
@@ -31,7 +31,7 @@ fn put_both(
     run_calls(alloc, map, calls)
 }
 
-/// Inserts two entries by a list of calls. A map that was within its limit of cost still is afterwards.
+/// A map that was within its limit of cost still is.
 fn charge_both(
     alloc: Global,
     map: &mut LruMap<u64, u64, ByCost>,

@@ -18,7 +18,7 @@ trait Source {
     fn load(&self, text: &String) -> Result<Vec<u8>, AllocError>;
 }
 
-/// Looks up a text. If the text is not there, loads and inserts its value. Returns how many values it loaded.
+/// Returns how many values it loaded.
 fn load_at_miss<L: Source>(
     map: &mut LruMap<String, Vec<u8>, ByCost>,
     text: &String,
@@ -33,8 +33,7 @@ fn load_at_miss<L: Source>(
     Ok(1)
 }
 
-/// Looks up each text by `load_at_miss`, and returns how many values this loaded: one for each miss of a cache with
-/// this limit.
+/// Returns how many values it loaded: one for each miss of a cache with this limit.
 fn read_through<L: Source>(
     map: &mut LruMap<String, Vec<u8>, ByCost>,
     texts: &[String],
@@ -53,7 +52,7 @@ fn map_within<L: Source>(alloc: Global, limit: u64) -> LruMap<String, Vec<u8>, B
     LruMap::new(alloc, ByCost::new(limit), [1, 2, 3, 4], 40)
 }
 
-/// Reads the texts through two new maps. The map with the larger limit loads no more values.
+/// The map with the larger limit loads no more values.
 fn compare<L: Source>(
     alloc: Global,
     texts: &[String],
@@ -76,8 +75,8 @@ fn read_both<L: Source>(
     Ok((read_through(small, texts, source)?, read_through(large, texts, source)?))
 }
 
-/// Makes a text the newest. If the text is not there, inserts it with a value from `make`. If each text determines how
-/// many bytes its value has, and this number is within the limit, a successful call is a reference.
+/// If each text determines how many bytes its value has, and this number is within the limit, a successful call is a
+/// reference.
 fn remember<F: FnOnce() -> Vec<u8>>(
     map: &mut LruMap<String, Vec<u8>, ByCost>,
     text: String,
@@ -98,8 +97,7 @@ fn try_to_remember<F: FnOnce() -> Result<Vec<u8>, u64>>(
     Ok(kept)
 }
 
-/// Inserts a text under a number, with a limit of weight. If the weight of the entry is the cost of its key, and at
-/// most the limit, a successful call is a reference.
+/// If the weight of the entry is the cost of its key, and at most the limit, a successful call is a reference.
 fn insert_weighed(map: &mut LruMap<u64, String, ByWeight<16>>, key: u64, text: String) -> Result<bool, AllocError> {
     calls_make_references::<u64, String, RandomState>();
     let kept = map.insert(key, text)?;

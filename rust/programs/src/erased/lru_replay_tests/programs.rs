@@ -12,7 +12,7 @@ use crate::programs::lru_replay::references::{
 use crate::programs::lru_replay_tests::references::read_through;
 use crate::rattle_std::alloc::AllocError;
 
-/// Makes a text the newest. If the text is not there, computes its value. A successful call is a reference.
+/// A successful call is a reference.
 fn remember<F: FnOnce() -> u64>(map: &mut LruMap<String, u64>, text: String, make: F) -> Result<bool, AllocError> {
     gets_that_insert_make_references::<String, u64, F, RandomState>();
     let kept = map.ensure_newest(text, make)?;
@@ -29,7 +29,7 @@ fn try_to_remember<F: FnOnce() -> Result<u64, u64>>(
     Ok(kept)
 }
 
-/// Inserts a text that is not there. A successful call is a reference that misses.
+/// A successful call is a reference that misses.
 fn insert_new(map: &mut LruMap<String, u64>, text: String, value: u64) -> Result<bool, AllocError> {
     calls_make_references::<String, u64, RandomState>();
     programs_make_references::<String, u64, RandomState>();

@@ -10,7 +10,7 @@ use crate::programs::lru_replay::references::{
 };
 use crate::rattle_std::alloc::{AllocError, Global};
 
-/// Looks up a text. If the text is not there, computes and inserts its value. Returns how many values it computed.
+/// Returns how many values it computed.
 fn compute_at_miss<F: Fn(&String) -> u64>(
     map: &mut LruMap<String, u64>,
     text: &String,
@@ -25,7 +25,7 @@ fn compute_at_miss<F: Fn(&String) -> u64>(
     Ok(1)
 }
 
-/// Looks up each text by `compute_at_miss`, and returns how many values this computed: one for each miss of the trace.
+/// Returns how many values it computed: one for each miss of the trace.
 pub fn read_through<F: Fn(&String) -> u64>(
     map: &mut LruMap<String, u64>,
     texts: &[String],
@@ -40,9 +40,9 @@ pub fn read_through<F: Fn(&String) -> u64>(
     Ok(count)
 }
 
-/// Computes the values of the texts with two new maps. The larger map computes no more values than the smaller map. If
-/// the smaller map has `length` places and computes n values, each policy with h ≤ `length` places pays at least
-/// (length + 1 - h) / length * n times. The policy begins empty, stores each text, and may load texts ahead.
+/// The larger map computes no more values than the smaller map. If the smaller map has `length` places and computes n
+/// values, each policy with h ≤ `length` places pays at least (length + 1 - h) / length * n times. The policy begins
+/// empty, stores each text, and may load texts ahead.
 fn compare<F: Fn(&String) -> u64>(
     alloc: Global,
     texts: &[String],

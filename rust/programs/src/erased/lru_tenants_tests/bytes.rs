@@ -11,7 +11,7 @@ use crate::rattle_std::test::Fail;
 
 type Pages = ByteTenants<String, String, String>;
 
-/// Gets the page of each path of a host, or puts the page if it is not there. Returns how many pages were there.
+/// Returns how many pages were there.
 fn serve(pages: &mut Pages, host: &str, paths: Vec<String>) -> Result<u64, TenantError> {
     let mut hits = 0u64;
     for path in paths {

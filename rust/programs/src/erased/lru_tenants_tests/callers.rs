@@ -9,7 +9,6 @@ use crate::erased::schnellru::RandomState;
 use crate::programs::test_helpers::{all, check};
 use crate::rattle_std::test::Fail;
 
-/// Puts a value for one tenant.
 fn put_beside(cache: &mut TenantCache<u64, u64, u64>, name: &u64, key: u64, value: u64) -> Result<bool, TenantError> {
     cache.put(name, key, value)
 }
@@ -21,7 +20,7 @@ pub fn page_of(path: &String) -> Result<String, TenantError> {
     }
 }
 
-/// Gets the page of each path of a host, or puts the page if it is not there. Returns how many pages were there.
+/// Returns how many pages were there.
 fn serve(pool: &mut TenantPool<String, String, String>, host: &str, paths: Vec<String>) -> Result<u64, TenantError> {
     calls_spare_other_tenants::<String, String, String, ByCost, RandomState>();
     let mut hits = 0u64;

@@ -12,8 +12,6 @@ use crate::erased::schnellru::{
 use crate::rattle_std::alloc::{AllocError, Global};
 use crate::rattle_std::hash::Hash;
 
-/// Puts a value under a key, and returns whether the key is there afterwards. If the key is there, a look-up returns
-/// the value.
 fn put(map: &mut LruMap<u64, u64>, key: u64, value: u64) -> Result<bool, AllocError> {
     let kept = map.insert(key, value)?;
     if kept {
@@ -36,7 +34,6 @@ fn touch(map: &mut LruMap<u64, u64>, key: u64) -> bool {
     map.promote(&key)
 }
 
-/// If the key is there, writes a value under it. Returns whether the key is there.
 fn overwrite(map: &mut LruMap<u64, u64>, key: u64, value: u64) -> bool {
     match map.get(&key) {
         Some(place) => {
@@ -47,8 +44,7 @@ fn overwrite(map: &mut LruMap<u64, u64>, key: u64, value: u64) -> bool {
     }
 }
 
-/// Returns what the closure returns for a key, from the map if the key is there. Before and after the call, the value
-/// of each key of the map is what the closure returns for the key.
+/// Before and after the call, the value of each key of the map is what the closure returns for the key.
 fn memo<F: Fn(u64) -> u64>(map: &mut LruMap<u64, u64>, answers: F, key: u64) -> Result<u64, AllocError> {
     laws::inserts_evict_the_oldest::<u64, u64, u64, ByLength, RandomState>();
     if let Some(value) = map.get(&key) {
@@ -59,7 +55,6 @@ fn memo<F: Fn(u64) -> u64>(map: &mut LruMap<u64, u64>, answers: F, key: u64) -> 
     Ok(value)
 }
 
-/// Returns the text of a key, from the map if the key is there, and otherwise from the closure.
 fn fetch<F: Fn(&String) -> String>(
     map: &mut LruMap<String, String>,
     key: String,
@@ -74,7 +69,6 @@ fn fetch<F: Fn(&String) -> String>(
     Ok(text)
 }
 
-/// Writes 0 as each value, newest first. Nothing else changes.
 fn reset(map: &mut LruMap<String, u64>) {
     let mut walk = map.iter_mut();
     'pairs: while walk.len() > 0 {
@@ -83,7 +77,7 @@ fn reset(map: &mut LruMap<String, u64>) {
     }
 }
 
-/// Puts a number under each text into a new map. On average, growth moved each stored entry at most twice.
+/// On average, growth moves each stored entry at most twice.
 fn count_all(alloc: Global, texts: &[String]) -> Result<MoveReport, AllocError> {
     laws::runs_begin_with_maps::<String, u64, ByLength, RandomState>();
     laws::inserts_pay_for_moves::<String, u64, String, ByLength, RandomState>();
@@ -94,8 +88,7 @@ fn count_all(alloc: Global, texts: &[String]) -> Result<MoveReport, AllocError> 
     Ok(map.move_report())
 }
 
-/// Tries to put a number under each text into a new map, and evicts nothing. The table makes at most three insertions
-/// for each text, including the insertions of moved entries.
+/// The table makes at most three insertions for each text, including the insertions of moved entries.
 fn keep_all(alloc: Global, texts: &[String]) -> Result<LruMap<String, u64>, AllocError> {
     laws::runs_begin_with_maps::<String, u64, ByLength, RandomState>();
     laws::try_inserts_pay_for_moves::<String, u64, ByLength, RandomState>();
@@ -106,7 +99,6 @@ fn keep_all(alloc: Global, texts: &[String]) -> Result<LruMap<String, u64>, Allo
     Ok(map)
 }
 
-/// Puts an entry into a map. If the map was within its maximum length, it still is.
 fn put_within(map: &mut LruMap<String, u64>, key: String, value: u64) -> Result<bool, AllocError> {
     laws::calls_keep_the_length::<String, u64, ByLength, RandomState>();
     map.insert(key, value)
@@ -135,8 +127,8 @@ fn exchange(
     map.insert(new, text)
 }
 
-/// Inserts an entry, pops it, and inserts another entry. Each insert evicts only the oldest entries, both inserts pay
-/// for the entries that they move, and no two keys are equal afterwards.
+/// Each insert evicts only the oldest entries, both inserts pay for the entries that they move, and no two keys are
+/// equal afterwards.
 fn put_two(map: &mut LruMap<String, u64>, first: String, second: String, value: u64) -> Result<(), AllocError> {
     laws::runs_keep_maps::<String, u64, String, ByLength, RandomState>();
     laws::each_insert_of_a_run_evicts_the_oldest::<String, u64, String, ByLength, RandomState>();
@@ -211,7 +203,6 @@ fn put_and_show<F: FnMut(u64, u64)>(
     map.insert_with(key, value, callback)
 }
 
-/// Evicts the entries over the limit, and returns their number.
 fn trim_and_count(map: &mut LruMap<u64, u64>) -> usize {
     let _len = map.len();
     let mut count = 0usize;

@@ -8,7 +8,6 @@ use crate::erased::schnellru::{ByLength, Insertion, KeyHasher, LruMap, RandomSta
 use crate::rattle_std::alloc::AllocError;
 use crate::rattle_std::hash::Hash;
 
-/// Puts a pair into a map.
 fn put_exactly<K: Eq + Hash, V, L: Insertion<K, V, K>, S: KeyHasher<K>>(
     map: &mut LruMap<K, V, L, S>,
     key: K,

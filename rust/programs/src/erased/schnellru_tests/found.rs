@@ -6,7 +6,6 @@ use crate::rattle_std::prelude::*;
 
 use crate::erased::schnellru::LruMap;
 
-/// Writes the value of a text and makes its entry the newest, if the text is there. Returns whether the text is there.
 fn refresh(map: &mut LruMap<String, u64>, text: &str, value: u64) -> bool {
     match map.find_entry(&text) {
         Some(mut entry) => {
@@ -18,7 +17,6 @@ fn refresh(map: &mut LruMap<String, u64>, text: &str, value: u64) -> bool {
     }
 }
 
-/// Removes the entry of a text if its value is below `least`, and otherwise makes the entry the newest.
 fn take_below(map: &mut LruMap<String, u64>, text: &str, least: u64) -> Option<(String, u64)> {
     let mut entry = map.find_entry(&text)?;
     if *entry.get() < least {
@@ -28,7 +26,6 @@ fn take_below(map: &mut LruMap<String, u64>, text: &str, least: u64) -> Option<(
     None
 }
 
-/// Writes the value of a text and makes its entry the oldest, if the text is there. Returns whether the text is there.
 fn put_last(map: &mut LruMap<String, u64>, text: &str, value: u64) -> bool {
     match map.find_entry(&text) {
         Some(mut entry) => {

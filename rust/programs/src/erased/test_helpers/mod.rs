@@ -25,7 +25,6 @@ macro_rules! check {
     };
 }
 
-/// Returns whether all conditions hold.
 macro_rules! all {
     ($($holds:expr),+) => {
         $(($holds))&+
