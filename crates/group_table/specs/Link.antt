@@ -1,5 +1,5 @@
 -- The laws of a link type.
---     `IsLinkType number link most`: the laws of `LinkType`, if `most` is `MAX`.
+--     `IsLinkType number link most`: the laws of `LinkType`; `most` stands for `MAX`.
 --     `link_below laws n below`: if n is below the number of `MAX`, `link n` is not `MAX`.
 --     `narrowest_most`: the least number that `MAX` may have.
 --     `numbers_are_links`: each number up to `most` is its own link.

@@ -122,7 +122,7 @@ impl<
     L: Insertion<K, V, K>,
     S: KeyHasher<K>,
 > Memo<K, V, F, L, S> {
-    /// Returns a result of the function at a key or at an equal key. If no result is stored, calls the function and
+    /// Returns a result of the function for a key or an equal key. If no result is stored, calls the function and
     /// stores the result.
     ///
     /// Returns the result even if memory runs out, or if a limit prevents storing it.

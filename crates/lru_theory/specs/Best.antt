@@ -34,10 +34,10 @@ module _ {K : Type 0} (eq : K → K → Bool) where
   faults_ahead refer keys [] = 0
   faults_ahead refer keys (key ∷ trace) = fault eq key keys + faults_ahead refer (refer key trace keys) trace
 
-  -- how many references of the trace miss, if MIN with n places begins with no keys
+  -- how often MIN with n places misses on the trace, if MIN begins with no keys
   abbrev pub min_misses : ℕ → List K → ℕ
   min_misses n trace = faults_ahead (min_refer n) [] trace
 
-  -- how many references of the trace miss, if MIN with bypass begins with no keys
+  -- how often MIN with bypass and n places misses on the trace, if it begins with no keys
   abbrev pub bypass_misses : ℕ → List K → ℕ
   bypass_misses n trace = faults_ahead (bypass_refer n) [] trace

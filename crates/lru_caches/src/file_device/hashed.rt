@@ -15,7 +15,7 @@ use std::io::{Read, Seek, Write};
 ///
 /// A write replaces the last 8 bytes of a block by a checksum: the hash of the other bytes and of the block's number.
 /// Contracts do not see the checksum. A read returns `Ok` only if the checksum is right. So a read detects a torn or
-/// damaged block, or a block of another number, unless the hashes happen to be equal.
+/// damaged block, or a block with another number, unless the hashes happen to be equal.
 ///
 /// [`FileDevice`]: crate::FileDevice
 ///

@@ -140,7 +140,7 @@ impl<
     L: Insertion<K, V, K>,
     S: KeyHasher<K>,
 > MemoTable<K, V, Q, L, S> {
-    /// Returns the stored answer at a key or at an equal key, and makes the answer the newest.
+    /// Returns the stored answer for a key or an equal key, and makes the answer the newest.
     ///
     /// ```
     /// assert_eq!(rt; (squares.get(&3), squares.get(&4), squares.len()), (Some(9), None, 1));

@@ -22,7 +22,7 @@ impl<K, V, N: LinkType> OrderedTable<K, V, N> {
         Some(at)
     }
 
-    /// Returns the index of a full bucket in the order. The newest bucket has index 0.
+    /// Returns the position of the full bucket `b` in the order. The newest bucket has the position 0.
     ///
     /// Cost: `O(index)`.
     pub fn index_of(&self, b: usize) -> usize
