@@ -138,8 +138,8 @@ struct lru_pair lru_peek_oldest(struct lru *lru);
 /* Returns the newest entry. Nothing changes. */
 struct lru_pair lru_peek_newest(struct lru *lru);
 
-/* Returns the entry that is next older than the entry of a key. If the key is not there, or its entry is the oldest,
- * finds nothing. Nothing changes. So this loop goes over a map:
+/* Returns the entry one step older than the entry of a key. If the key is not there, or its entry is the oldest, finds
+ * nothing. Nothing changes. So this loop goes over a map:
  *
  *     for (struct lru_pair p = lru_peek_newest(&lru); p.found; p = lru_peek_older(&lru, p.key)) .. */
 struct lru_pair lru_peek_older(struct lru *lru, uint64_t key);
@@ -279,8 +279,8 @@ struct lru_popped lru_bytes_peek_oldest(struct lru_bytes *lru, uint8_t *key, siz
 struct lru_popped lru_bytes_peek_at(struct lru_bytes *lru, size_t index, uint8_t *key, size_t key_size, uint8_t *value,
                                     size_t value_size);
 
-/* Does what lru_bytes_peek_oldest does, for the entry that is next older than the entry of a key. If the key is not
- * there, or its entry is the oldest, finds nothing. To go over a map, begin with lru_bytes_peek_at(&lru, 0, ..). */
+/* Does what lru_bytes_peek_oldest does, for the entry one step older than the entry of a key. If the key is not there,
+ * or its entry is the oldest, finds nothing. To go over a map, begin with lru_bytes_peek_at(&lru, 0, ..). */
 struct lru_popped lru_bytes_peek_older(struct lru_bytes *lru, const uint8_t *key, size_t key_len, uint8_t *key_buffer,
                                        size_t key_size, uint8_t *value_buffer, size_t value_size);
 

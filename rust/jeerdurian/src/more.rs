@@ -89,11 +89,11 @@ where
     /// key's entry in the order, and `None` exactly if there is none.
     fn get_index_of(&self, key: &(impl Hash + PartialEq<K> + ?Sized)) -> Option<usize>;
 
-    /// Returns the next older entry than the entry of a key. Cost: `O(1)` expected. Proved: it is the entry behind the
+    /// Returns the entry one step older than the entry of a key. Cost: `O(1)` expected. Proved: it is the entry behind the
     /// key's entry in the order, and `None` exactly if the key is not there or its entry is the oldest.
     fn peek_older(&self, key: &(impl Hash + PartialEq<K> + ?Sized)) -> Option<(&K, &V)>;
 
-    /// Returns the next newer entry than the entry of a key. Cost: `O(1)` expected. Proved: it is the entry before the
+    /// Returns the entry one step newer than the entry of a key. Cost: `O(1)` expected. Proved: it is the entry before the
     /// key's entry in the order, and `None` exactly if the key is not there or its entry is the newest.
     fn peek_newer(&self, key: &(impl Hash + PartialEq<K> + ?Sized)) -> Option<(&K, &V)>;
 
