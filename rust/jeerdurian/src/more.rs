@@ -89,12 +89,12 @@ where
     /// key's entry in the order, and `None` exactly if there is none.
     fn get_index_of(&self, key: &(impl Hash + PartialEq<K> + ?Sized)) -> Option<usize>;
 
-    /// Returns the entry one step older than the entry of a key. Cost: `O(1)` expected. Proved: it is the entry behind the
-    /// key's entry in the order, and `None` exactly if the key is not there or its entry is the oldest.
+    /// Returns the entry one step older than the entry of a key. Cost: `O(1)` expected. Proved: it is the entry behind
+    /// the key's entry in the order, and `None` exactly if the key is not there or its entry is the oldest.
     fn peek_older(&self, key: &(impl Hash + PartialEq<K> + ?Sized)) -> Option<(&K, &V)>;
 
-    /// Returns the entry one step newer than the entry of a key. Cost: `O(1)` expected. Proved: it is the entry before the
-    /// key's entry in the order, and `None` exactly if the key is not there or its entry is the newest.
+    /// Returns the entry one step newer than the entry of a key. Cost: `O(1)` expected. Proved: it is the entry before
+    /// the key's entry in the order, and `None` exactly if the key is not there or its entry is the newest.
     fn peek_newer(&self, key: &(impl Hash + PartialEq<K> + ?Sized)) -> Option<(&K, &V)>;
 
     /// Returns the keys, the newest first. Proved: each key comes once, in the order of use, from either end.
