@@ -1,8 +1,11 @@
-//! Every public call that may change a map is a step, or several steps. So the laws on steps and on runs hold for every
-//! call.
+//! Public calls that may change a map are steps, so the laws on steps and on runs hold for these calls.
+//!
+//! A call that gets a hash has the clauses of a call below. A `drain` pops each entry that it returns. No caller's proof
+//! can use the loan of `get_or_insert`, which is a step by `writes_newest` of `EveryCall`.
+ghost use Rattle.lru_limits.specs.Admissions.{offers_of};
 ghost use Rattle.lru_model.specs.Runs.{Step, AnyStep, Run, RunWithoutInsert};
 
-use schnellru::{Insertion, KeyHasher, Limiter, LookupKey, LruMap};
+use schnellru::{Admission, Insertion, KeyHasher, Limiter, LookupKey, LruMap};
 use std::hash::Hash;
 
 fn look_up<K: Eq + Hash, V, Q: LookupKey<K>, L: Limiter<K, V>, S: KeyHasher<K>>(
@@ -30,6 +33,14 @@ fn remove<K: Eq + Hash + Drop, V: Drop, Q: LookupKey<K>, L: Limiter<K, V>, S: Ke
     map.clear();
 }
 
+fn release<K: Eq + Hash + Drop, V: Drop, L: Limiter<K, V>, S: KeyHasher<K>>(
+    map: &mut LruMap<K, V, L, S>,
+)
+    ensures { RunWithoutInsert L.rules S.hash_of map.new map.old }
+{
+    let _ = map.try_pop_oldest(|_, _| -> Result<(), ()> { Ok(()) });
+}
+
 fn resize<K: Eq + Hash + Drop, V: Drop, L: Limiter<K, V> + Drop, S: KeyHasher<K>>(
     map: &mut LruMap<K, V, L, S>,
     limiter: L,
@@ -44,6 +55,18 @@ fn resize<K: Eq + Hash + Drop, V: Drop, L: Limiter<K, V> + Drop, S: KeyHasher<K>
     map.for_each_mut(|_, _| {});
 }
 
+fn pass_on<K: Eq + Hash + Drop, V: Drop, L: Limiter<K, V> + Drop, S: KeyHasher<K>>(
+    map: &mut LruMap<K, V, L, S>,
+    limiters: (L, L),
+)
+    ensures { RunWithoutInsert L.rules S.hash_of map.new map.old }
+{
+    map.trim_with(&mut |_, _| {});
+    map.set_limiter_with(limiters.0, &mut |_, _| {});
+    map.retain_with(|_, _| true, &mut |_, _| {});
+    *map.limiter_mut() = limiters.1;
+}
+
 fn write<K: Eq + Hash, V: Drop, Q: LookupKey<K>, L: Limiter<K, V>, S: KeyHasher<K>>(
     map: &mut LruMap<K, V, L, S>,
     key: &Q,
@@ -53,6 +76,48 @@ fn write<K: Eq + Hash, V: Drop, Q: LookupKey<K>, L: Limiter<K, V>, S: KeyHasher<
 {
     let _len = map.len();
     if let Some(place) = map.get(key) {
+        *place = value;
+    }
+}
+
+fn overwrite<K: Eq + Hash, V: Drop, Q: LookupKey<K>, L: Limiter<K, V>, S: KeyHasher<K>>(
+    map: &mut LruMap<K, V, L, S>,
+    key: &Q,
+    value: V,
+)
+    ensures { RunWithoutInsert L.rules S.hash_of map.new map.old }
+{
+    let _len = map.len();
+    if let Some(place) = map.peek_mut(key) {
+        *place = value;
+    }
+}
+
+fn find<K: Eq + Hash + Drop, V: Drop, Q: LookupKey<K>, L: Limiter<K, V>, S: KeyHasher<K>>(
+    map: &mut LruMap<K, V, L, S>,
+    key: &Q,
+    value: V,
+)
+    ensures { RunWithoutInsert L.rules S.hash_of map.new map.old }
+{
+    if let Some(mut entry) = map.find_entry(key) {
+        entry.promote();
+        entry.demote();
+        *entry.get_mut() = value;
+        entry.remove_entry();
+    }
+}
+
+fn walk<K: Eq + Hash, V: Drop, L: Limiter<K, V>, S: KeyHasher<K>>(
+    map: &mut LruMap<K, V, L, S>,
+    value: V,
+)
+    ensures { RunWithoutInsert L.rules S.hash_of map.new map.old }
+{
+    let _len = map.len();
+    let mut walk = map.iter_mut();
+    if walk.len() > 0 {
+        let (_, place) = walk.lend_next();
         *place = value;
     }
 }
@@ -69,6 +134,43 @@ fn insert<
     let _ = map.insert(keys.0, values.0);
     map.update(keys.1, values.1);
     let _ = map.insert_and_keep(keys.2, values.2);
+}
+
+fn insert_with<
+    K: Eq + Hash + Drop,
+    V: Drop,
+    I: LookupKey<K> + Drop,
+    L: Insertion<K, V, I>,
+    S: KeyHasher<K>,
+>(map: &mut LruMap<K, V, L, S>, keys: (I, I, I, I), values: (V, V, V, V))
+    ensures { Run (Step L.rules L.offers I.names S.hash_of) map.new map.old }
+{
+    let _ = map.insert_with(keys.0, values.0, &mut |_, _| {});
+    let _ = map.insert_full(keys.1, values.1, &mut |_, _| {});
+    map.update_with(keys.2, values.2, &mut |_, _| {});
+    if map.peek_key_value(&keys.3).is_none() {
+        let hash = map.hasher().hash_named(&keys.3);
+        let _ = map.insert_absent(hash, keys.3, values.3, &mut |_, _| {});
+    }
+}
+
+fn extend<K: Eq + Hash + Drop, V: Drop, L: Insertion<K, V, K>, S: KeyHasher<K>>(
+    map: &mut LruMap<K, V, L, S>,
+    entries: Vec<(K, V)>,
+)
+    ensures { Run (Step L.rules L.offers K.eq S.hash_of) map.new map.old }
+{
+    let _ = map.try_extend(entries);
+}
+
+fn try_insert<K: Eq + Hash + Drop, V: Drop, L: Admission<K, V> + Copy, S: KeyHasher<K>>(
+    map: &mut LruMap<K, V, L, S>,
+    key: K,
+    value: V,
+)
+    ensures { Run (Step L.rules (offers_of L.terms) K.eq S.hash_of) map.new map.old }
+{
+    let _ = map.try_insert(key, value);
 }
 
 fn make<
@@ -99,4 +201,18 @@ fn write_newest<K: Eq + Hash, V: Drop, L: Limiter<K, V>, S: KeyHasher<K>>(
     if let Some(place) = map.newest_mut() {
         *place = value;
     }
+}
+
+fn insert_and_look_up<
+    K: Eq + Hash + Drop,
+    V: Drop,
+    I: LookupKey<K> + Drop,
+    Q: LookupKey<K>,
+    L: Insertion<K, V, I>,
+    S: KeyHasher<K>,
+>(map: &mut LruMap<K, V, L, S>, inserted: I, value: V, key: &Q)
+    ensures { Run (AnyStep L.rules L.offers I.names S.hash_of) map.new map.old }
+{
+    let _ = map.insert(inserted, value);
+    look_up(map, key);
 }

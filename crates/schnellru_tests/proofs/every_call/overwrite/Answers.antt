@@ -1,0 +1,11 @@
+use Rattle.std.proofs.Common.{refl}
+use Rattle.lru_model.specs.Runs.{ends}
+use Rattle.lru_model.proofs.EveryCall.{writes_value}
+use Rattle.schnellru_tests.proofs.every_call.overwrite.Goals as goal
+
+pub returns-in-Some : goal.returns-in-Some
+returns-in-Some g c =
+    writes_value (g.Q.LookupKey.names c.args.key.now) c.args.value c.len-len.ensures.map.sized refl
+
+pub returns-in_default : goal.returns-in_default
+returns-in_default g c = ends
