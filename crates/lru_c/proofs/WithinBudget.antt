@@ -1,8 +1,7 @@
 use Rattle.std.proofs.Common.{◌≡◌, ◌≤◌, ◌+◌, ℕ, Bool, Option, List, [], ◌∷◌, length, Ok, inl}
 use Rattle.std.proofs.Common.{inr, refl, sym, ap, ◌∙◌, subst, arith}
 use Rattle.std.specs.Prelude.{vec_len}
-use Rattle.lru_limits.specs.Budget.{weighs-sums}
-use Rattle.lru_limits.specs.Budgeted.{weighs-budgeted}
+use Rattle.lru_limits.specs.Budget.{weighs-sums, weighs-budgeted}
 use Rattle.lru_model.specs.Calls.{Remove, promoted, cleared}
 use Rattle.lru_model.specs.Runs.{Step}
 use Rattle.lru_model.specs.Runs.Step.{inserts, gets, removes, pops_oldest, clears, reserves, trims}

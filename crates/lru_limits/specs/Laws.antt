@@ -2,6 +2,7 @@
 --     `IsLookup names eq query_input key_input`: the laws of `LookupKey`. A query q writes `query_input q` to a hasher,
 --         and a key k writes `key_input k`.
 --     `IsInsertion names eq offers`: the laws of `Insertion`.
+--     `ChangesNoPair rules`: `on_removed` of the limiter changes no removed entry.
 --     `IsAccount rules offers cost account`: the laws of `Summing`.
 --     `kept_value r`: the new value if r accepts the new value, or else the old value.
 use Rattle.std.specs.Prelude.{◌≡◌, ◌≤◌, ◌+◌, ◌-◌, ℕ, Bool, List, Some, None, IsTrue, if◌then◌else◌}
@@ -42,3 +43,7 @@ pub record IsAccount {K V S I : Type 0} (rules : Rules K V S) (offers : Offers K
   -- after a clear the running total is 0
   pub empties : (s : S) → account (rules.on_cleared s) ≡ 0
   pub keeps : (s : S) (n : ℕ) → account (rules.on_grow s n).limiter ≡ account s
+
+pub record ChangesNoPair {K V S : Type 0} (rules : Rules K V S) : Type 0 where
+  pub key : (s : S) (k : K) (v : V) → (rules.on_removed s k v).key ≡ k
+  pub value : (s : S) (k : K) (v : V) → (rules.on_removed s k v).value ≡ v

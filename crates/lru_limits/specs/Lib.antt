@@ -8,7 +8,6 @@ pub mod Mixing
 pub mod Hashing
 pub mod Admissions
 pub mod Budget
-pub mod Budgeted
 pub mod Both
 pub mod Limits
 pub mod Bytes

@@ -11,7 +11,7 @@
 --     keeps_run                `insert_and_keep`
 --     pops_if, tries_pop       `pop_oldest_if`, `try_pop_oldest`
 --     sets_and_trims           `set_limiter`, `set_limiter_with`
---     gets_and_writes          `get`, and `get_by_hash` if it finds a pair
+--     gets_and_writes          `get` and `get_by_hash` if they find a pair
 --     writes_value             `peek_mut`, `peek_by_hash_mut`
 --     writes_newest            `newest_mut`, and the loan of `get_or_insert`
 --     writes_all               `for_each_mut`
@@ -31,18 +31,17 @@ use Rattle.std.specs.Fn.{Mut}
 use Rattle.std.specs.Prelude.{IfOk, OnErr}
 use Rattle.std.specs.declared.alloc.AllocError.{AllocError}
 use Rattle.lru_limits.specs.Rules.{Rules, Offers}
-use Rattle.lru_model.specs.Calls.{Get, found, absent, promoted, written, RemoveEntry}
+use Rattle.lru_model.specs.Calls.{promoted, written, RemoveEntry}
 use Rattle.lru_model.specs.Callbacks.{InsertPasses}
 use Rattle.lru_model.specs.Extends.{InsertsAll, no_insert, one_insert_more, FailsAt}
-use Rattle.lru_model.specs.GetOrInserts.{MakesNewest, got, inserted}
-use Rattle.lru_model.specs.IfMade.{MakesNewestIfMade, failed, as_made}
+use Rattle.lru_model.specs.GetOrInserts.{MakesNewest, got, inserted, MakesNewestIfMade, failed, as_made}
 use Rattle.lru_model.specs.Lists.{set_newest, set_value_at, keys_of}
 use Rattle.lru_model.specs.Pops.{PopOldestIf, empty, rejected, accepted, TryPopOldest, no_pair, popped}
 use Rattle.lru_model.specs.Pops.{failed as release_failed}
 use Rattle.lru_model.specs.Retains.{Retains}
-use Rattle.lru_model.specs.Runs.{Step, inserts, makes_newest, updates, gets, demotes, removes, pops_oldest}
+use Rattle.lru_model.specs.Runs.{Step, inserts, updates, gets, demotes, removes, pops_oldest}
 use Rattle.lru_model.specs.Runs.{pops_newest, drains, clears, reserves, shrinks, trims, retains, AnyStep, calls, writes}
-use Rattle.lru_model.specs.Runs.{sets_limiter, Run, ends, goes_on, no_offers, no_keys, StepWithoutInsert, RunWithoutInsert}
+use Rattle.lru_model.specs.Runs.{sets_limiter, Run, ends, goes_on, no_offers, no_keys, RunWithoutInsert}
 use Rattle.lru_model.specs.State.{State, IsSized, IsMap, Trims}
 use Rattle.lru_model.specs.Written.{WritesAll, WritesEach}
 use Rattle.lru_model.proofs.PassingLemmas.{plain_insert}
@@ -51,10 +50,9 @@ use Rattle.lru_model.proofs.States.RemovedPairs.{value_removed}
 
 module _ {K V S H I : Type 0} {rules : Rules K V S} {hash_of : H → K → ℕ} (offers : Offers K V S I)
     (names : I → K → Bool) where
-  pub without_insert : (old new : State K V S H) → StepWithoutInsert rules hash_of old new
+  pub without_insert : (old new : State K V S H) → Step rules no_offers no_keys hash_of old new
       → Step rules offers names hash_of old new
   without_insert old new (inserts key value result h) = absurd key
-  without_insert old new (makes_newest value key result h) = absurd key
   without_insert old new (updates key value result h) = absurd key
   without_insert old new (gets test e) = gets test e
   without_insert old new (demotes test e) = demotes test e
@@ -155,12 +153,11 @@ module _ {K V S H I : Type 0} {rules : Rules K V S} {offers : Offers K V S I} {n
   writes_value {old = old} test value sized e =
       one_step (writes test value e) (subst IsSized (sym e) (written_sized old test value sized))
 
-  pub gets_and_writes : {new old : State K V S H} (test : K → Bool) {result : Option V} → IsSized old
-      → Get test old result new → Run (AnyStep rules offers names hash_of) new old
-  gets_and_writes {old = old} test sized (found value left there is e) =
+  pub gets_and_writes : {new old : State K V S H} (test : K → Bool) (value : V) → IsSized old
+      → new ≡ written test value (promoted test old) → Run (AnyStep rules offers names hash_of) new old
+  gets_and_writes {old = old} test value sized e =
       let kept = promoted_sized old test sized in
-      goes_on (promoted test old) (calls (gets test refl)) kept (writes_value test left kept e)
-  gets_and_writes test sized (absent none is e) = no_step e
+      goes_on (promoted test old) (calls (gets test refl)) kept (writes_value test value kept e)
 
   extends : {old new : State K V S H} {pairs : List (I × V)} → InsertsAll rules offers names hash_of old pairs new
       → (end : State K V S H) → Run (Step rules offers names hash_of) end new

@@ -1,10 +1,10 @@
 -- How a map changes at a get, a write, a removal, a pop or a clear. Every other kind of call has a file of its own.
 --     `names`: whether a key is the looked-up key.
-use Rattle.std.specs.Prelude.{◌≡◌, Bool, List, [], Option, Some, None, option_map, replicate}
+use Rattle.std.specs.Prelude.{◌≡◌, Bool, List, [], Option, option_map, replicate}
 use Rattle.std.specs.Map.{set_value}
 use Rattle.group_table.specs.Bucket.{empty}
 use Rattle.lru_limits.specs.Rules.{Rules}
-use Rattle.lru_model.specs.Lists.{first, last, without_first, without_last, lookup, lookup_entry, without, front}
+use Rattle.lru_model.specs.Lists.{first, last, without_first, without_last, lookup_entry, without, front}
 use Rattle.lru_model.specs.Lists.{front_places, back, back_places}
 use Rattle.lru_model.specs.State.{State, buckets, Contents, contents, Leaves, after_removal}
 
@@ -26,16 +26,6 @@ module _ {K V S H : Type 0} where
   -- the map after the named key got this value, if the key is there
   abbrev pub written : (K → Bool) → V → State K V S H → State K V S H
   written names value st = record st { pairs = set_value names st.pairs value }
-
-  -- A get lends the value of the named key, and makes the pair of this key the newest. The caller may write through the
-  -- loan, and `left` is the value after the loan. If the key is not there, nothing changes.
-  pub data Get (names : K → Bool) (old : State K V S H) (result : Option V) (new : State K V S H) : Type 0 where
-    found : (value left : V) → lookup names old.pairs ≡ Some value →
-        result ≡ Some value → new ≡ written names left (promoted names old) →
-        Get names old result new
-    absent : lookup names old.pairs ≡ None →
-        result ≡ None → new ≡ old →
-        Get names old result new
 
 module _ {K V S : Type 0} (rules : Rules K V S) where
   -- the removed pair after `on_removed` of the limiter, or `None` if no pair is removed

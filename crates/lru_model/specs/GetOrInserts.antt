@@ -1,6 +1,7 @@
--- What `ensure_newest` and `get_or_insert` do: they look up a key, and insert the key if the key is not there.
+-- What `ensure_newest` and `get_or_insert` do: they look up a key, and insert the key if the key is not there. In their
+-- fallible forms, the closure may fail.
 --     `makes v`: the closure may return v.
-use Rattle.std.specs.Prelude.{◌≡◌, ℕ, Bool, true, Some, None, Result, Ok, OnErr}
+use Rattle.std.specs.Prelude.{◌≡◌, ℕ, Bool, true, false, length, Some, None, Result, Ok, Err, OnErr, IsErrOf}
 use Rattle.std.specs.declared.alloc.AllocError.{AllocError}
 use Rattle.lru_limits.specs.Rules.{Rules, Offers}
 use Rattle.lru_model.specs.Lists.{lookup, lookup_entry}
@@ -8,6 +9,8 @@ use Rattle.lru_model.specs.State.{State}
 use Rattle.lru_model.specs.Calls.{promoted}
 use Rattle.lru_model.specs.Inserts.{Insert, IsOutOfMemory}
 use Rattle.lru_model.specs.Theorems.{IsNewest}
+use Rattle.lru_model.specs.declared.results.GetOrInsertError.{GetOrInsertError}
+use Rattle.lru_model.specs.declared.results.GetOrInsertError.TheVariants.{Memory, Caller}
 
 module _ {K V S H I : Type 0} (rules : Rules K V S) (offers : Offers K V S I) (names : I → K → Bool)
     (hash_of : H → K → ℕ) where
@@ -26,17 +29,43 @@ module _ {K V S H I : Type 0} (rules : Rules K V S) (offers : Offers K V S I) (n
   abbrev pub IsOutOfMemoryFor : (makes : V → Type 0) → I → State K V S H → State K V S H → Type 0
   IsOutOfMemoryFor makes i old new = (v : V) × makes v × IsOutOfMemory rules offers names hash_of i v old new
 
-module _ {K V S H E : Type 0} where
-  -- If the result is true, the pair of the key is the newest. If the result is false, or if it is an error, the key is
-  -- not there.
-  abbrev pub SaysNewest : (K → Bool) → Result Bool E → State K V S H → Type 0
-  SaysNewest names (Ok true) new = IsNewest names new.pairs
-  SaysNewest names result new = lookup_entry names new.pairs ≡ None
+module _ {K V S H E : Type 0} (rules : Rules K V S) where
+  -- If the result is true, the pair of the key is the newest, and if the key was inserted, the limiter is not over its
+  -- limit. If the result is false, or if it is an error, the key is not there.
+  abbrev pub SaysNewest : (K → Bool) → State K V S H → Result Bool E → State K V S H → Type 0
+  SaysNewest names old (Ok true) new = IsNewest names new.pairs
+      × (lookup names old.pairs ≡ None → rules.is_over_the_limit new.limiter (length new.pairs) ≡ false)
+  SaysNewest names old result new = lookup_entry names new.pairs ≡ None
 
 module _ {K V S H I : Type 0} (rules : Rules K V S) (offers : Offers K V S I) (names : I → K → Bool)
     (hash_of : H → K → ℕ) where
   pub record GetsOrInserts (makes : V → Type 0) (i : I) (old : State K V S H) (result : Result Bool AllocError)
       (new : State K V S H) : Type 0 where
     pub step : MakesNewest rules offers names hash_of makes i old result new
-    pub says : SaysNewest (names i) result new
+    pub says : SaysNewest rules (names i) old result new
     pub out_of_memory : OnErr result (IsOutOfMemoryFor rules offers names hash_of makes i old new)
+
+-- the result of an insert, with the error `Memory` in place of `AllocError`
+abbrev pub or_memory : {E : Type 0} → Result Bool AllocError → Result Bool (GetOrInsertError E)
+or_memory (Ok kept) = Ok kept
+or_memory (Err e) = Err Memory
+
+module _ {K V S H I E : Type 0} (rules : Rules K V S) (offers : Offers K V S I) (names : I → K → Bool)
+    (hash_of : H → K → ℕ) where
+  -- If the closure fails, nothing changes, and the call returns the error of the closure. If the closure is not called,
+  -- or succeeds, the call does what `MakesNewest` says. If memory runs out, the call returns `Memory`.
+  pub data MakesNewestIfMade (makes : Result V E → Type 0) (i : I) (old : State K V S H)
+      (result : Result Bool (GetOrInsertError E)) (new : State K V S H) : Type 0 where
+    failed : lookup (names i) old.pairs ≡ None →
+        (e : E) → makes (Err e) → result ≡ Err (Caller e) → new ≡ old →
+        MakesNewestIfMade makes i old result new
+    as_made : (flag : Result Bool AllocError) →
+        MakesNewest rules offers names hash_of (λ v. makes (Ok v)) i old flag new → result ≡ or_memory flag →
+        MakesNewestIfMade makes i old result new
+
+  pub record GetsOrInsertsIfMade (makes : Result V E → Type 0) (i : I) (old : State K V S H)
+      (result : Result Bool (GetOrInsertError E)) (new : State K V S H) : Type 0 where
+    pub step : MakesNewestIfMade makes i old result new
+    pub says : SaysNewest rules (names i) old result new
+    pub out_of_memory : IsErrOf result Memory
+        → IsOutOfMemoryFor rules offers names hash_of (λ v. makes (Ok v)) i old new

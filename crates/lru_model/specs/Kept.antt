@@ -10,11 +10,6 @@ use Rattle.lru_model.specs.State.{State, Contents, contents, buckets, growth_lef
 use Rattle.lru_model.specs.Inserts.{replacement, with_old_value, MayGive}
 use Rattle.lru_model.specs.Theorems.{Stores}
 
--- `on_removed` of the limiter changes no removed pair
-pub record ChangesNoPair {K V S : Type 0} (rules : Rules K V S) : Type 0 where
-  pub key : (s : S) (k : K) (v : V) → (rules.on_removed s k v).key ≡ k
-  pub value : (s : S) (k : K) (v : V) → (rules.on_removed s k v).value ≡ v
-
 module _ {K V S H I : Type 0} (rules : Rules K V S) (offers : Offers K V S I) (names : I → K → Bool) where
   -- A value is lost only if the insert replaces or rejects the value. After the insert, each old pair, and the pair
   -- that the limiter returned for a new key, is in the map or was passed to the callback. `passed` lists the pairs that

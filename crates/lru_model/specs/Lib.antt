@@ -12,17 +12,14 @@ pub mod Reservations
 pub mod Shrinks
 pub mod Theorems
 pub mod GetOrInserts
-pub mod IfMade
 pub mod Exact
 pub mod Kept
 pub mod ByHash
 pub mod Clones
 pub mod Drains
 pub mod Runs
-pub mod RunEvictions
 pub mod Written
 pub mod Retains
 pub mod TryInserts
 pub mod PaidInsertions
 pub mod Updates
-pub mod Bytes

@@ -1,4 +1,5 @@
--- How one call changes a map (`Step`), and how several calls, one after another, change a map (`Run`).
+-- How one call changes a map (`Step`), and how several calls, one after another, change a map (`Run`). What each insert
+-- of a run evicts (`InsertEvictsOldest`).
 --     `rules`, `offers`: the limiter's `Rules` and `Offers` (`lru_limits`).
 --     `names i k`: the key i of a call names k.
 --     `hash_of h k`: the hash of k by the hasher h.
@@ -6,14 +7,14 @@ use Rattle.std.specs.Prelude.{◌≡◌, ◌⊎◌, ℕ, Bool, true, false, List
 use Rattle.std.specs.declared.alloc.AllocError.{AllocError}
 use Rattle.lru_limits.specs.Rules.{Rules, Offers}
 use Rattle.lru_model.specs.Lists.{lookup_entry}
-use Rattle.lru_model.specs.State.{State, IsSized, Leaves, Trims}
+use Rattle.lru_model.specs.State.{State, contents, IsSized, Leaves, Trims}
 use Rattle.lru_model.specs.Calls.{promoted, demoted, written, Remove, PopOldest, PopNewest, cleared}
 use Rattle.lru_model.specs.Drains.{Drained}
-use Rattle.lru_model.specs.GetOrInserts.{MakesNewest}
-use Rattle.lru_model.specs.Inserts.{Insert}
+use Rattle.lru_model.specs.Inserts.{Insert, replacement}
 use Rattle.lru_model.specs.Reservations.{Reserve}
 use Rattle.lru_model.specs.Retains.{retained}
 use Rattle.lru_model.specs.Shrinks.{Shrink}
+use Rattle.lru_model.specs.Theorems.{EvictsOldest}
 use Rattle.lru_model.specs.Updates.{Update}
 use Rattle.lru_model.specs.declared.results.Updated.{Updated}
 use Rattle.lru_model.specs.declared.results.ReserveError.{ReserveError}
@@ -26,12 +27,11 @@ module _ {K V S H I : Type 0} (rules : Rules K V S) (offers : Offers K V S I) (n
     (hash_of : H → K → ℕ) where
   -- How one call changes a map. A step of `AnyStep` may also be a change of the limiter, or a write through a
   -- reference. A call that only reads is no step. `gets` is a look-up by a hash, or by a key of any type. If the
-  -- look-up finds a pair, it promotes this pair. All inserted and updated keys have one type, I.
+  -- look-up finds a pair, it promotes this pair. A get that inserts is `gets` or `inserts`. All inserted and updated
+  -- keys have one type, I.
   pub data Step (old new : State K V S H) : Type 0 where
     inserts : (key : I) (value : V) (result : Result Bool AllocError)
         → Insert rules offers names hash_of key value old result new → Step old new
-    makes_newest : (value : V) (key : I) (result : Result Bool AllocError) →
-        MakesNewest rules offers names hash_of (λ made. made ≡ value) key old result new → Step old new
     updates : (key : I) (value : V) (result : Updated V) → Update rules offers names key value old result new
         → Step old new
     gets : (test : K → Bool) → new ≡ promoted test old → Step old new
@@ -67,7 +67,6 @@ module _ {K V S H I : Type 0} (rules : Rules K V S) (offers : Offers K V S I) (n
   -- closure rejects.
   abbrev pub NamesOnly : (test : K → Bool) → (old new : State K V S H) → AnyStep old new → Type 0
   NamesOnly test old new (calls (inserts key value result h)) = AreAmong (names key) test
-  NamesOnly test old new (calls (makes_newest value key result h)) = AreAmong (names key) test
   NamesOnly test old new (calls (updates key value result h)) = AreAmong (names key) test
   NamesOnly test old new (calls (gets named e)) = AreAmong named test
   NamesOnly test old new (calls (demotes named e)) = AreAmong named test
@@ -81,6 +80,13 @@ module _ {K V S H I : Type 0} (rules : Rules K V S) (offers : Offers K V S I) (n
   -- a step that names only keys that pass the test
   abbrev pub StepAmong : (K → Bool) → State K V S H → State K V S H → Type 0
   StepAmong test old new = (step : AnyStep old new) × NamesOnly test old new step
+
+  -- An insert either evicts only the oldest pairs, or removes only the pair of the inserted key because the limiter
+  -- rejected the new value.
+  abbrev pub InsertEvictsOldest : (old new : State K V S H) → AnyStep old new → Type 0
+  InsertEvictsOldest old new (calls (inserts key value result h)) = EvictsOldest (names key)
+      (λ pair. (replacement rules offers names pair key value (contents old)).taken ≡ false) old.pairs new.pairs
+  InsertEvictsOldest old new step = Unit {0}
 
 -- the `names` of calls that neither insert nor update a key
 abbrev pub no_keys : {K : Type 0} → ⊥ → K → Bool
@@ -108,12 +114,16 @@ pub data Run {K V S H : Type 0} (IsStep : State K V S H → State K V S H → Ty
   goes_on : {old : State K V S H} (mid : State K V S H) → IsStep old mid → IsSized mid → Run IsStep new mid
       → Run IsStep new old
 
-module _ {K V S H : Type 0} (rules : Rules K V S) (hash_of : H → K → ℕ) where
-  -- A call other than an insert, a get that inserts, or an update. Such a call is also a `Step` for any type I of
-  -- inserted keys (`without_insert` in `proofs/EveryCall`).
-  abbrev pub StepWithoutInsert : (old new : State K V S H) → Type 0
-  StepWithoutInsert = Step rules no_offers no_keys hash_of
+module _ {K V S H : Type 0} {IsStep : State K V S H → State K V S H → Type 0}
+    (Holds : (old new : State K V S H) → IsStep old new → Type 0) where
+  -- `Holds` is true of each step of the run
+  abbrev pub EachStep : {new old : State K V S H} → Run IsStep new old → Type 0
+  EachStep ends = Unit {0}
+  EachStep (goes_on {old} mid step sized run) = Holds old mid step × EachStep run
 
-  -- steps of `StepWithoutInsert`, writes of values, and changes of the limiter, one after another
+module _ {K V S H : Type 0} (rules : Rules K V S) (hash_of : H → K → ℕ) where
+  -- Calls other than an insert, a get that inserts, or an update, and writes of values, and changes of the limiter, one
+  -- after another. Such a run is also a `Run` for any type I of inserted keys (`run_without_insert` in
+  -- `proofs/EveryCall`).
   abbrev pub RunWithoutInsert : (new old : State K V S H) → Type 0
   RunWithoutInsert = Run (AnyStep rules no_offers no_keys hash_of)

@@ -1,11 +1,12 @@
--- Definitions for the laws in `src/laws`: what an insert evicts and stores, what the result of an insert says, and the
--- cost of moves.
+-- Definitions for the laws in `src/laws`: what an insert evicts and stores, what the result of an insert says, the cost
+-- of moves, and the bytes of a map with one limit for its table and what its entries own.
 use Rattle.std.specs.Prelude.{◌≡◌, ℕ, ◌+◌, ◌-◌, ◌*◌, ◌/◌, ◌^◌, ◌≤◌, ◌<◌, Bool, true, false, List, ◌∷◌, length}
 use Rattle.std.specs.Prelude.{sum_by, not}
 use Rattle.std.specs.List.{filter}
 use Rattle.std.specs.Prelude.{Some, None, IfSome, Result, Ok, OnErr}
 use Rattle.std.specs.declared.alloc.AllocError.{AllocError}
 use Rattle.group_table.specs.Sizes.{full_capacity}
+use Rattle.lru_limits.specs.Bytes.{Bytes}
 use Rattle.lru_limits.specs.Rules.{Rules, Offers}
 use Rattle.lru_model.specs.Sizes.{usage}
 use Rattle.lru_model.specs.Lists.{first, IsFront, lookup_entry, without}
@@ -29,14 +30,22 @@ module _ {K V S H : Type 0} where
         new.counts.moved + potential new + 2 * old.counts.placed
         ≤ old.counts.moved + potential old + 2 * new.counts.placed
 
-  -- The count `moved`, plus the potential, rises by at most 2 for each stored entry, plus 1 for each entry that a
-  -- shrink rehashed. This bound holds until the count `placed` or `shrunk` stops at its maximum.
-  pub record PaysForMoves (old new : State K V S H) : Type 0 where
+  -- The number that `count` reads, plus the potential, rises by at most m for each stored entry, plus n for each entry
+  -- that a shrink rehashed. This bound holds until the count `placed` or `shrunk` stops at its maximum.
+  pub record PaysFor (count : Counts → ℕ) (m n : ℕ) (old new : State K V S H) : Type 0 where
     pub placed : old.counts.placed ≤ new.counts.placed
     pub shrunk : old.counts.shrunk ≤ new.counts.shrunk
-    pub moved : new.counts.placed < 2 ^ 64 - 1 → new.counts.shrunk < 2 ^ 64 - 1 →
-        new.counts.moved + potential new + 2 * old.counts.placed + old.counts.shrunk
-        ≤ old.counts.moved + potential old + 2 * new.counts.placed + new.counts.shrunk
+    pub rise : new.counts.placed < 2 ^ 64 - 1 → new.counts.shrunk < 2 ^ 64 - 1 →
+        count new.counts + potential new + m * old.counts.placed + n * old.counts.shrunk
+        ≤ count old.counts + potential old + m * new.counts.placed + n * new.counts.shrunk
+
+  -- the bound for moves of entries
+  abbrev pub PaysForMoves : State K V S H → State K V S H → Type 0
+  PaysForMoves = PaysFor (λ counts. counts.moved) 2 1
+
+  -- the bound for insertions into the table, if calls reserve growth only when no growth is left
+  abbrev pub PaysForInsertions : State K V S H → State K V S H → Type 0
+  PaysForInsertions = PaysFor (λ counts. counts.insertions) 3 2
 
   abbrev pub UsesAtMost : ℕ → State K V S H → Type 0
   UsesAtMost most st = (bytes : ℕ) × (usage st.entry_bytes (buckets st) ≡ Some bytes) × (bytes ≤ most)
@@ -113,3 +122,21 @@ module _ {K V S H I : Type 0} (rules : Rules K V S) (offers : Offers K V S I) (n
 pub record KeepsValues {K V S I : Type 0} (offers : Offers K V S I) : Type 0 where
   pub given : (s : S) (n : ℕ) (i : I) (v : V) (t : S) (k : K) (w : V) → offers.on_insert s n i v t (Some (k, w)) → w ≡ v
   pub replaced : (s : S) (n : ℕ) (k : K) (i : I) (v w : V) → (offers.on_replace s n k i v w).new_value ≡ w
+
+-- `bytes_of k v`: how many bytes the pair of k and v owns
+module _ {K V S H : Type 0} (bytes_of : K → V → ℕ) where
+  -- the bytes of the table plus the bytes that the pairs own are at most n
+  abbrev pub TakesAtMost : ℕ → State K V S H → Type 0
+  TakesAtMost n st = (table : ℕ) × (usage st.entry_bytes (buckets st) ≡ Some table)
+      × (table + sum_by (λ pair. bytes_of pair.0 pair.1) st.pairs ≤ n)
+
+module _ {K V H : Type 0} (bytes_of : K → V → ℕ) where
+  -- The limiter counts exactly the bytes that the pairs own, and at least the bytes that the table uses.
+  pub record CountsBytes (st : State K V Bytes H) : Type 0 where
+    pub table : UsesAtMost st.limiter.table st
+    pub owned : IsSummed bytes_of (λ b. b.owned) st
+
+  -- the limiter counts the bytes of the map (`CountsBytes`), and the sum of the two counts is at most the limit
+  pub record KeepsBytes (st : State K V Bytes H) : Type 0 where
+    pub counts : CountsBytes st
+    pub within : st.limiter.owned + st.limiter.table ≤ st.limiter.limit

@@ -3,7 +3,8 @@ use Rattle.std.proofs.Common.{◌≡◌, ℕ, Bool, Some, None, refl, subst, inl
 use Rattle.lru_limits.specs.Rules.{Rules, Offers}
 use Rattle.lru_model.proofs.PassingLemmas.{plain_insert}
 use Rattle.lru_model.specs.Calls.{written, removal}
-use Rattle.lru_model.specs.Runs.{Step, inserts, makes_newest, updates, gets, demotes, removes, pops_oldest}
+use Rattle.lru_model.specs.GetOrInserts.{got, inserted}
+use Rattle.lru_model.specs.Runs.{Step, inserts, updates, gets, demotes, removes, pops_oldest}
 use Rattle.lru_model.specs.Runs.{pops_newest, drains, clears, reserves, shrinks, trims, AreAmong, NamesOnly, AnyStep}
 use Rattle.lru_model.specs.Runs.{calls as any_call, writes, sets_limiter as sets, StepAmong, StepOrWrite}
 use Rattle.lru_model.specs.Runs.{StepOrKeptWrite}
@@ -38,7 +39,10 @@ module _ {K V S H : Type 0} {rules : Rules K V S} {offers : Offers K V S K} {eq 
   step_kind (calls.Insert k v) reply (result, h, is) = calls_map (inserts k v result h) (λ test among. among)
   step_kind (calls.InsertWith k v) reply (r, h, is) =
       calls_map (inserts k v r.0 (plain_insert h)) (λ test among. among)
-  step_kind (calls.GetOrInsert k v) reply (result, h, is) = calls_map (makes_newest v k result h) (λ test among. among)
+  step_kind (calls.GetOrInsert k v) reply (result, got w there same e, is) =
+      calls_map (gets (eq k) e) (λ test among. among)
+  step_kind (calls.GetOrInsert k v) reply (result, inserted none w made h, is) =
+      calls_map (inserts k w result h) (λ test among. among)
   step_kind (calls.Update k v) reply (result, h, is) = calls_map (updates k v result h) (λ test among. among)
   step_kind (calls.Get k) reply (is, e) = calls_map (gets (eq k) e) (λ test among. among)
   step_kind (calls.Promote k) reply (is, e) = calls_map (gets (eq k) e) (λ test among. among)

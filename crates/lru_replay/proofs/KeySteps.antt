@@ -18,7 +18,7 @@ use Rattle.lru_theory.specs.Inclusion.{KeyCall, promotes, looks, after_call}
 use Rattle.lru_theory.specs.Inclusion.{removes as removal_of, clears as all_removed}
 use Rattle.lru_theory.specs.Traces.{AreEqual, is_in}
 use Rattle.lru_theory.proofs.EqualKeys.{equal_refl, both_equal}
-use Rattle.lru_replay.specs.References.{Does}
+use Rattle.lru_replay.specs.References.{ChangesKeys}
 use Rattle.lru_replay.proofs.ReferenceSteps.{KnownLengths, reserve_is}
 use Rattle.lru_replay.proofs.StoredCounts.{keys_without, there, absent}
 
@@ -29,7 +29,8 @@ module _ {K V H : Type 0} {eq : K → K → Bool} {hash_of : H → K → ℕ} (l
 
   step_does : (call : KeyCall K) (old new : State K V ℕ H) → IsSized new
       → Step length_rules length_offers eq hash_of old new
-      → AreEqual eq (keys_of new.pairs) (after_call eq old.limiter call (keys_of old.pairs)) → Does eq call old new
+      → AreEqual eq (keys_of new.pairs) (after_call eq old.limiter call (keys_of old.pairs))
+      → ChangesKeys eq call old new
   step_does call old new sized step keys = record {
     keys = keys;
     limit = known.limiter old new step;
@@ -52,42 +53,43 @@ module _ {K V H : Type 0} {eq : K → K → Bool} {hash_of : H → K → ℕ} (l
           (same_keys (keys_of (without (eq key) xs)) (remove_key (eq key) (keys_of xs)) (keys_without (eq key) xs)))
 
   pub promotes_does : (names : K → Bool) (key : K) (old new : State K V ℕ H) → names ≡ eq key → IsSized new
-      → new ≡ promoted names old → Does eq (promotes key) old new
+      → new ≡ promoted names old → ChangesKeys eq (promotes key) old new
   promotes_does names key old new same sized e = step_does (promotes key) old new sized (gets names e)
       (subst (λ ks. AreEqual eq ks (after_call eq old.limiter (promotes key) (keys_of old.pairs)))
       (sym (ap (λ st. keys_of st.pairs) e ∙ ap (λ test. keys_of (front test old.pairs)) same))
       (front_keys key old.pairs))
 
   pub removes_does : (names : K → Bool) (key : K) (result : Option V) (old new : State K V ℕ H) → names ≡ eq key
-      → IsSized new → Remove length_rules names old result new → Does eq (removal_of key) old new
+      → IsSized new → Remove length_rules names old result new → ChangesKeys eq (removal_of key) old new
   removes_does names key result old new same sized h = step_does (removal_of key) old new sized (removes names result h)
       (same_keys (keys_of new.pairs) (remove_key (eq key) (keys_of old.pairs))
       (ap (λ st. keys_of st.pairs) h.state.is ∙ ap (λ test. keys_of (without test old.pairs)) same
       ∙ keys_without (eq key) old.pairs))
 
   pub clears_does : (old new : State K V ℕ H) → IsSized new → new ≡ cleared length_rules old
-      → Does eq all_removed old new
+      → ChangesKeys eq all_removed old new
   clears_does old new sized e = step_does all_removed old new sized (clears e)
       (same_keys (keys_of new.pairs) [] (ap (λ st. keys_of st.pairs) e))
 
   pub reserves_does : (n : ℕ) (result : Result (Unit {0}) ReserveError) (old new : State K V ℕ H) → IsSized new
-      → Reserve length_rules n old result new → Does eq looks old new
+      → Reserve length_rules n old result new → ChangesKeys eq looks old new
   reserves_does n result old new sized h = step_does looks old new sized (reserves n result h)
       (same_keys (keys_of new.pairs) (keys_of old.pairs)
       (ap keys_of (reserve_is length_rules (λ s bytes. (refl, refl)) n old result new h).0))
 
   pub shrinks_does : (result : Result Bool AllocError) (old new : State K V ℕ H) → IsSized new
-      → Shrink old result new → Does eq looks old new
+      → Shrink old result new → ChangesKeys eq looks old new
   shrinks_does result old new sized h = step_does looks old new sized (shrinks result h)
       (same_keys (keys_of new.pairs) (keys_of old.pairs)
       (ap (λ c. keys_of c.pairs) (shrink_contents old result new h)))
 
-  pub writes_does : (names : K → Bool) (value : V) (old : State K V ℕ H) → Does eq looks old (written names value old)
+  pub writes_does : (names : K → Bool) (value : V) (old : State K V ℕ H)
+      → ChangesKeys eq looks old (written names value old)
   writes_does names value old = record {
     keys = same_keys (keys_of (written names value old).pairs) (keys_of old.pairs) (keys-set_value names old.pairs value);
     limit = refl;
     keeps = known.written names value old;
   }
 
-  pub looks_does : (st : State K V ℕ H) → Does eq looks st st
+  pub looks_does : (st : State K V ℕ H) → ChangesKeys eq looks st st
   looks_does st = record { keys = equal_refl laws (keys_of st.pairs); limit = refl; keeps = λ keeps. keeps }

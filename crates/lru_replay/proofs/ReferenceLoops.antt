@@ -11,7 +11,7 @@ use Rattle.lru_model.proofs.CallerLemmas.{no_pair}
 use Rattle.lru_model.specs.Lists.{keys_of, lookup, without}
 use Rattle.lru_model.specs.State.{State}
 use Rattle.lru_theory.specs.Traces.{is_in, fault, refer}
-use Rattle.lru_replay.specs.References.{Cache, Reference, Referenced, begins, refers, reads, Loops}
+use Rattle.lru_replay.specs.References.{Cache, Reference, Referenced, begins, refers, reads}
 use Rattle.lru_replay.proofs.StoredCounts.{there, absent, value_there, keys_taken, keys_without}
 
 module _ {K V : Type 0} (eq : K → K → Bool) (key : K) where
@@ -28,6 +28,14 @@ module _ {K V : Type 0} (eq : K → K → Bool) (key : K) where
 
   pub fault_absent : (pairs : List (K × V)) → lookup (eq key) pairs ≡ None → 1 ≡ fault eq key (keys_of pairs)
   fault_absent pairs none = ap (λ b. cond b 0 1) (sym (absent (eq key) pairs (no_pair (eq key) pairs none)))
+
+module _ {K V S H : Type 0} (cache : Cache K V S H) where
+  -- a loop has made the references to the first i keys of a trace
+  pub record Loops (old : State K V S H) (trace : List K) (i missed : ℕ) (new : State K V S H) : Type 0 where
+    pub run : Referenced cache old (take i trace) missed new
+    pub limit : cache.limit new.limiter ≡ cache.limit old.limiter
+    pub keeps : cache.Keeps new
+    pub few : missed ≤ i
 
 module _ {K V S H : Type 0} {cache : Cache K V S H} {old : State K V S H} {trace : List K} where
   pub loop_begins : cache.Keeps old → Loops cache old trace 0 0 old

@@ -17,8 +17,7 @@ use Rattle.lru_limits.specs.Rules.{Rules}
 use Rattle.lru_model.proofs.CallerLemmas.{found_named, promoted_sized, read_back}
 use Rattle.lru_model.specs.Calls.{promoted, written}
 use Rattle.lru_model.specs.Exact.{AlwaysGrants}
-use Rattle.lru_model.specs.GetOrInserts.{MakesNewest, got, inserted}
-use Rattle.lru_model.specs.IfMade.{MakesNewestIfMade, failed, as_made}
+use Rattle.lru_model.specs.GetOrInserts.{MakesNewest, got, inserted, MakesNewestIfMade, failed, as_made}
 use Rattle.lru_model.specs.Inserts.{Insert}
 use Rattle.lru_model.specs.Kept.{LeavesTheNewest, KeepsToLength, stored_key}
 use Rattle.lru_model.specs.Lists.{keys_of, lookup, lookup_entry, without, after, front}

@@ -1,6 +1,6 @@
 -- What a program does to the keys of a map, whatever calls it makes. The map is an LRU cache with a maximum length or a
 -- limit of cost.
-use Rattle.std.specs.Prelude.{◌≡◌, ℕ, ◌+◌, ◌*◌, ◌^◌, ◌<◌, ◌≤◌, Bool, true, List, [], ◌∷◌, ◌++◌, length, take, sum_by}
+use Rattle.std.specs.Prelude.{◌≡◌, ℕ, ◌+◌, ◌*◌, ◌^◌, ◌<◌, ◌≤◌, Bool, true, List, [], ◌∷◌, ◌++◌, length, sum_by}
 use Rattle.std.specs.List.{AllByRecursion}
 use Rattle.group_table.specs.Change.{count_up}
 use Rattle.lru_limits.specs.Budget.{Budget}
@@ -86,18 +86,11 @@ module _ {K V S H : Type 0} (cache : Cache K V S H) where
     reads : (trace : List K) (missed : ℕ) (mid new : State K V S H) → Referenced old trace missed mid →
         Reads mid new → Referenced old trace missed new
 
-  -- A loop has made the references to the first i keys of a trace.
-  pub record Loops (old : State K V S H) (trace : List K) (i missed : ℕ) (new : State K V S H) : Type 0 where
-    pub run : Referenced old (take i trace) missed new
-    pub limit : cache.limit new.limiter ≡ cache.limit old.limiter
-    pub keeps : cache.Keeps new
-    pub few : missed ≤ i
-
 module _ {K V H : Type 0} (eq : K → K → Bool) where
-  abbrev pub Does : KeyCall K → State K V ℕ H → State K V ℕ H → Type 0
-  Does call old = LeavesKeys (of_length eq) (after_call eq old.limiter call (keys_of old.pairs)) old
+  abbrev pub ChangesKeys : KeyCall K → State K V ℕ H → State K V ℕ H → Type 0
+  ChangesKeys call old = LeavesKeys (of_length eq) (after_call eq old.limiter call (keys_of old.pairs)) old
 
   pub data Did (old : State K V ℕ H) : (calls : List (KeyCall K)) (new : State K V ℕ H) → Type 0 where
     nothing : Did old [] old
     does_more : (call : KeyCall K) (calls : List (KeyCall K)) (mid new : State K V ℕ H) → Did old calls mid →
-        Does call mid new → Did old (calls ++ call ∷ []) new
+        ChangesKeys call mid new → Did old (calls ++ call ∷ []) new

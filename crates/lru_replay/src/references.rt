@@ -5,8 +5,7 @@ ghost use Rattle.std.specs.declared.alloc.AllocError.{AllocError};
 ghost use Rattle.std.specs.List.{IsDistinct};
 ghost use Rattle.group_table.specs.Change.{count_up};
 ghost use Rattle.lru_model.specs.Calls.{promoted, written, Remove, cleared};
-ghost use Rattle.lru_model.specs.GetOrInserts.{MakesNewest};
-ghost use Rattle.lru_model.specs.IfMade.{MakesNewestIfMade};
+ghost use Rattle.lru_model.specs.GetOrInserts.{MakesNewest, MakesNewestIfMade};
 ghost use Rattle.lru_model.specs.Inserts.{Insert};
 ghost use Rattle.lru_model.specs.Kept.{KeepsToLength};
 ghost use Rattle.lru_model.specs.Lists.{keys_of, lookup};
@@ -18,7 +17,7 @@ ghost use Rattle.lru_model.specs.declared.results.ReserveError.{ReserveError};
 ghost use Rattle.lru_theory.specs.Inclusion.{KeyCall, IsIncluded};
 ghost use Rattle.lru_theory.specs.Policies.{Loads, Demands, Bypasses, Served};
 ghost use Rattle.lru_theory.specs.Traces.{AreEqual, is_in, recency, misses, past_after};
-ghost use Rattle.lru_replay.specs.References.{Does, Reference, Referenced, Did, of_length};
+ghost use Rattle.lru_replay.specs.References.{ChangesKeys, Reference, Referenced, Did, of_length};
 
 use lru_limits::{Admission, ByLength, Insertion, KeyHasher, Limiter};
 use lru_model::laws;
@@ -55,7 +54,7 @@ pub fn calls_make_references<K: Eq + Hash + Drop, V: Drop, S: KeyHasher<K>>()
 {
     laws::inserts_leave_the_newest::<K, V, S>();
     laws::maps_keep_to_their_length::<K, V, S>();
-    laws::calls_keep_the_length::<K, V, ByLength, S>();
+    laws::calls_keep_the_length::<K, V, K, ByLength, S>();
 }
 
 /// If `ensure_newest` or `get_or_insert`, with the closure `make`, returns `Ok`, the call makes a reference.
@@ -72,7 +71,7 @@ pub fn gets_that_insert_make_references<
 {
     laws::inserts_leave_the_newest::<K, V, S>();
     laws::maps_keep_to_their_length::<K, V, S>();
-    laws::calls_keep_the_length::<K, V, ByLength, S>();
+    laws::calls_keep_the_length::<K, V, K, ByLength, S>();
 }
 
 /// If the fallible form of `ensure_newest` or `get_or_insert` returns `Ok`, the call makes a reference.
@@ -90,30 +89,31 @@ pub fn gets_that_insert_if_made_make_references<
 {
     laws::inserts_leave_the_newest::<K, V, S>();
     laws::maps_keep_to_their_length::<K, V, S>();
-    laws::calls_keep_the_length::<K, V, ByLength, S>();
+    laws::calls_keep_the_length::<K, V, K, ByLength, S>();
 }
 
 /// Says what other calls do to the keys. `promotes` covers gets and promotions, even if the key is not in the map, and
 /// `looks` covers each call that changes nothing.
 pub fn calls_change_the_keys<K: Eq + Hash + Drop, V: Drop, S: KeyHasher<K>>()
     ensures promotes { (names : K → Bool) (key : K) (old new : State K V ByLength S) →
-        names ≡ K.eq key → IsSized new → new ≡ promoted names old → Does K.eq (KeyCall.promotes key) old new }
+        names ≡ K.eq key → IsSized new → new ≡ promoted names old → ChangesKeys K.eq (KeyCall.promotes key) old new }
     ensures removes { (names : K → Bool) (key : K) (result : Option V) (old new : State K V ByLength S) →
         names ≡ K.eq key → IsSized new → Remove ⟦<ByLength as Limiter<K, V>>⟧.rules names old result new →
-        Does K.eq (KeyCall.removes key) old new }
+        ChangesKeys K.eq (KeyCall.removes key) old new }
     ensures clears { (old new : State K V ByLength S) →
-        IsSized new → new ≡ cleared ⟦<ByLength as Limiter<K, V>>⟧.rules old → Does K.eq KeyCall.clears old new }
+        IsSized new → new ≡ cleared ⟦<ByLength as Limiter<K, V>>⟧.rules old → ChangesKeys K.eq KeyCall.clears old new }
     ensures reserves { (n : ℕ) (result : Result (Unit {0}) ReserveError) (old new : State K V ByLength S) →
-        IsSized new → Reserve ⟦<ByLength as Limiter<K, V>>⟧.rules n old result new → Does K.eq KeyCall.looks old new }
+        IsSized new → Reserve ⟦<ByLength as Limiter<K, V>>⟧.rules n old result new →
+        ChangesKeys K.eq KeyCall.looks old new }
     ensures shrinks { (result : Result Bool AllocError) (old new : State K V ByLength S) →
-        IsSized new → Shrink old result new → Does K.eq KeyCall.looks old new }
+        IsSized new → Shrink old result new → ChangesKeys K.eq KeyCall.looks old new }
     ensures writes { (names : K → Bool) (value : V) (old : State K V ByLength S) →
-        Does K.eq KeyCall.looks old (written names value old) }
-    ensures looks { (st : State K V ByLength S) → Does K.eq KeyCall.looks st st }
+        ChangesKeys K.eq KeyCall.looks old (written names value old) }
+    ensures looks { (st : State K V ByLength S) → ChangesKeys K.eq KeyCall.looks st st }
 {
     laws::inserts_leave_the_newest::<K, V, S>();
     laws::maps_keep_to_their_length::<K, V, S>();
-    laws::calls_keep_the_length::<K, V, ByLength, S>();
+    laws::calls_keep_the_length::<K, V, K, ByLength, S>();
 }
 
 /// A program that made the references of a trace, and then makes one more, has made the references of the longer trace.

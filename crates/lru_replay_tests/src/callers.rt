@@ -31,8 +31,8 @@ fn put_both(
     ensures paid { OnOk result (PaysForMoves map.old map.new) }
 {
     lists_are_runs::<u64, u64, Both<ByLength, ByMemoryUsage>, RandomState>();
-    laws::runs_keep_the_length::<u64, u64, Both<ByLength, ByMemoryUsage>, RandomState>();
-    laws::runs_keep_the_memory_usage::<u64, u64, Both<ByLength, ByMemoryUsage>, RandomState>();
+    laws::runs_keep_the_length::<u64, u64, u64, Both<ByLength, ByMemoryUsage>, RandomState>();
+    laws::runs_keep_the_memory_usage::<u64, u64, u64, Both<ByLength, ByMemoryUsage>, RandomState>();
     laws::runs_evict_the_oldest::<u64, u64, u64, Both<ByLength, ByMemoryUsage>, RandomState>();
     laws::runs_pay_for_moves::<u64, u64, u64, Both<ByLength, ByMemoryUsage>, RandomState>();
     let _len = map.len();

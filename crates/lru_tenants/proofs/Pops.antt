@@ -1,5 +1,6 @@
 use Rattle.std.proofs.Common.{◌≡◌, Option, Some, None, List, [], ◌∷◌, ◌++◌, reverse, refl, sym, ap, ◌∙◌, arith}
 use Rattle.std.proofs.lemmas.List.{reverse-append}
+use Rattle.lru_limits.specs.Laws.{ChangesNoPair}
 use Rattle.lru_limits.specs.Rules.{Rules}
 use Rattle.lru_model.specs.Lists.{last, without_last}
 use Rattle.lru_model.specs.Calls.{left_of, PopOldest}
@@ -24,12 +25,10 @@ module _ {X : Type 0} where
       some z [] e = grind (arith, e)
       some z (w ∷ ws) e = some w ws e
 
-module _ {K V L S : Type 0} (rules : Rules K V L)
-    (leaves : (s : L) (k : K) (v : V) → ((rules.on_removed s k v).key ≡ k) × ((rules.on_removed s k v).value ≡ v))
-    (old new : State K V L S) where
+module _ {K V L S : Type 0} (rules : Rules K V L) (leaves : ChangesNoPair rules) (old new : State K V L S) where
   left-same : (o : Option (K × V)) → left_of rules old.limiter o ≡ o
   left-same None = refl
-  left-same (Some p) = let (key, value) = leaves old.limiter p.0 p.1 in λ i. Some (key i, value i)
+  left-same (Some p) = λ i. Some (leaves.key old.limiter p.0 p.1 i, leaves.value old.limiter p.0 p.1 i)
 
   pub popped-last : (pair : K × V) → PopOldest rules old (Some pair) new → old.pairs ≡ new.pairs ++ pair ∷ []
   popped-last pair popped = last-end old.pairs pair (sym (popped.pair ∙ left-same (last old.pairs)))

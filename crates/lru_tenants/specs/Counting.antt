@@ -6,7 +6,7 @@ use Rattle.std.proofs.Common.{ap}
 use Rattle.lru_caches.specs.Counted.{looked_up, inserted, evicted, zeros}
 use Rattle.lru_caches.specs.declared.counted.Counts.{Counts}
 use Rattle.lru_limits.specs.Admissions.{Terms, offers_of}
-use Rattle.lru_limits.specs.Budgeted.{IsBudgeted}
+use Rattle.lru_limits.specs.Budget.{IsBudgeted}
 use Rattle.lru_limits.specs.Laws.{IsAccount}
 use Rattle.lru_limits.specs.Rules.{Rules}
 use Rattle.lru_limits.specs.Stores.{ReturnsPairIf, rules_at}
@@ -63,16 +63,18 @@ module _ {K V L : Type 0} where
         (λ b s. with_inside s (rebudgeted b s.limiter))
     counting-budgeted is = record {
       over = λ s. is.over s.limiter;
-      offered = λ s n k v t given h. is.offered s.limiter n k v t.limiter given (gives-inside s t h);
-      replaced = λ s. is.replaced s.limiter;
-      removed = λ s. is.removed s.limiter;
-      cleared = λ s. is.cleared s.limiter;
-      grown = λ s. is.grown s.limiter;
+      fixed = record {
+        offered = λ s n k v t given h. is.fixed.offered s.limiter n k v t.limiter given (gives-inside s t h);
+        replaced = λ s. is.fixed.replaced s.limiter;
+        removed = λ s. is.fixed.removed s.limiter;
+        cleared = λ s. is.fixed.cleared s.limiter;
+        grown = λ s. is.fixed.grown s.limiter;
+      };
       gives = λ s n k v t given h. is.gives s.limiter n k v t.limiter given (gives-inside s t h);
       refuses = λ s n k v no. let h = is.refuses s.limiter n k v no in
           record { limiter = ap (with_inside s) h.limiter; pair = h.pair };
       finds = λ s. is.finds s.limiter;
-      leaves = λ s. is.leaves s.limiter;
+      leaves = record { key = λ s. is.leaves.key s.limiter; value = λ s. is.leaves.value s.limiter };
       replaces = λ s. is.replaces s.limiter;
       made_budget = is.made_budget;
       made_empty = is.made_empty;

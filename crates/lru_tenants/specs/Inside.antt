@@ -3,7 +3,7 @@ use Rattle.std.specs.Prelude.{◌≡◌, ◌≤◌, ◌<◌, ◌^◌, ℕ, Bool,
 use Rattle.std.specs.List.{All}
 use Rattle.std.specs.Map.{values_of}
 use Rattle.lru_limits.specs.Bytes.{Bytes, both_own}
-use Rattle.lru_model.specs.Bytes.{KeepsBytes}
+use Rattle.lru_model.specs.Theorems.{KeepsBytes}
 use Rattle.lru_model.specs.Lists.{is_empty}
 use Rattle.lru_model.specs.State.{State}
 use Rattle.lru_tenants.specs.Bytes.{limit_of}

@@ -6,7 +6,7 @@ ghost use Rattle.std.specs.List.{All, IsDistinct};
 ghost use Rattle.std.specs.Map.{keys_of, values_of};
 ghost use Rattle.lru_limits.specs.Bytes.{both_own, by_bytes, bytes_offers};
 ghost use Rattle.lru_limits.specs.Mixing.{seeded};
-ghost use Rattle.lru_model.specs.Bytes.{KeepsBytes};
+ghost use Rattle.lru_model.specs.Theorems.{KeepsBytes};
 ghost use Rattle.ordered_table.specs.EntrySize.{entry_size};
 ghost use Rattle.lru_tenants.specs.Bytes.{IsWithin, reserved, is_over, fresh, On};
 ghost use Rattle.lru_tenants.specs.TenantRuns.{OfOpen, Opens, Puts, Closes, IfOpen};

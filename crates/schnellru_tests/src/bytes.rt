@@ -1,7 +1,7 @@
 //! A cache of texts that takes at most 200 MiB: a line of code and a theorem.
 ghost use Rattle.std.specs.Prelude.{◌≡◌, ◌*◌, ◌^◌, IfOk, string_capacity};
 ghost use Rattle.lru_limits.specs.Bytes.{both_own, block_bytes};
-ghost use Rattle.lru_model.specs.Bytes.{KeepsBytes, TakesAtMost};
+ghost use Rattle.lru_model.specs.Theorems.{KeepsBytes, TakesAtMost};
 ghost use Rattle.lru_model.specs.State.{IsMap};
 
 use lru_model::Updated;

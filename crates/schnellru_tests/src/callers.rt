@@ -16,8 +16,7 @@ ghost use Rattle.lru_model.specs.State.{buckets, growth_left, FirstFreeIs};
 ghost use Rattle.lru_model.specs.Calls.{promoted};
 ghost use Rattle.lru_model.specs.Callbacks.{CalledWith};
 ghost use Rattle.lru_model.specs.Kept.{KeepsToLength};
-ghost use Rattle.lru_model.specs.Runs.{AnyStep, Run};
-ghost use Rattle.lru_model.specs.RunEvictions.{EachStep, InsertEvictsOldest};
+ghost use Rattle.lru_model.specs.Runs.{AnyStep, Run, EachStep, InsertEvictsOldest};
 ghost use Rattle.lru_model.specs.Theorems.{KeepsValues, PaysForMoves, UsesAtMost, others};
 
 use schnellru::{
@@ -146,7 +145,7 @@ fn put_within(map: &mut LruMap<String, u64>, key: String, value: u64) -> Result<
     requires { length map.old.pairs ≤ map.old.limiter }
     ensures { length map.new.pairs ≤ map.new.limiter }
 {
-    laws::calls_keep_the_length::<String, u64, ByLength, RandomState>();
+    laws::calls_keep_the_length::<String, u64, String, ByLength, RandomState>();
     map.insert(key, value)
 }
 
@@ -161,8 +160,20 @@ fn put_within_both(
     ensures length { length map.new.pairs ≤ map.new.limiter.0 }
     ensures usage { UsesAtMost map.new.limiter.1 map.new }
 {
-    laws::calls_keep_the_length::<String, u64, Both<ByLength, ByMemoryUsage>, RandomState>();
-    laws::calls_keep_the_memory_usage::<String, u64, Both<ByLength, ByMemoryUsage>, RandomState>();
+    laws::calls_keep_the_length::<
+        String,
+        u64,
+        String,
+        Both<ByLength, ByMemoryUsage>,
+        RandomState,
+    >();
+    laws::calls_keep_the_memory_usage::<
+        String,
+        u64,
+        String,
+        Both<ByLength, ByMemoryUsage>,
+        RandomState,
+    >();
     map.insert(key, value)
 }
 

@@ -1,6 +1,6 @@
 ghost use Rattle.std.specs.Prelude.{◌≡◌, ℕ, Bool};
 ghost use Rattle.lru_limits.specs.Admissions.{offers_of};
-ghost use Rattle.lru_limits.specs.Budgeted.{IsBudgeted};
+ghost use Rattle.lru_limits.specs.Budget.{IsBudgeted};
 
 use crate::accounts::Summing;
 

@@ -1,6 +1,5 @@
 ghost use Rattle.std.specs.Prelude.{◌≡◌};
-ghost use Rattle.lru_limits.specs.Budget.{can_add, pair_cost, by_weight, weighs-sums, budget_terms};
-ghost use Rattle.lru_limits.specs.Budgeted.{weighs-budgeted};
+ghost use Rattle.lru_limits.specs.Budget.{can_add, pair_cost, by_weight, weighs-sums, budget_terms, weighs-budgeted};
 
 use crate::accounts::{Budgeted, Costed, Summing, sum_with};
 use crate::admission::Admission;

@@ -1,11 +1,11 @@
-use Rattle.std.proofs.Common.{◌≡◌, ℕ, Bool, List, [], length, Option, refl, sym, subst, ◌∙◌}
+use Rattle.std.proofs.Common.{◌≡◌, ℕ, Bool, List, [], length, refl, sym, subst, ◌∙◌}
 use Rattle.std.specs.Cmp.{IsEquivalence}
 use Rattle.std.specs.List.{IsDistinct}
 use Rattle.std.proofs.lemmas.Map.{length-set_value, keys-set_value}
 use Rattle.lru_limits.specs.Laws.{IsLookup}
 use Rattle.lru_model.specs.Lists.{front, back}
 use Rattle.lru_model.specs.State.{State, IsSound, IsSized, IsMap}
-use Rattle.lru_model.specs.Calls.{Get, found, absent, promoted, demoted, written}
+use Rattle.lru_model.specs.Calls.{promoted, demoted, written}
 use Rattle.lru_model.proofs.PairLists.DistinctKeys.{distinct_first}
 use Rattle.lru_model.proofs.Theorems.Sums.{total-one, total-front, total-back}
 
@@ -48,12 +48,6 @@ module _ {K V S H Q : Type 0} {names : Q → K → Bool} {eq : K → K → Bool}
     sized = promoted_sized old (names q) ok.sized;
     paid = ok.paid;
   }
-
-  pub get_is_map : (result : Option V) (new : State K V S H) → Get (names q) old result new → IsMap eq old
-      → IsMap eq new
-  get_is_map result new (found value left there r e) ok = rw e
-      (written_is_map (promoted (names q) old) (names q) left (promoted_is_map ok))
-  get_is_map result new (absent none r e) ok = rw e ok
 
 pub equal_is_map : {K V S H : Type 0} {eq : K → K → Bool} → IsEquivalence eq → (key : K) (old : State K V S H)
     → IsMap eq old

@@ -1,16 +1,12 @@
-use Rattle.std.proofs.Common.{◌≡◌, ℕ, ◌≤◌, Bool, false, Result, refl, sym}
+use Rattle.std.proofs.Common.{◌≡◌, ℕ, ◌≤◌, Bool, false, sym}
 use Rattle.std.proofs.Common.{ap, ◌∙◌, subst, arith, ◌⊎◌, inl, inr}
 use Rattle.std.proofs.lemmas.Bool.Decides.{nat_tests}
 use Rattle.std.specs.Prelude.{nat_lt}
-use Rattle.std.specs.declared.alloc.AllocError.{AllocError}
 use Rattle.lru_limits.specs.Rules.{Rules, Offers}
 use Rattle.lru_limits.specs.Laws.{IsAccount}
-use Rattle.lru_limits.specs.Budgeted.{IsBudgeted}
-use Rattle.lru_limits.specs.Limits.{IsFixed}
-use Rattle.lru_model.specs.GetOrInserts.{MakesNewest, got, inserted}
+use Rattle.lru_limits.specs.Budget.{IsBudgeted}
 use Rattle.lru_model.specs.State.{State, contents, IsWithin}
-use Rattle.lru_model.specs.Runs.{Step, makes_newest}
-use Rattle.lru_model.specs.Runs.{StepOrWrite, StepOrKeptWrite, Run, ends, goes_on}
+use Rattle.lru_model.specs.Runs.{Step, StepOrWrite, StepOrKeptWrite, Run, ends, goes_on}
 use Rattle.lru_model.specs.Theorems.{IsSummed}
 use Rattle.lru_model.proofs.Theorems.RunLimits.{step_keeps_number, run_keeps_number}
 use Rattle.lru_model.proofs.Theorems.Runs.{step_summed, kept_summed}
@@ -20,15 +16,6 @@ use Rattle.lru_model.proofs.Theorems.Sums.{total, total-is}
 module _ {K V S : Type 0} {rules : Rules K V S} {offers : Offers K V S K} {account budget : S → ℕ}
     {accepts : S → K → V → Bool} {made : ℕ → S} {rebudgeted : ℕ → S → S}
     (laws : IsBudgeted rules offers account budget accepts made rebudgeted) where
-  fixed : IsFixed rules offers budget
-  fixed = record {
-    offered = laws.offered;
-    replaced = laws.replaced;
-    removed = laws.removed;
-    cleared = laws.cleared;
-    grown = laws.grown;
-  }
-
   pub not_over : (s : S) (n : ℕ) → rules.is_over_the_limit s n ≡ false → account s ≤ budget s
   not_over s n e =
       let within : nat_lt (budget s) (account s) ≡ false = sym (laws.over s n) ∙ e in
@@ -54,7 +41,7 @@ module _ {K V S : Type 0} {rules : Rules K V S} {offers : Offers K V S K} {accou
 
     pub step_budget : (old new : State K V S H) → Step rules offers names hash_of old new
         → budget new.limiter ≡ budget old.limiter
-    step_budget = step_keeps_number names hash_of fixed
+    step_budget = step_keeps_number names hash_of laws.fixed
 
     pub step_keeps_total : (old new : State K V S H) → Step rules offers names hash_of old new
         → IsSummed cost account old → account old.limiter ≤ budget old.limiter
@@ -78,10 +65,4 @@ module _ {K V S : Type 0} {rules : Rules K V S} {offers : Offers K V S K} {accou
 
   pub run_budget : {H : Type 0} {names : K → K → Bool} {hash_of : H → K → ℕ} (new old : State K V S H)
       → Run (StepOrWrite rules offers names hash_of) new old → budget new.limiter ≡ budget old.limiter
-  run_budget {names = names} {hash_of} = run_keeps_number names hash_of fixed
-
-pub made-step : {K V S H : Type 0} {rules : Rules K V S} {offers : Offers K V S K} {names : K → K → Bool}
-    {hash_of : H → K → ℕ} {makes : V → Type 0} (key : K) (old new : State K V S H) (result : Result Bool AllocError)
-    → MakesNewest rules offers names hash_of makes key old result new → Step rules offers names hash_of old new
-made-step key old new result (got w e r step) = makes_newest w key result (got w e r step)
-made-step key old new result (inserted e v m step) = makes_newest v key result (inserted e v refl step)
+  run_budget {names = names} {hash_of} = run_keeps_number names hash_of laws.fixed

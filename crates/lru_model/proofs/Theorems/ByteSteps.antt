@@ -9,21 +9,19 @@ use Rattle.group_table.specs.Sizes.{IsBucketCount}
 use Rattle.lru_limits.specs.Rules.{Offers}
 use Rattle.lru_limits.specs.Stores.{ReturnsPairIf, given-adds}
 use Rattle.lru_limits.specs.Bytes.{Bytes, bytes_offers, bytes_terms, bytes-sums}
-use Rattle.lru_model.specs.Bytes.{CountsBytes, KeepsBytes, TakesAtMost}
+use Rattle.lru_model.specs.Theorems.{CountsBytes, KeepsBytes, TakesAtMost, UsesAtMost, IsSummed}
 use Rattle.lru_model.specs.Calls.{cleared}
 use Rattle.lru_model.specs.Drains.{pops_first}
-use Rattle.lru_model.specs.GetOrInserts.{got, inserted}
 use Rattle.lru_model.specs.Inserts.{Insert, replaced, not_replaced, no_memory_to_admit, not_admitted, admitted, Settles}
 use Rattle.lru_model.specs.Lists.{first, last, lookup_entry}
 use Rattle.lru_model.specs.Place.{Outcome, placed, refused, no_memory}
 use Rattle.lru_model.specs.Reservations.{Reserve, unchanged, rehashed, reserved, asked_only}
-use Rattle.lru_model.specs.Runs.{Step, inserts, makes_newest, updates, gets, demotes, removes, pops_oldest}
+use Rattle.lru_model.specs.Runs.{Step, inserts, updates, gets, demotes, removes, pops_oldest}
 use Rattle.lru_model.specs.Runs.{pops_newest, drains, clears, reserves, shrinks, trims, retains}
 use Rattle.lru_model.specs.Runs.{StepOrKeptWrite, Run, ends, goes_on}
 use Rattle.lru_model.specs.Sizes.{usage}
 use Rattle.lru_model.specs.State.{State, Contents, contents, buckets, IsSized, IsWithin, Leaves, Trims, trim, empty_map}
 use Rattle.lru_model.specs.Shrinks.{Shrink}
-use Rattle.lru_model.specs.Theorems.{UsesAtMost, IsSummed}
 use Rattle.lru_model.specs.TryInserts.{TryInsert, there, cannot_store, unready, inserted as tried, IsReady, IsUnready}
 use Rattle.lru_model.specs.TryInserts.{has_growth, reserved as got_growth, not_reserved, cannot_store_then}
 use Rattle.lru_model.specs.Updates.{Update, updated, rejected, not_there}
@@ -208,8 +206,6 @@ module _ {K V H : Type 0} (bytes_of : K → V → ℕ) (most : ℕ) where
 
     step_ends : {names : K → K → Bool} {hash_of : H → K → ℕ} → Step (rules bytes_of) (offers bytes_of) names hash_of old new → Ends new
     step_ends (inserts i v result h) = insert_ends i v result h
-    step_ends (makes_newest v i result (got value found r e)) = quiet (rw e (order_calm _ _))
-    step_ends (makes_newest v i result (inserted found value made h)) = insert_ends i value result h
     step_ends (updates i v result h) = update_ends i v result h
     step_ends (gets test e) = quiet (rw e (order_calm _ _))
     step_ends (demotes test e) = quiet (rw e (order_calm _ _))

@@ -5,25 +5,22 @@ use Rattle.std.specs.Prelude.{map}
 use Rattle.std.specs.List.{count_by}
 use Rattle.std.proofs.lemmas.List.{length-replicate}
 use Rattle.std.proofs.lemmas.Map.{length-set_value}
-use Rattle.std.specs.declared.alloc.AllocError.{AllocError}
 use Rattle.group_table.specs.Sizes.{full_capacity, IsBucketCount}
 use Rattle.group_table.specs.Bucket.{BucketState, empty, is_used, growth_left as growth_left_of}
-use Rattle.lru_limits.specs.Rules.{Rules, Offers}
+use Rattle.lru_limits.specs.Rules.{Rules}
 use Rattle.lru_model.specs.State.{State, buckets, Contents, contents, MovesTo, Leaves, Trims}
 use Rattle.lru_model.specs.Calls.{promoted, demoted, written, pop_first, Remove, PopOldest, PopNewest, cleared}
 use Rattle.lru_model.specs.Place.{asked}
 use Rattle.lru_model.specs.declared.results.ReserveError.{ReserveError}
 use Rattle.lru_model.specs.Drains.{pops_first, Drained}
-use Rattle.lru_model.specs.GetOrInserts.{MakesNewest, got, inserted}
 use Rattle.lru_model.specs.Retains.{retained}
 use Rattle.lru_model.specs.Reservations.{Reserve, unchanged, rehashed, reserved, asked_only}
 use Rattle.lru_model.proofs.TableSizes.Growth.{full_capacity-at_most, full_capacity-double, target_doubles}
 use Rattle.lru_model.proofs.TableSizes.Growth.{target_usage}
 use Rattle.lru_model.proofs.Theorems.Potential.{IsBounded, pays_calm}
-use Rattle.lru_model.proofs.Theorems.Moves.{KeepsWay, Keeps, KeepsOffers, leaves_keep, pops_keep, trim_keeps}
+use Rattle.lru_model.proofs.Theorems.Moves.{KeepsWay, Keeps, leaves_keep, pops_keep, trim_keeps}
 use Rattle.lru_model.proofs.Theorems.TableGrowth.{Calm, IsNextCount, Reaches, Changes, self_calm, limiter_calm}
 use Rattle.lru_model.proofs.Theorems.TableGrowth.{leaves_calm, calm_trans, calm_changes, leaves_changes}
-use Rattle.lru_model.proofs.Theorems.Ways.{insert_changes}
 use Rattle.lru_model.proofs.States.Promotions.{length-front_pairs, length-back_pairs}
 use Rattle.lru_model.proofs.Theorems.RetainedPairs.{retained_keeps}
 
@@ -183,12 +180,3 @@ module _ {K V S H : Type 0} {rules : Rules K V S} {R : Contents K V S → Conten
             (target_doubles j.0 old.max old.entry_bytes (buckets old) (length old.pairs + n) count bytes j.1 t),
       )
   reserve_changes result new (asked_only l count bytes t f e) = asks_only bytes new e
-
-module _ {K V S H I : Type 0} {rules : Rules K V S} {offers : Offers K V S I} {names : I → K → Bool}
-    {R : Contents K V S → Contents K V S → Type 0} (k : KeepsOffers rules offers names R) {hash_of : H → K → ℕ}
-    {makes : V → Type 0} {i : I} {old : State K V S H} {result : Result Bool AllocError} {new : State K V S H} where
-  pub makes_newest_changes : MakesNewest rules offers names hash_of makes i old result new → Changes rules R 1 0 old new
-  makes_newest_changes (got w e r step) = calm_changes rules R 1 old new
-      (rw step (pairs_calm rules old _ _ (length-front_pairs (names i) old.pairs)))
-      (rw step (k.keeps.first (names i) (contents old)))
-  makes_newest_changes (inserted e v m step) = insert_changes k i v old result new step

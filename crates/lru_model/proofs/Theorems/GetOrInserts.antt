@@ -8,7 +8,7 @@ use Rattle.lru_model.specs.Lists.{lookup, lookup_entry, without, front, after}
 use Rattle.lru_model.specs.State.{State}
 use Rattle.lru_model.specs.Theorems.{IsNewest, SaysWhether}
 use Rattle.lru_model.specs.GetOrInserts.{MakesNewest, got, inserted, SaysNewest, IsOutOfMemoryFor}
-use Rattle.lru_model.specs.IfMade.{MakesNewestIfMade, failed, as_made, or_memory}
+use Rattle.lru_model.specs.GetOrInserts.{MakesNewestIfMade, failed, as_made, or_memory}
 use Rattle.lru_model.specs.declared.results.GetOrInsertError.{GetOrInsertError}
 use Rattle.lru_model.proofs.PairLists.DistinctKeys.{AreDistinct}
 use Rattle.lru_model.proofs.Theorems.Fronts.{found_named}
@@ -33,14 +33,15 @@ first_named {K} {V} names xs w e = go (lookup_entry names xs) refl (sym (lookup-
       named = found_named names xs pair is;
     }
 
-module _ {K V S H : Type 0} (rules : Rules K V S) (names : K → Bool) (new : State K V S H) where
-  says_newest : (result : Result Bool AllocError) → SaysWhether rules names result new → SaysNewest names result new
-  says_newest (Ok true) s = s.0
+module _ {K V S H : Type 0} (rules : Rules K V S) (names : K → Bool) (old new : State K V S H) where
+  says_newest : (result : Result Bool AllocError) → SaysWhether rules names result new
+      → SaysNewest rules names old result new
+  says_newest (Ok true) s = (s.0, λ none. s.1)
   says_newest (Ok false) s = s
   says_newest (Err e) s = s
 
-  says_or_memory : (E : Type 0) (flag : Result Bool AllocError) → SaysNewest names flag new
-      → SaysNewest {E = GetOrInsertError E} names (or_memory flag) new
+  says_or_memory : (E : Type 0) (flag : Result Bool AllocError) → SaysNewest rules names old flag new
+      → SaysNewest {E = GetOrInsertError E} rules names old (or_memory flag) new
   says_or_memory E (Ok true) s = s
   says_or_memory E (Ok false) s = s
   says_or_memory E (Err e) s = s
@@ -50,9 +51,10 @@ module _ {K V S H I : Type 0} {rules : Rules K V S} {offers : Offers K V S I} {n
     (looks_up : IsLookup names eq query_input key_input) (laws : IsInsertion names eq offers) {i : I}
     {makes : V → Type 0} {old : State K V S H} where
   pub makes_says : {result : Result Bool AllocError} {new : State K V S H} → AreDistinct eq old.pairs
-      → MakesNewest rules offers names hash_of makes i old result new → SaysNewest (names i) result new
-  makes_says {result} {new} d (got w there r step) = rw r (rw step (first_named (names i) old.pairs w there))
-  makes_says {result} {new} d (inserted absent v made step) = says_newest rules (names i) new result
+      → MakesNewest rules offers names hash_of makes i old result new → SaysNewest rules (names i) old result new
+  makes_says {result} {new} d (got w there r step) = rw r
+      (rw step (first_named (names i) old.pairs w there), λ none. absurd (none-some w (sym none ∙ there)))
+  makes_says {result} {new} d (inserted absent v made step) = says_newest rules (names i) old new result
       (insert_says looks_up laws d step)
 
 module _ {K V S H I E : Type 0} {rules : Rules K V S} {offers : Offers K V S I} {names : I → K → Bool}
@@ -60,10 +62,10 @@ module _ {K V S H I E : Type 0} {rules : Rules K V S} {offers : Offers K V S I} 
     (looks_up : IsLookup names eq query_input key_input) (laws : IsInsertion names eq offers) {i : I}
     {makes : Result V E → Type 0} {old : State K V S H} where
   pub says_if_made : {result : Result Bool (GetOrInsertError E)} {new : State K V S H} → AreDistinct eq old.pairs
-      → MakesNewestIfMade rules offers names hash_of makes i old result new → SaysNewest (names i) result new
+      → MakesNewestIfMade rules offers names hash_of makes i old result new → SaysNewest rules (names i) old result new
   says_if_made {result} {new} d (failed none e made r step) = rw r (rw step (no_pair (names i) old.pairs none))
   says_if_made {result} {new} d (as_made flag step r) =
-      rw r (says_or_memory rules (names i) new E flag (makes_says looks_up laws d step))
+      rw r (says_or_memory rules (names i) old new E flag (makes_says looks_up laws d step))
 
 module _ {K V S H I : Type 0} {rules : Rules K V S} {offers : Offers K V S I} {names : I → K → Bool}
     {hash_of : H → K → ℕ} {i : I} {old new : State K V S H} where

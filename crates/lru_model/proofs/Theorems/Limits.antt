@@ -12,6 +12,7 @@ use Rattle.lru_model.specs.Inserts.{replacement}
 use Rattle.lru_model.specs.Theorems.{UsesAtMost}
 use Rattle.lru_model.specs.Updates.{Update, updated, rejected, not_there, with_updated}
 use Rattle.lru_model.specs.declared.results.Updated.{Updated}
+use Rattle.lru_model.specs.declared.results.Updated.TheVariants.{Replaced}
 use Rattle.lru_model.proofs.PairLists.SetEntries.{length-set_entry}
 use Rattle.lru_model.proofs.TableSizes.Budgets.{usage_fewer}
 use Rattle.lru_model.proofs.Theorems.Moves.{KeepsOffers, left_are}
@@ -41,13 +42,13 @@ module _ {K V : Type 0} (names : K → Bool) where
       go true h e = omega arith
       go false h e = omega (arith, h e)
 
-module _ {K V S : Type 0} {rules : Rules K V S} {offers : Offers K V S K} {number : S → ℕ}
+module _ {K V S I : Type 0} {rules : Rules K V S} {offers : Offers K V S I} {number : S → ℕ}
     (fixed : IsFixed rules offers number) where
   pub notified_fixed : (pair : Option (K × V)) (s : S) → number (notified_of rules pair s) ≡ number s
   notified_fixed None s = refl
   notified_fixed (Some pair) s = fixed.removed s pair.0 pair.1
 
-  pub keeps_number : {names : K → K → Bool} → KeepsOffers rules offers names
+  pub keeps_number : {names : I → K → Bool} → KeepsOffers rules offers names
       (λ c d. number d.limiter ≡ number c.limiter)
   keeps_number = record {
     keeps = record {
@@ -111,6 +112,14 @@ update_within f {rules} {new = new} result (updated pair found y r l) = inl
 update_within f {names = names} {i} {old = old} result (rejected pair found y r l) = inr
     (omega (arith, ap (λ st. total f st.pairs) l.is, total-without f (names i) old.pairs))
 update_within f result (not_there a r e) = inr (omega (arith, ap (λ st. total f st.pairs) e))
+
+pub updated_within : {K V S H I : Type 0} {rules : Rules K V S} {offers : Offers K V S I} {names : I → K → Bool} {i : I}
+    {v : V} {old new : State K V S H} {result : Updated V} → Update rules offers names i v old result new → (was : V)
+    → result ≡ Replaced was → IsWithin rules (contents new)
+updated_within {rules = rules} (updated pair found y r l) was e = subst (IsWithin rules) (sym (left_are _ _ _ l))
+    (trim_ends rules _)
+updated_within (rejected pair found y r l) was e = absurd (grind (arith, r, e))
+updated_within (not_there a r same) was e = absurd (grind (arith, r, e))
 
 pub length-update : {K V S H I : Type 0} {rules : Rules K V S} {offers : Offers K V S I} {names : I → K → Bool} {i : I}
     {v : V} {old new : State K V S H} (result : Updated V) → Update rules offers names i v old result new

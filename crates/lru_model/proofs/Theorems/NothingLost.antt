@@ -18,7 +18,8 @@ use Rattle.lru_model.specs.Place.{Outcome, placed, refused, no_memory, unstored}
 use Rattle.lru_model.specs.Inserts.{replaced, not_replaced, no_memory_to_admit, not_admitted, admitted, MayGive}
 use Rattle.lru_model.specs.Inserts.{Settles}
 use Rattle.lru_model.specs.Callbacks.{noting, noted, InsertPasses}
-use Rattle.lru_model.specs.Kept.{ChangesNoPair, LosesNothing, stored, value_rejected, nothing_to_store, pair_not_stored}
+use Rattle.lru_limits.specs.Laws.{ChangesNoPair}
+use Rattle.lru_model.specs.Kept.{LosesNothing, stored, value_rejected, nothing_to_store, pair_not_stored}
 use Rattle.lru_model.proofs.States.Outcomes.{ok-not_err, same_kept}
 use Rattle.lru_model.proofs.Theorems.Moves.{KeepsWay, left_are, leaves_keep, make_room_keeps, trim_keeps}
 use Rattle.lru_model.proofs.Theorems.Ways.{Lands, place_lands}

@@ -7,9 +7,8 @@ use Rattle.std.proofs.lemmas.List.Elements.{filter-append}
 use Rattle.std.proofs.lemmas.List.{append-nil}
 use Rattle.lru_limits.specs.Laws.{IsLookup, IsInsertion}
 use Rattle.lru_limits.specs.Rules.{Rules, Offers}
-use Rattle.lru_model.specs.GetOrInserts.{got, inserted}
 use Rattle.lru_model.specs.Lists.{IsFront, lookup_entry, without, set_entry, front, back, after}
-use Rattle.lru_model.specs.Runs.{inserts, makes_newest, updates, gets, demotes, removes, pops_oldest, pops_newest}
+use Rattle.lru_model.specs.Runs.{inserts, updates, gets, demotes, removes, pops_oldest, pops_newest}
 use Rattle.lru_model.specs.Runs.{drains, clears}
 use Rattle.lru_model.specs.Runs.{reserves, shrinks, trims, retains, AnyStep, calls, writes, sets_limiter, AreAmong}
 use Rattle.lru_model.specs.Runs.{NamesOnly, StepAmong}
@@ -112,11 +111,6 @@ module _ {K V S H I : Type 0} {rules : Rules K V S} {offers : Offers K V S I} {n
   step_keeps_newest old new (calls (inserts key value result h)) among =
       evicts_others test (names key) among _ old.pairs new.pairs
       (insert_evicts looks_up laws key value old result new h)
-  step_keeps_newest old new (calls (makes_newest value key result (got w f r e))) among =
-      front_same (ap (λ st. others test st.pairs) e ∙ others_front test (names key) among old.pairs)
-  step_keeps_newest old new (calls (makes_newest value key result (inserted none v made h))) among =
-      evicts_others test (names key) among _ old.pairs new.pairs
-      (insert_evicts looks_up laws key v old result new h)
   step_keeps_newest old new (calls (updates key value result (updated pair found y r l))) among =
       subst (IsFront (others test new.pairs)) (others_set test (names key) among _
       (replaced_named rules offers names looks_up laws key value old pair found) old.pairs)

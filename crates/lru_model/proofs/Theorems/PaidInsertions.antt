@@ -8,22 +8,22 @@ use Rattle.lru_limits.specs.Admissions.{Terms, offers_of}
 use Rattle.lru_model.specs.State.{State, buckets, growth_left, potential, IsSized}
 use Rattle.lru_model.specs.Place.{Place, Outcome, placed, refused, no_memory, unstored}
 use Rattle.lru_model.specs.Inserts.{Insert, replaced, not_replaced, no_memory_to_admit, not_admitted, admitted}
-use Rattle.lru_model.specs.GetOrInserts.{got, inserted as newly}
 use Rattle.lru_model.specs.Updates.{updated, rejected, not_there}
 use Rattle.lru_model.specs.Reservations.{Reserve, unchanged, rehashed, reserved, asked_only}
 use Rattle.lru_model.specs.Shrinks.{Shrink, kept, shrunk, no_memory_to_shrink}
 use Rattle.lru_model.specs.TryInserts.{TryInsert, there, cannot_store, unready, inserted}
 use Rattle.lru_model.specs.TryInserts.{has_growth, reserved as got_growth, not_reserved, cannot_store_then}
 use Rattle.lru_model.specs.Runs.{AnyStep, calls, writes, sets_limiter, Run, ends, goes_on}
-use Rattle.lru_model.specs.Runs.{inserts, makes_newest, updates, gets, demotes, removes, pops_oldest, pops_newest}
+use Rattle.lru_model.specs.Runs.{inserts, updates, gets, demotes, removes, pops_oldest, pops_newest}
 use Rattle.lru_model.specs.Runs.{drains, clears, reserves, shrinks, trims, retains}
-use Rattle.lru_model.specs.PaidInsertions.{PaysForInsertions, ReservesIfFull, PaidStep, tries, others}
+use Rattle.lru_model.specs.PaidInsertions.{ReservesIfFull, PaidStep, tries, others}
+use Rattle.lru_model.specs.Theorems.{PaysForInsertions}
 use Rattle.lru_model.proofs.TableSizes.SizedStates.{fits}
 use Rattle.lru_model.proofs.TableSizes.NextTable.{larger_half}
 use Rattle.lru_model.proofs.TableSizes.Growth.{target-same}
 use Rattle.lru_model.proofs.States.Promotions.{length-front_pairs, length-back_pairs}
 use Rattle.lru_model.proofs.Theorems.Moves.{keeps_any}
-use Rattle.lru_model.proofs.Theorems.Potential.{IsBounded, bounded_of}
+use Rattle.lru_model.proofs.Theorems.Potential.{IsBounded, bounded_of, paid_self, paid_trans}
 use Rattle.lru_model.proofs.Theorems.TableGrowth.{Calm, calm_trans, calm_bounded, self_calm, limiter_calm, leaves_calm}
 use Rattle.lru_model.proofs.Theorems.TableGrowth.{settles_calm}
 use Rattle.lru_model.proofs.Theorems.CallChanges.{pairs_calm, cleared_calm}
@@ -42,26 +42,11 @@ module _ {K V S H : Type 0} where
     pub placed : new.counts.placed ≡ old.counts.placed
     pub shrunk : new.counts.shrunk ≡ old.counts.shrunk
 
-  paid_self : (st : State K V S H) → PaysForInsertions st st
-  paid_self st = record { placed = omega arith; shrunk = omega arith; insertions = λ p s. omega arith }
-
-  paid_trans : {old mid new : State K V S H} → PaysForInsertions old mid → PaysForInsertions mid new
-      → PaysForInsertions old new
-  paid_trans p q = record {
-    placed = omega (arith, p.placed, q.placed);
-    shrunk = omega (arith, p.shrunk, q.shrunk);
-    insertions = λ h below. omega (
-      arith,
-      p.insertions (omega (arith, q.placed, h)) (omega (arith, q.shrunk, below)),
-      q.insertions h below,
-    );
-  }
-
   none_paid : {old new : State K V S H} → StoresNone old new → PaysForInsertions old new
   none_paid n = record {
     placed = omega (arith, n.placed);
     shrunk = omega (arith, n.shrunk);
-    insertions = λ h below. omega (arith, n.rises, n.placed, n.shrunk);
+    rise = λ h below. omega (arith, n.rises, n.placed, n.shrunk);
   }
 
   calm_none : (old new : State K V S H) → Calm old new → StoresNone old new
@@ -106,7 +91,7 @@ module _ {K V S H : Type 0} (rules : Rules K V S) (hash_of : H → K → ℕ) (p
             pays = record {
               placed = omega (arith, stored, was, ok.placed);
               shrunk = omega (arith, rehashed, kept);
-              insertions = λ h below. omega (arith, paid, inserted, before, stored, was, rehashed, kept, h);
+              rise = λ h below. omega (arith, paid, inserted, before, stored, was, rehashed, kept, h);
             };
           }
       land refused mid f l = away mid f l.1
@@ -166,7 +151,7 @@ module _ {K V S H : Type 0} where
   shrink_paid old new result ok (shrunk count l r m) = record {
     placed = omega (arith, ap (λ st. st.counts.placed) m.state);
     shrunk = omega (arith, ok.shrunk, ap (λ st. st.counts.shrunk) m.state);
-    insertions = λ h below. omega (
+    rise = λ h below. omega (
       arith,
       m.exact,
       ap full_capacity m.table,
@@ -182,9 +167,6 @@ module _ {K V S H : Type 0} {terms : Terms K V S} {rules : Rules K V S} {eq : K 
   any_paid : (old new : State K V S H) → IsSized old → (step : AnyStep rules (offers_of terms) eq hash_of old new)
       → ReservesIfFull terms rules eq hash_of old new step → PaysForInsertions old new
   any_paid old new ok (calls (inserts key value result h)) full = (insert_one (bounded_of old ok) h).pays
-  any_paid old new ok (calls (makes_newest value key result (got w f r e))) full =
-      none_paid (calm_none old new (rw e (pairs_calm rules old _ _ (length-front_pairs (eq key) old.pairs))))
-  any_paid old new ok (calls (makes_newest value key result (newly e v m h))) full = (insert_one (bounded_of old ok) h).pays
   any_paid old new ok (calls (updates key value result (updated pair f t r l))) full =
       none_paid (calm_none old new (leaves_calm old _ new l))
   any_paid old new ok (calls (updates key value result (rejected pair f t r l))) full =

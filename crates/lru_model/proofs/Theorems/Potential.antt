@@ -2,8 +2,8 @@
 use Rattle.std.proofs.Common.{◌≡◌, ℕ, ◌+◌, ◌*◌, ◌-◌, ◌^◌, ◌<◌, ◌≤◌, length, ap, arith}
 use Rattle.group_table.specs.Change.{count_up}
 use Rattle.group_table.specs.Sizes.{full_capacity, IsBucketCount}
-use Rattle.lru_model.specs.State.{State, buckets, growth_left, potential, IsSized, count_insert}
-use Rattle.lru_model.specs.Theorems.{PaysByStoring, PaysForMoves}
+use Rattle.lru_model.specs.State.{State, Counts, buckets, growth_left, potential, IsSized, count_insert}
+use Rattle.lru_model.specs.Theorems.{PaysByStoring, PaysFor, PaysForMoves}
 use Rattle.lru_model.proofs.TableSizes.SizedStates.{fits}
 use Rattle.lru_model.proofs.TableSizes.Growth.{full_capacity-at_most}
 
@@ -22,7 +22,7 @@ module _ {K V S H : Type 0} where
   pays_for_moves bound p = record {
     placed = p.placed;
     shrunk = omega (arith, bound, p.shrunk);
-    moved = λ h below. omega (arith, p.moved h, p.shrunk, below);
+    rise = λ h below. omega (arith, p.moved h, p.shrunk, below);
   }
 
   pub pays_by_storing : {old new : State K V S H} → old.counts.shrunk < 2 ^ 64 → Pays 0 old new
@@ -33,20 +33,21 @@ module _ {K V S H : Type 0} where
     moved = λ h. omega (arith, p.moved h);
   }
 
-  pub moves_paid_self : (st : State K V S H) → PaysForMoves st st
-  moves_paid_self st = record { placed = omega arith; shrunk = omega arith; moved = λ h below. omega arith }
+  module _ {count : Counts → ℕ} {m n : ℕ} where
+    pub paid_self : (st : State K V S H) → PaysFor count m n st st
+    paid_self st = record { placed = omega arith; shrunk = omega arith; rise = λ h below. omega arith }
 
-  pub moves_paid_trans : {old mid new : State K V S H} → PaysForMoves old mid → PaysForMoves mid new
-      → PaysForMoves old new
-  moves_paid_trans p q = record {
-    placed = omega (arith, p.placed, q.placed);
-    shrunk = omega (arith, p.shrunk, q.shrunk);
-    moved = λ h below. omega (
-      arith,
-      p.moved (omega (arith, q.placed, h)) (omega (arith, q.shrunk, below)),
-      q.moved h below,
-    );
-  }
+    pub paid_trans : {old mid new : State K V S H} → PaysFor count m n old mid → PaysFor count m n mid new
+        → PaysFor count m n old new
+    paid_trans p q = record {
+      placed = omega (arith, p.placed, q.placed);
+      shrunk = omega (arith, p.shrunk, q.shrunk);
+      rise = λ h below. omega (
+        arith,
+        p.rise (omega (arith, q.placed, h)) (omega (arith, q.shrunk, below)),
+        q.rise h below,
+      );
+    }
 
   pub pays_trans : {m n : ℕ} {old mid new : State K V S H} → Pays m old mid → Pays n mid new → Pays (m + n) old new
   pays_trans {m} {n} p q = record {

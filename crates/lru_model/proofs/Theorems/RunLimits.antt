@@ -11,7 +11,7 @@ use Rattle.lru_model.proofs.Theorems.Limits.{keeps_number, length_at_most, uses_
 use Rattle.lru_model.proofs.Theorems.StepTotals.{step_total}
 use Rattle.lru_model.proofs.Theorems.Runs.{step_changes}
 
-module _ {K V S H : Type 0} {rules : Rules K V S} {offers : Offers K V S K} {most : S → ℕ} (names : K → K → Bool)
+module _ {K V S H I : Type 0} {rules : Rules K V S} {offers : Offers K V S I} {most : S → ℕ} (names : I → K → Bool)
     (hash_of : H → K → ℕ) where
   module _ (fixed : IsFixed rules offers most) where
     pub step_keeps_number : (old new : State K V S H) → Step rules offers names hash_of old new

@@ -8,7 +8,7 @@ use Rattle.lru_limits.specs.Rules.{Rules, Offers}
 use Rattle.lru_limits.specs.Laws.{IsLookup, IsInsertion, IsAccount}
 use Rattle.lru_model.specs.Lists.{keys_of}
 use Rattle.lru_model.specs.State.{State, Contents, contents, IsSized, IsMap}
-use Rattle.lru_model.specs.Runs.{Step, inserts, makes_newest, updates, gets, demotes, removes, pops_oldest}
+use Rattle.lru_model.specs.Runs.{Step, inserts, updates, gets, demotes, removes, pops_oldest}
 use Rattle.lru_model.specs.Runs.{pops_newest, drains, clears}
 use Rattle.lru_model.specs.Runs.{reserves, shrinks, trims, retains}
 use Rattle.lru_model.specs.Runs.{AnyStep, calls, writes, sets_limiter, StepOrKeptWrite, Run, ends, goes_on}
@@ -17,14 +17,14 @@ use Rattle.lru_model.proofs.PairLists.DistinctKeys.{offers_distinct}
 use Rattle.lru_model.proofs.Theorems.Moves.{KeepsOffers, keeps_nothing}
 use Rattle.lru_model.proofs.Theorems.TableGrowth.{Changes}
 use Rattle.lru_model.proofs.Theorems.Potential.{pays_for_moves}
-use Rattle.lru_model.proofs.Theorems.Potential.{moves_paid_self, moves_paid_trans, bounded_of}
+use Rattle.lru_model.proofs.Theorems.Potential.{paid_self, paid_trans, bounded_of}
 use Rattle.lru_model.proofs.Theorems.Ways.{insert_changes, update_changes}
 use Rattle.lru_model.proofs.Theorems.PaidMoves.{stays_map}
 use Rattle.lru_model.proofs.Theorems.Sums.{keeps_sums, stays_summed, sum-set}
 use Rattle.lru_model.proofs.Theorems.CallChanges.{promoted_changes, demoted_changes, remove_changes, pop_oldest_changes}
 use Rattle.lru_model.proofs.Theorems.CallChanges.{pop_newest_changes, cleared_changes, drain_changes, trim_changes}
 use Rattle.lru_model.proofs.Theorems.CallChanges.{retain_changes}
-use Rattle.lru_model.proofs.Theorems.CallChanges.{reserve_changes, makes_newest_changes, written_changes, set_changes}
+use Rattle.lru_model.proofs.Theorems.CallChanges.{reserve_changes, written_changes, set_changes}
 use Rattle.lru_model.proofs.Theorems.Shrinks.{shrink_changes}
 
 module _ {K V S H I : Type 0} {rules : Rules K V S} {offers : Offers K V S I} {names : I → K → Bool}
@@ -33,7 +33,6 @@ module _ {K V S H I : Type 0} {rules : Rules K V S} {offers : Offers K V S I} {n
     pub step_changes : (old new : State K V S H) → Step rules offers names hash_of old new → (more : ℕ)
         × (anew : ℕ) × Changes rules R more anew old new
     step_changes old new (inserts key value result h) = (_, _, insert_changes k key value old result new h)
-    step_changes old new (makes_newest value key result h) = (_, _, makes_newest_changes k h)
     step_changes old new (updates key value result h) = (_, _, update_changes k key value old result new h)
     step_changes old new (gets test e) = rw e (_, _, promoted_changes k.keeps old test)
     step_changes old new (demotes test e) = rw e (_, _, demoted_changes k.keeps old test)
@@ -73,8 +72,8 @@ module _ {K V S H I : Type 0} {rules : Rules K V S} {offers : Offers K V S I} {n
 
   pub run_pays : (new old : State K V S H) → IsSized old → Run (AnyStep rules offers names hash_of) new old
       → PaysForMoves old new
-  run_pays new old ok ends = moves_paid_self new
-  run_pays new old ok (goes_on mid s sized r) = moves_paid_trans (any_pays old mid s ok) (run_pays new mid sized r)
+  run_pays new old ok ends = paid_self new
+  run_pays new old ok (goes_on mid s sized r) = paid_trans (any_pays old mid s ok) (run_pays new mid sized r)
 
   pub step_summed : {cost : K → V → ℕ} {account : S → ℕ} → IsAccount rules offers cost account
       → (old new : State K V S H) → Step rules offers names hash_of old new

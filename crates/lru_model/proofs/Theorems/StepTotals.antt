@@ -1,11 +1,10 @@
 use Rattle.std.proofs.Common.{ℕ, ◌≤◌, ◌⊎◌, inr, Bool, List, [], ◌∷◌, Result, ap, arith}
 use Rattle.std.specs.declared.alloc.AllocError.{AllocError}
 use Rattle.lru_limits.specs.Rules.{Rules, Offers}
-use Rattle.lru_model.specs.GetOrInserts.{got, inserted}
 use Rattle.lru_model.specs.Inserts.{Insert}
 use Rattle.lru_model.specs.Lists.{last, without_first, without_last}
 use Rattle.lru_model.specs.State.{State, contents, IsWithin}
-use Rattle.lru_model.specs.Runs.{Step, inserts, makes_newest, updates, gets, demotes, removes, pops_oldest}
+use Rattle.lru_model.specs.Runs.{Step, inserts, updates, gets, demotes, removes, pops_oldest}
 use Rattle.lru_model.specs.Runs.{pops_newest, drains, clears, reserves, shrinks, trims, retains}
 use Rattle.lru_model.specs.Updates.{Update}
 use Rattle.lru_model.specs.declared.results.Updated.{Updated}
@@ -25,9 +24,6 @@ module _ {K V S H I : Type 0} (f : K × V → ℕ) {rules : Rules K V S} {offers
       (less : total f new.pairs ≤ total f old.pairs → R) where
     pub step_ends : Step rules offers names hash_of old new → R
     step_ends (inserts k v result h) = inserted_so k v result h
-    step_ends (makes_newest v k result (got w e r step)) = less
-        (omega (arith, ap (λ st. total f st.pairs) step, total-front f (names k) old.pairs))
-    step_ends (makes_newest v k result (inserted e w m step)) = inserted_so k w result step
     step_ends (updates k v result h) = updated_so k v result h
     step_ends (gets named e) = less
         (omega (arith, ap (λ st. total f st.pairs) e, total-front f named old.pairs))

@@ -11,7 +11,8 @@ use Rattle.lru_model.specs.Lists.{lookup_entry}
 use Rattle.lru_model.specs.State.{State, Contents}
 use Rattle.lru_model.specs.Exact.{IsDetermined}
 use Rattle.lru_model.specs.Theorems.{Stores, left, given, KeepsValues}
-use Rattle.lru_model.specs.Kept.{ChangesNoPair, AcceptsNew, stored_key}
+use Rattle.lru_limits.specs.Laws.{ChangesNoPair}
+use Rattle.lru_model.specs.Kept.{AcceptsNew, stored_key}
 use Rattle.lru_model.proofs.Theorems.Fronts.{found_named}
 
 pub plain-changes_none : {K V S : Type 0} (over grants : S → ℕ → Bool) → ChangesNoPair

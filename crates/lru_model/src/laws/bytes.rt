@@ -1,6 +1,6 @@
 ghost use Rattle.std.specs.Prelude.{◌≡◌, ℕ, ◌+◌, ◌≤◌, Bool, true, Result};
 ghost use Rattle.lru_limits.specs.Bytes.{both_own};
-ghost use Rattle.lru_model.specs.Bytes.{CountsBytes, KeepsBytes, TakesAtMost};
+ghost use Rattle.lru_model.specs.Theorems.{CountsBytes, KeepsBytes, TakesAtMost};
 ghost use Rattle.lru_model.specs.Runs.{Step, StepOrKeptWrite, Run};
 ghost use Rattle.lru_model.specs.Sizes.{max_of_32_bits};
 ghost use Rattle.lru_model.specs.State.{State, IsSized, Trims, empty_map};

@@ -38,22 +38,34 @@ pub fn calls_keep_sums<K: Eq + Hash, V, I: LookupKey<K>, L: Insertion<K, V, I>, 
 /// Suppose that the limiter limits the length to `most` entries (`LimitsLength`), as `ByLength` does. No `Step` changes
 /// this limit (`limit`). If there are at most `most` entries before a `Step`, there are at most `most` entries after it
 /// (`length`).
-pub fn calls_keep_the_length<K: Eq + Hash, V, L: Insertion<K, V, K>, S: KeyHasher<K>>()
+pub fn calls_keep_the_length<
+    K: Eq + Hash,
+    V,
+    I: LookupKey<K>,
+    L: Insertion<K, V, I>,
+    S: KeyHasher<K>,
+>()
     ensures limit { (most : L → ℕ) → LimitsLength L.rules L.offers most → (old new : State K V L S) →
-        Step L.rules L.offers K.eq S.hash_of old new → most new.limiter ≡ most old.limiter }
+        Step L.rules L.offers I.names S.hash_of old new → most new.limiter ≡ most old.limiter }
     ensures length { (most : L → ℕ) → LimitsLength L.rules L.offers most → (old new : State K V L S) →
-        Step L.rules L.offers K.eq S.hash_of old new →
+        Step L.rules L.offers I.names S.hash_of old new →
         length old.pairs ≤ most old.limiter → length new.pairs ≤ most old.limiter }
 {}
 
 /// Suppose that the limiter permits only tables of at most `most` bytes (`LimitsMemory`), as `ByMemoryUsage` does,
 /// alone or in `Storing` or `Both`. No `Step` changes this limit (`limit`). If the table takes at most `most` bytes
 /// before a `Step`, it takes at most `most` bytes after it (`usage`).
-pub fn calls_keep_the_memory_usage<K: Eq + Hash, V, L: Insertion<K, V, K>, S: KeyHasher<K>>()
+pub fn calls_keep_the_memory_usage<
+    K: Eq + Hash,
+    V,
+    I: LookupKey<K>,
+    L: Insertion<K, V, I>,
+    S: KeyHasher<K>,
+>()
     ensures limit { (most : L → ℕ) → LimitsMemory L.rules L.offers most → (old new : State K V L S) →
-        Step L.rules L.offers K.eq S.hash_of old new → most new.limiter ≡ most old.limiter }
+        Step L.rules L.offers I.names S.hash_of old new → most new.limiter ≡ most old.limiter }
     ensures usage { (most : L → ℕ) → LimitsMemory L.rules L.offers most → (old new : State K V L S) →
-        Step L.rules L.offers K.eq S.hash_of old new →
+        Step L.rules L.offers I.names S.hash_of old new →
         UsesAtMost (most old.limiter) old → UsesAtMost (most old.limiter) new }
 {}
 

@@ -4,7 +4,8 @@ ghost use Rattle.std.specs.Prelude.{ℕ, ◌+◌, ◌≤◌, Result};
 ghost use Rattle.lru_model.specs.State.{State, IsSized, potential};
 ghost use Rattle.lru_model.specs.TryInserts.{TryInsert};
 ghost use Rattle.lru_model.specs.Runs.{Run};
-ghost use Rattle.lru_model.specs.PaidInsertions.{PaysForInsertions, PaidStep};
+ghost use Rattle.lru_model.specs.PaidInsertions.{PaidStep};
+ghost use Rattle.lru_model.specs.Theorems.{PaysForInsertions};
 
 use lru_limits::{Admission, KeyHasher};
 use std::hash::Hash;

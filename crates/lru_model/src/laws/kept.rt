@@ -13,7 +13,8 @@ ghost use Rattle.lru_model.specs.Calls.{written};
 ghost use Rattle.lru_model.specs.Runs.{Step};
 ghost use Rattle.lru_model.specs.Theorems.{Stores};
 ghost use Rattle.lru_model.specs.Exact.{InsertsInList};
-ghost use Rattle.lru_model.specs.Kept.{ChangesNoPair, LosesNothing, AcceptsNew, IsAdded, LeavesTheNewest};
+ghost use Rattle.lru_limits.specs.Laws.{ChangesNoPair};
+ghost use Rattle.lru_model.specs.Kept.{LosesNothing, AcceptsNew, IsAdded, LeavesTheNewest};
 ghost use Rattle.lru_model.specs.Kept.{KeepsToLength, most_exact_length, newest_after};
 ghost use Rattle.lru_model.specs.Extends.{InsertsAll};
 

@@ -5,7 +5,7 @@ ghost use Rattle.lru_limits.specs.Limits.{LimitsLength, LimitsMemory};
 ghost use Rattle.lru_model.specs.Lists.{IsFront};
 ghost use Rattle.lru_model.specs.State.{State, IsSized, IsMap, empty_map};
 ghost use Rattle.lru_model.specs.Runs.{StepOrWrite, StepOrKeptWrite, AnyStep, StepAmong, Run};
-ghost use Rattle.lru_model.specs.RunEvictions.{EachStep, InsertEvictsOldest};
+ghost use Rattle.lru_model.specs.Runs.{EachStep, InsertEvictsOldest};
 ghost use Rattle.lru_model.specs.Theorems.{PaysForMoves, UsesAtMost, IsSummed, others};
 
 use lru_limits::{Budgeted, Insertion, KeyHasher, Limiter, LookupKey};
@@ -56,8 +56,8 @@ pub fn runs_evict_the_oldest<
         IsFront (others test new.pairs) (others test old.pairs) }
 {}
 
-/// `inserts_evict_the_oldest` holds of each insert of a run, and of each get that inserts, whatever the other calls of
-/// the run are.
+/// `inserts_evict_the_oldest` holds of each insert of a run, also if a get inserts, whatever the other calls of the run
+/// are.
 pub fn each_insert_of_a_run_evicts_the_oldest<
     K: Eq + Hash,
     V,
@@ -70,20 +70,32 @@ pub fn each_insert_of_a_run_evicts_the_oldest<
 {}
 
 /// `calls_keep_the_length` also holds of any `Step`s and writes of values, one after another.
-pub fn runs_keep_the_length<K: Eq + Hash, V, L: Insertion<K, V, K>, S: KeyHasher<K>>()
+pub fn runs_keep_the_length<
+    K: Eq + Hash,
+    V,
+    I: LookupKey<K>,
+    L: Insertion<K, V, I>,
+    S: KeyHasher<K>,
+>()
     ensures limit { (most : L → ℕ) → LimitsLength L.rules L.offers most → (old new : State K V L S) →
-        Run (StepOrWrite L.rules L.offers K.eq S.hash_of) new old → most new.limiter ≡ most old.limiter }
+        Run (StepOrWrite L.rules L.offers I.names S.hash_of) new old → most new.limiter ≡ most old.limiter }
     ensures length { (most : L → ℕ) → LimitsLength L.rules L.offers most → (old new : State K V L S) →
-        Run (StepOrWrite L.rules L.offers K.eq S.hash_of) new old →
+        Run (StepOrWrite L.rules L.offers I.names S.hash_of) new old →
         length old.pairs ≤ most old.limiter → length new.pairs ≤ most old.limiter }
 {}
 
 /// `calls_keep_the_memory_usage` also holds of any `Step`s and writes of values, one after another.
-pub fn runs_keep_the_memory_usage<K: Eq + Hash, V, L: Insertion<K, V, K>, S: KeyHasher<K>>()
+pub fn runs_keep_the_memory_usage<
+    K: Eq + Hash,
+    V,
+    I: LookupKey<K>,
+    L: Insertion<K, V, I>,
+    S: KeyHasher<K>,
+>()
     ensures limit { (most : L → ℕ) → LimitsMemory L.rules L.offers most → (old new : State K V L S) →
-        Run (StepOrWrite L.rules L.offers K.eq S.hash_of) new old → most new.limiter ≡ most old.limiter }
+        Run (StepOrWrite L.rules L.offers I.names S.hash_of) new old → most new.limiter ≡ most old.limiter }
     ensures usage { (most : L → ℕ) → LimitsMemory L.rules L.offers most → (old new : State K V L S) →
-        Run (StepOrWrite L.rules L.offers K.eq S.hash_of) new old →
+        Run (StepOrWrite L.rules L.offers I.names S.hash_of) new old →
         UsesAtMost (most old.limiter) old → UsesAtMost (most old.limiter) new }
 {}
 

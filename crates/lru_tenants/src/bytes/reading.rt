@@ -4,7 +4,7 @@ ghost use Rattle.std.specs.Borrow.{sem};
 ghost use Rattle.std.specs.List.{All, IsDistinct};
 ghost use Rattle.std.specs.Map.{keys_of, values_of};
 ghost use Rattle.lru_limits.specs.Bytes.{both_own};
-ghost use Rattle.lru_model.specs.Bytes.{KeepsBytes};
+ghost use Rattle.lru_model.specs.Theorems.{KeepsBytes};
 ghost use Rattle.lru_model.specs.Lists.{lookup};
 ghost use Rattle.lru_tenants.specs.Bytes.{tenant, IsWithin, reserved, On};
 ghost use Rattle.lru_tenants.specs.Lending.{read};

@@ -2,7 +2,7 @@ ghost use Rattle.std.specs.Prelude.{◌≡◌};
 ghost use Rattle.std.specs.Borrow.{sem, u32 as link};
 ghost use Rattle.std.specs.Option.{option_copied};
 ghost use Rattle.lru_limits.specs.Bytes.{both_own, by_bytes, bytes_offers};
-ghost use Rattle.lru_model.specs.Bytes.{KeepsBytes};
+ghost use Rattle.lru_model.specs.Theorems.{KeepsBytes};
 ghost use Rattle.lru_model.specs.Calls.{promoted, Remove};
 ghost use Rattle.lru_model.specs.Inserts.{Insert};
 ghost use Rattle.lru_model.specs.Lists.{lookup};

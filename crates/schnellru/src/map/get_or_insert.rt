@@ -2,7 +2,7 @@ ghost use Rattle.std.specs.Prelude.{◌≡◌, ◌<◌, true, length, None, Ok, 
 ghost use Rattle.lru_model.specs.Lists.{lookup};
 ghost use Rattle.lru_model.specs.State.{IsMap};
 ghost use Rattle.lru_model.specs.GetOrInserts.{MakesNewest, GetsOrInserts, SaysNewest, IsOutOfMemoryFor};
-ghost use Rattle.lru_model.specs.IfMade.{MakesNewestIfMade, GetsOrInsertsIfMade};
+ghost use Rattle.lru_model.specs.GetOrInserts.{MakesNewestIfMade, GetsOrInsertsIfMade};
 ghost use Rattle.std.specs.Borrow.{sem};
 ghost use Rattle.schnellru.specs.Lending.Answers.{lent_or_none};
 
@@ -71,7 +71,7 @@ impl<K: Eq + Hash + Drop, V: Drop, L: Limiter<K, V>, S: KeyHasher<K>> LruMap<K, 
         L: Insertion<K, V, I>,
         requires callable { lookup (I.names key) self.old.pairs ≡ None → F.pre make }
         ensures step { MakesNewest L.rules L.offers I.names S.hash_of (F.post make) key self.old result self.new }
-        ensures says { SaysNewest (I.names key) result self.new }
+        ensures says { SaysNewest L.rules (I.names key) self.old result self.new }
         ensures out_of_memory { OnErr result
             (IsOutOfMemoryFor L.rules L.offers I.names S.hash_of (F.post make) key self.old self.new) }
         ensures map { IsMap K.eq self.new }
@@ -191,7 +191,7 @@ impl<K: Eq + Hash + Drop, V: Drop, L: Limiter<K, V>, S: KeyHasher<K>> LruMap<K, 
         requires callable { lookup (I.names key) self.old.pairs ≡ None → F.pre make }
         ensures step { MakesNewestIfMade L.rules L.offers I.names S.hash_of
             (F.post make) key self.old result self.new }
-        ensures says { SaysNewest (I.names key) result self.new }
+        ensures says { SaysNewest L.rules (I.names key) self.old result self.new }
         ensures out_of_memory { IsErrOf result GetOrInsertError.Memory →
             IsOutOfMemoryFor L.rules L.offers I.names S.hash_of (λ value. F.post make (Ok value)) key self.old
             self.new }

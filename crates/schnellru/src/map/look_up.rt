@@ -4,7 +4,7 @@ ghost use Rattle.std.specs.Borrow.{sem};
 ghost use Rattle.std.specs.Map.Iter.{deref_pair};
 ghost use Rattle.lru_model.specs.Lists.{lookup, lookup_entry, first, last, newest_value, set_newest};
 ghost use Rattle.lru_model.specs.State.{State, IsMap};
-ghost use Rattle.lru_model.specs.Calls.{Get, promoted, demoted, written};
+ghost use Rattle.lru_model.specs.Calls.{promoted, demoted, written};
 
 use crate::map::LruMap;
 use lru_limits::{KeyHasher, Limiter, LookupKey};
@@ -33,8 +33,7 @@ impl<K: Eq + Hash, V, L: Limiter<K, V>, S: KeyHasher<K>> LruMap<K, V, L, S> {
             L.LinkType.LinkType S.KeyHasher S.Hasher.Hasher self.entry
             (Q.names key.now) (promoted (Q.names key.now) self.old) result) }
         ensures value { option_copied_mut result ≡ lookup (Q.names key.now) self.old.pairs }
-        ensures map { (new : State K V L S) → Get (Q.names key.now) self.old (option_copied_mut result) new
-            → IsMap K.eq new }
+        ensures map { (last : V) → IsMap K.eq (written (Q.names key.now) last (promoted (Q.names key.now) self.old)) }
     {
         let b = self.find(key)?;
         self.promote_at(b);

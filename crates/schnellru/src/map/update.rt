@@ -1,8 +1,8 @@
-ghost use Rattle.std.specs.Prelude.{List};
+ghost use Rattle.std.specs.Prelude.{◌≡◌, List};
 ghost use Rattle.lru_model.specs.Callbacks.{noting_offers, CalledWith};
 ghost use Rattle.schnellru.specs.Inside.Passing.{Passes};
 ghost use Rattle.lru_model.specs.MayTake.{MayTakeReplaced};
-ghost use Rattle.lru_model.specs.State.{IsMap, contents};
+ghost use Rattle.lru_model.specs.State.{IsMap, IsWithin, contents};
 ghost use Rattle.lru_model.specs.Updates.{Update, UpdatePasses};
 
 use crate::map::LruMap;
@@ -30,6 +30,7 @@ impl<K: Eq + Hash + Drop, V: Drop, L: Limiter<K, V>, S: KeyHasher<K>> LruMap<K, 
     where
         L: Insertion<K, V, I>,
         ensures step { Update L.rules L.offers I.names key value self.old result self.new }
+        ensures within { (was : V) → result ≡ Updated.Replaced was → IsWithin L.rules (contents self.new) }
         ensures map { IsMap K.eq self.new }
     {
         self.update_with(key, value, &mut discard)
@@ -57,6 +58,7 @@ impl<K: Eq + Hash, V, L: Limiter<K, V>, S: KeyHasher<K>> LruMap<K, V, L, S> {
         L: Insertion<K, V, I>,
         requires callable { MayTakeReplaced L.rules F.FnMut L.offers I.names key value (contents self.old) sink.old }
         ensures step { Update L.rules L.offers I.names key value self.old result self.new }
+        ensures within { (was : V) → result ≡ Updated.Replaced was → IsWithin L.rules (contents self.new) }
         ensures passed { (passed : List (K × V)) × CalledWith F.FnMut sink.old passed sink.new
             × UpdatePasses L.rules L.offers I.names key value self.old result passed self.new }
         ensures callable { F.IsAlwaysCallable sink.old → F.IsAlwaysCallable sink.new }

@@ -1,6 +1,7 @@
 use Rattle.std.specs.Prelude.{vec_len}
 use Rattle.std.specs.String.{string_eq}
-use Rattle.lru_replay.specs.References.{Loops, of_cost}
+use Rattle.lru_replay.specs.References.{of_cost}
+use Rattle.lru_replay.proofs.ReferenceLoops.{Loops}
 use Rattle.lru_replay_tests.proofs.costs.read_through.Given as goal
 
 abbrev pub invariant-loop-text : goal.invariant-loop-text

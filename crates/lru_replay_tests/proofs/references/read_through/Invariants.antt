@@ -1,5 +1,6 @@
 use Rattle.std.specs.String.{string_eq}
-use Rattle.lru_replay.specs.References.{Loops, of_length}
+use Rattle.lru_replay.specs.References.{of_length}
+use Rattle.lru_replay.proofs.ReferenceLoops.{Loops}
 use Rattle.lru_replay_tests.proofs.references.read_through.Given as goal
 
 abbrev pub invariant-loop-text : goal.invariant-loop-text

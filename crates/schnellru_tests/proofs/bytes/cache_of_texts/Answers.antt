@@ -1,6 +1,6 @@
 use Rattle.std.proofs.Common.{sym, subst, string_capacity}
 use Rattle.lru_limits.specs.Bytes.{both_own, block_bytes}
-use Rattle.lru_model.specs.Bytes.{KeepsBytes}
+use Rattle.lru_model.specs.Theorems.{KeepsBytes}
 use Rattle.lru_model.specs.State.{empty_map}
 use Rattle.schnellru_tests.proofs.bytes.cache_of_texts.Goals as goal
 

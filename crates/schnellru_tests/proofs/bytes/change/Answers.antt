@@ -1,7 +1,7 @@
 use Rattle.std.proofs.Common.{inl, subst, string_capacity}
 use Rattle.lru_limits.specs.Bytes.{both_own, block_bytes}
 use Rattle.lru_limits.specs.Texts.{names_text}
-use Rattle.lru_model.specs.Bytes.{TakesAtMost}
+use Rattle.lru_model.specs.Theorems.{TakesAtMost}
 use Rattle.lru_model.specs.Runs.{ends, goes_on}
 use Rattle.lru_model.specs.Runs.Step.{inserts, updates, removes, shrinks}
 use Rattle.schnellru_tests.proofs.bytes.change.Goals as goal

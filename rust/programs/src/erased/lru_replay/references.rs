@@ -15,21 +15,21 @@ use crate::rattle_std::hash::Hash;
 pub fn calls_make_references<K: Eq + Hash, V, S: KeyHasher<K>>() {
     laws::inserts_leave_the_newest::<K, V, S>();
     laws::maps_keep_to_their_length::<K, V, S>();
-    laws::calls_keep_the_length::<K, V, ByLength, S>();
+    laws::calls_keep_the_length::<K, V, K, ByLength, S>();
 }
 
 /// If `ensure_newest` or `get_or_insert`, with the closure `make`, returns `Ok`, the call makes a reference.
 pub fn gets_that_insert_make_references<K: Eq + Hash, V, F: FnOnce() -> V, S: KeyHasher<K>>() {
     laws::inserts_leave_the_newest::<K, V, S>();
     laws::maps_keep_to_their_length::<K, V, S>();
-    laws::calls_keep_the_length::<K, V, ByLength, S>();
+    laws::calls_keep_the_length::<K, V, K, ByLength, S>();
 }
 
 /// If the fallible form of `ensure_newest` or `get_or_insert` returns `Ok`, the call makes a reference.
 pub fn gets_that_insert_if_made_make_references<K: Eq + Hash, V, E, F: FnOnce() -> Result<V, E>, S: KeyHasher<K>>() {
     laws::inserts_leave_the_newest::<K, V, S>();
     laws::maps_keep_to_their_length::<K, V, S>();
-    laws::calls_keep_the_length::<K, V, ByLength, S>();
+    laws::calls_keep_the_length::<K, V, K, ByLength, S>();
 }
 
 /// Says what other calls do to the keys. `promotes` covers gets and promotions, even if the key is not in the map, and
@@ -37,7 +37,7 @@ pub fn gets_that_insert_if_made_make_references<K: Eq + Hash, V, E, F: FnOnce() 
 pub fn calls_change_the_keys<K: Eq + Hash, V, S: KeyHasher<K>>() {
     laws::inserts_leave_the_newest::<K, V, S>();
     laws::maps_keep_to_their_length::<K, V, S>();
-    laws::calls_keep_the_length::<K, V, ByLength, S>();
+    laws::calls_keep_the_length::<K, V, K, ByLength, S>();
 }
 
 /// A program that made the references of a trace, and then makes one more, has made the references of the longer trace.

@@ -19,8 +19,8 @@ fn put_both(
     second: (u64, u64),
 ) -> Result<Vec<Answer<u64, u64>>, AllocError> {
     lists_are_runs::<u64, u64, Both<ByLength, ByMemoryUsage>, RandomState>();
-    laws::runs_keep_the_length::<u64, u64, Both<ByLength, ByMemoryUsage>, RandomState>();
-    laws::runs_keep_the_memory_usage::<u64, u64, Both<ByLength, ByMemoryUsage>, RandomState>();
+    laws::runs_keep_the_length::<u64, u64, u64, Both<ByLength, ByMemoryUsage>, RandomState>();
+    laws::runs_keep_the_memory_usage::<u64, u64, u64, Both<ByLength, ByMemoryUsage>, RandomState>();
     laws::runs_evict_the_oldest::<u64, u64, u64, Both<ByLength, ByMemoryUsage>, RandomState>();
     laws::runs_pay_for_moves::<u64, u64, u64, Both<ByLength, ByMemoryUsage>, RandomState>();
     let _len = map.len();

@@ -100,7 +100,7 @@ fn keep_all(alloc: Global, texts: &[String]) -> Result<LruMap<String, u64>, Allo
 }
 
 fn put_within(map: &mut LruMap<String, u64>, key: String, value: u64) -> Result<bool, AllocError> {
-    laws::calls_keep_the_length::<String, u64, ByLength, RandomState>();
+    laws::calls_keep_the_length::<String, u64, String, ByLength, RandomState>();
     map.insert(key, value)
 }
 
@@ -110,8 +110,8 @@ fn put_within_both(
     key: String,
     value: u64,
 ) -> Result<bool, AllocError> {
-    laws::calls_keep_the_length::<String, u64, Both<ByLength, ByMemoryUsage>, RandomState>();
-    laws::calls_keep_the_memory_usage::<String, u64, Both<ByLength, ByMemoryUsage>, RandomState>();
+    laws::calls_keep_the_length::<String, u64, String, Both<ByLength, ByMemoryUsage>, RandomState>();
+    laws::calls_keep_the_memory_usage::<String, u64, String, Both<ByLength, ByMemoryUsage>, RandomState>();
     map.insert(key, value)
 }
 

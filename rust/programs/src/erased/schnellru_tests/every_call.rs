@@ -1,6 +1,8 @@
 // Erased from crates/schnellru_tests/src/every_call.rt: do not edit.
-//! Every public call that may change a map is a step, or several steps. So the laws on steps and on runs hold for every
-//! call.
+//! Public calls that may change a map are steps, so the laws on steps and on runs hold for these calls.
+//!
+//! A call that gets a hash has the clauses of a call below. A `drain` pops each entry that it returns. No caller's proof
+//! can use the loan of `get_or_insert`, which is a step by `writes_newest` of `EveryCall`.
 
 #[allow(unused_imports)]
 use crate::rattle_std::prelude::*;
@@ -25,12 +27,6 @@ fn remove<K: Eq + Hash, V, Q: LookupKey<K>, L: Limiter<K, V>, S: KeyHasher<K>>(m
 
 fn release<K: Eq + Hash, V, L: Limiter<K, V>, S: KeyHasher<K>>(map: &mut LruMap<K, V, L, S>) {
     let _ = map.try_pop_oldest(|_, _| -> Result<(), ()> { Ok(()) });
-}
-
-fn drain<K: Eq + Hash, V, L: Limiter<K, V>, S: KeyHasher<K>>(map: &mut LruMap<K, V, L, S>) {
-    let mut drain = map.drain();
-    drain.next();
-    drain.next_back();
 }
 
 fn resize<K: Eq + Hash, V, L: Limiter<K, V>, S: KeyHasher<K>>(map: &mut LruMap<K, V, L, S>, limiter: L) {
@@ -85,6 +81,7 @@ fn find<K: Eq + Hash, V, Q: LookupKey<K>, L: Limiter<K, V>, S: KeyHasher<K>>(
 }
 
 fn walk<K: Eq + Hash, V, L: Limiter<K, V>, S: KeyHasher<K>>(map: &mut LruMap<K, V, L, S>, value: V) {
+    let _len = map.len();
     let mut walk = map.iter_mut();
     if walk.len() > 0 {
         let (_, place) = walk.lend_next();

@@ -2,7 +2,6 @@ use Rattle.std.proofs.Common.{◌≡◌, Bool, true, false, refl, sym, subst}
 use Rattle.std.proofs.lemmas.Fn.{says_at}
 use Rattle.std.specs.Fn.{FnReturnsAt}
 use Rattle.std.specs.Prelude.{MatchOption}
-use Rattle.lru_model.specs.Calls.{found}
 use Rattle.lru_caches.specs.Answers.{AreAnswers}
 use Rattle.lru_caches.proofs.StoredAnswers.{got_answer, inserted_answer}
 use Rattle.lru_caches.proofs.memo.Memo.answer_full.Goals as goal
@@ -20,7 +19,7 @@ returns-in-Some g c =
       called = subst (λ o. MatchOption o ((false ≡ true) × FnReturnsAt g.F.Fn c.self.inside.function c.args.key value)
           (λ v. ◌≡◌ {A = g.row.V.Denot × Bool} (value, false) (v, false))) c.in-Some.ensures.value refl;
       step = got.step;
-      map = c.in-Some.ensures.map _ (found value value there refl refl);
+      map = c.in-Some.ensures.map value;
       known = got.known;
       function = refl;
     })

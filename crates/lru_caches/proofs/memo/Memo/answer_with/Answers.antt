@@ -2,7 +2,6 @@ use Rattle.std.proofs.Common.{refl, sym, subst}
 use Rattle.std.proofs.lemmas.Fn.{says_at}
 use Rattle.std.specs.Fn.{FnReturnsAt, FnOnceReturnsAt}
 use Rattle.std.specs.Prelude.{IfSome}
-use Rattle.lru_model.specs.Calls.{found}
 use Rattle.lru_caches.specs.Answers.{AreAnswers}
 use Rattle.lru_caches.proofs.StoredAnswers.{got_answer, inserted_answer}
 use Rattle.lru_caches.proofs.memo.Memo.answer_with.Goals as goal
@@ -17,7 +16,7 @@ returns-in-Some g c =
     (FnReturnsAt g.F.Fn c.self.inside.function) c.args.key value c.self.inside.map known there in
     rw (← c.self.view_is) (record {
       answer = (value, got.answer, got.step, (_, c.read.ensures, refl));
-      map = c.in-Some.ensures.map _ (found value value there refl refl);
+      map = c.in-Some.ensures.map value;
       stored = subst (λ o. IfSome o (λ v. FnOnceReturnsAt g.U.FnOnce c.args.read v c.read.result))
           c.in-Some.ensures.value (_, c.read.ensures, refl);
       known = got.known;

@@ -2,7 +2,6 @@ use Rattle.std.proofs.Common.{◌≡◌, Option, Some, None, refl, sym, subst}
 use Rattle.std.specs.Fn.{FnOnceReturnsAt}
 use Rattle.std.specs.Prelude.{MatchOption}
 use Rattle.lru_model.proofs.CallerLemmas.{read-all, read_back, promoted-absent}
-use Rattle.lru_model.specs.Calls.{found}
 use Rattle.lru_caches.specs.Answers.{IsAnswer, AreAnswers}
 use Rattle.lru_caches.proofs.memo.Memo.get_with.Goals as goal
 
@@ -18,7 +17,7 @@ returns g c =
           × FnOnceReturnsAt g.U.FnOnce c.args.read value given)) c.in_ok-value.ensures.value
           (_, refl, (_, c.read.ensures, refl));
       step = read_back names old value there;
-      map = c.in_ok-value.ensures.map _ (found value value there refl refl);
+      map = c.in_ok-value.ensures.map value;
       known = λ post known. read-all names old (λ p. IsAnswer g.K.PartialEq.eq post p.0 p.1) value there known;
       function = refl;
     })

@@ -1,6 +1,6 @@
 use Rattle.std.proofs.Common.{Some, Ok, sym, refl, ap, ◌∙◌, subst}
 use Rattle.lru_limits.specs.Bytes.{both_own}
-use Rattle.lru_model.specs.Bytes.{KeepsBytes}
+use Rattle.lru_model.specs.Theorems.{KeepsBytes}
 use Rattle.lru_model.specs.Lists.{lookup}
 use Rattle.lru_tenants.specs.Bytes.{limit_of}
 use Rattle.lru_tenants.specs.TenantRuns.{read_of, Gets}

@@ -2,7 +2,7 @@ use Rattle.std.proofs.Common.{◌+◌, ◌∷◌, inl, inr, false, Some, None, O
 use Rattle.std.proofs.lemmas.List.Elements.{All-cons}
 use Rattle.std.specs.Map.{lookup, values_of}
 use Rattle.lru_limits.specs.Bytes.{both_own, in_word}
-use Rattle.lru_model.specs.Bytes.{KeepsBytes}
+use Rattle.lru_model.specs.Theorems.{KeepsBytes}
 use Rattle.lru_tenants.specs.Bytes.{fresh, reserved}
 use Rattle.lru_tenants.specs.TenantRuns.{Opens}
 use Rattle.lru_tenants.specs.declared.error.TenantError.TheVariants.{Memory}

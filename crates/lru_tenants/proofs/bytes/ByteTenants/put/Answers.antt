@@ -1,6 +1,6 @@
 use Rattle.std.proofs.Common.{Some, None, Err, sym, refl, ap, ◌∙◌}
 use Rattle.lru_limits.specs.Bytes.{both_own, by_bytes, bytes_offers}
-use Rattle.lru_model.specs.Bytes.{KeepsBytes}
+use Rattle.lru_model.specs.Theorems.{KeepsBytes}
 use Rattle.lru_tenants.specs.TenantRuns.{OfOpen, Puts, put_answer}
 use Rattle.lru_tenants.specs.declared.error.TenantError.TheVariants.{NotOpen}
 use Rattle.lru_tenants.proofs.Changes.{found-all}

@@ -1,7 +1,7 @@
-use Rattle.std.proofs.Common.{Some, None, refl, sym, ap, ◌∙◌, subst, ◌≡◌}
+use Rattle.std.proofs.Common.{Some, refl, sym, ap, ◌∙◌, subst, ◌≡◌}
 use Rattle.lru_model.specs.Lists.{lookup_entry, place_of}
 use Rattle.lru_model.proofs.PairLists.NamedPlaces.{front_place, front_found, named_value, no_named_value}
-use Rattle.lru_model.proofs.States.Promotions.{get_is_map}
+use Rattle.lru_model.proofs.States.Promotions.{promoted_is_map, written_is_map}
 use Rattle.lru_model.specs.Calls.{written}
 use Rattle.schnellru.proofs.Maps.Writes.{same_follow}
 use Rattle.schnellru.proofs.map.LruMap.get.Goals as goal
@@ -13,7 +13,8 @@ returns-in_err-b g c = let names = g.Q.LookupKey.names c.args.key.now in
       record {
         writes_back = tt;
         value = sym (no_named_value names c.args.self.now.pairs c.in_err-b.ensures.none);
-        map = λ new step. get_is_map g.met.Q.LookupKey.laws c.args.key.now _ None new step c.find.ensures.map;
+        map = λ last. written_is_map _ names last
+            (promoted_is_map g.met.Q.LookupKey.laws c.args.key.now _ c.find.ensures.map);
       },
     )
 
@@ -32,7 +33,7 @@ returns g c =
       record {
         writes_back = tt;
         value = sym (named_value names old.pairs (key, value) found);
-        map = λ new step. get_is_map g.met.Q.LookupKey.laws c.args.key.now _ (Some value) new step
-            c.find.ensures.map;
+        map = λ last. written_is_map _ names last
+            (promoted_is_map g.met.Q.LookupKey.laws c.args.key.now _ c.find.ensures.map);
       },
     )

@@ -18,7 +18,7 @@ use denote.Triple.Walked.{Stays, walk_of, stay_dropped, Goes-spent_ref, Goes-dro
 use Rattle.std.proofs.raw_atomic.Walks.{proved_at, leaves}
 use Rattle.lru_model.specs.contracts.results.GetOrInsertError as GE
 use Rattle.lru_model.proofs.results.GetOrInsertError.TheLaws as GE_laws
-use Rattle.lru_model.specs.IfMade.{GetsOrInsertsIfMade}
+use Rattle.lru_model.specs.GetOrInserts.{GetsOrInsertsIfMade}
 use Rattle.schnellru.specs.contracts.map.LruMap as M'
 use Rattle.schnellru.specs.contracts.map.LruMap.get_or_insert_fallible as f
 use Rattle.schnellru.specs.contracts.map.LruMap.get_or_insert_fallible.F-FnOnce as closure

@@ -1,6 +1,5 @@
 use Rattle.std.proofs.Common.{[], Ok, true, refl, sym, ap}
-use Rattle.lru_model.specs.GetOrInserts.{got, inserted}
-use Rattle.lru_model.specs.IfMade.{failed, as_made, or_memory}
+use Rattle.lru_model.specs.GetOrInserts.{got, inserted, failed, as_made, or_memory}
 use Rattle.lru_model.proofs.PairLists.NamedPlaces.{named_there, named_value, no_named_value}
 use Rattle.lru_model.proofs.Theorems.PlainInserts.{plain_insert}
 use Rattle.schnellru.proofs.map.LruMap.make_newest_if_made.Goals as goal

@@ -21,8 +21,8 @@ pub fn runs_pay_for_moves<K: Eq + Hash, V, I: LookupKey<K>, L: Insertion<K, V, I
 /// A run without `pop_newest` evicts only the oldest of the entries whose keys no call of the run names.
 pub fn runs_evict_the_oldest<K: Eq + Hash, V, I: LookupKey<K>, L: Insertion<K, V, I>, S: KeyHasher<K>>() {}
 
-/// `inserts_evict_the_oldest` holds of each insert of a run, and of each get that inserts, whatever the other calls of
-/// the run are.
+/// `inserts_evict_the_oldest` holds of each insert of a run, also if a get inserts, whatever the other calls of the run
+/// are.
 pub fn each_insert_of_a_run_evicts_the_oldest<
     K: Eq + Hash,
     V,
@@ -33,10 +33,10 @@ pub fn each_insert_of_a_run_evicts_the_oldest<
 }
 
 /// `calls_keep_the_length` also holds of any `Step`s and writes of values, one after another.
-pub fn runs_keep_the_length<K: Eq + Hash, V, L: Insertion<K, V, K>, S: KeyHasher<K>>() {}
+pub fn runs_keep_the_length<K: Eq + Hash, V, I: LookupKey<K>, L: Insertion<K, V, I>, S: KeyHasher<K>>() {}
 
 /// `calls_keep_the_memory_usage` also holds of any `Step`s and writes of values, one after another.
-pub fn runs_keep_the_memory_usage<K: Eq + Hash, V, L: Insertion<K, V, K>, S: KeyHasher<K>>() {}
+pub fn runs_keep_the_memory_usage<K: Eq + Hash, V, I: LookupKey<K>, L: Insertion<K, V, I>, S: KeyHasher<K>>() {}
 
 /// `calls_keep_the_budget` also holds of any `Step`s, one after another, and any writes of values that cost as much as
 /// the old values. Writes of other values do not change the budget, either (`budget`).

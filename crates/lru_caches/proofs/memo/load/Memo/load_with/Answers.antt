@@ -2,7 +2,6 @@ use Rattle.std.proofs.Common.{◌≡◌, rules, Result, Ok, refl, sym, subst}
 use Rattle.std.proofs.lemmas.Fn.{says_at}
 use Rattle.std.specs.Fn.{FnReturnsAt, FnOnceReturnsAt}
 use Rattle.std.specs.Prelude.{IfSome}
-use Rattle.lru_model.specs.Calls.{found}
 use Rattle.lru_caches.specs.Answers.{AreAnswers, loads, loaded, failed}
 use Rattle.lru_caches.proofs.StoredAnswers.{got_answer, inserted_answer}
 use Rattle.lru_caches.proofs.memo.load.Memo.load_with.Goals as goal
@@ -21,7 +20,7 @@ returns-in-Some g c =
       stored = subst (λ o. IfSome o (λ v. (given : g.row.R.Denot) × (result ≡ Ok given)
           × FnOnceReturnsAt g.U.FnOnce c.args.read v given)) c.in-Some.ensures.value (_, refl, (_, c.read.ensures, refl));
       loaded = search rules;
-      map = c.in-Some.ensures.map _ (found value value there refl refl);
+      map = c.in-Some.ensures.map value;
       failed = tt;
       known = got.known;
       function = refl;

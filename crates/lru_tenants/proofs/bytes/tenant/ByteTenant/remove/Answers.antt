@@ -1,6 +1,6 @@
 use Rattle.std.proofs.Common.{sym, subst}
 use Rattle.lru_limits.specs.Bytes.{both_own}
-use Rattle.lru_model.specs.Bytes.{KeepsBytes}
+use Rattle.lru_model.specs.Theorems.{KeepsBytes}
 use Rattle.lru_model.specs.Runs.Step.{removes}
 use Rattle.lru_tenants.proofs.bytes.tenant.ByteTenant.remove.Goals as goal
 
