@@ -97,7 +97,7 @@ CRATES = {
         use crate::beginnings::{Cache, Counted, Map, recount, refill, rewrite};
         use crate::disk::{Disk, DiskError};
         use lru_caches::{
-            BlockDevice, CountedMap, Counts, Durable, FileDevice, FileError, HashedFileDevice, Memo, MemoTable, OrderedMap,
+            BlockDevice, CountedMap, Counts, Durable, FileDevice, FileError, HashedFileDevice, Loader, Memo, MemoTable, OrderedMap,
             PageCache, PageError, Question, Unclosed,
         };
         use schnellru::{ByLength, LruMap, RandomState};

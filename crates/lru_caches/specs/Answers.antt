@@ -1,4 +1,4 @@
--- What a memo may return, and what it remembers.
+-- What a memo or a loader may return, and what a memo remembers.
 --     `eq`: the `==` of the keys.
 --     `post k v`: the function may return v at k.
 use Rattle.std.specs.Prelude.{◌≡◌, ℕ, Bool, true, List, Result, Ok, Err}
@@ -8,7 +8,7 @@ use Rattle.lru_limits.specs.Rules.{Rules, Offers}
 use Rattle.lru_model.specs.GetOrInserts.{MakesNewest}
 use Rattle.lru_model.specs.State.{State}
 
--- what a contract says of a memo
+-- what a contract says of a memo or a loader
 pub record Memoized (K V S H F : Type 0) : Type 0 where
   pub map : State K V S H
   pub function : F

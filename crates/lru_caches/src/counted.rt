@@ -198,21 +198,21 @@ impl<K: Eq + Hash, V, L: Limiter<K, V>, S: KeyHasher<K>> CountedMap<K, V, L, S> 
 }
 
 impl<K: Eq + Hash, V: Copy, L: Limiter<K, V>, S: KeyHasher<K>> CountedMap<K, V, L, S> {
-    /// Calls `promote`, and returns the value of the key.
+    /// Does what `promote` does, and returns the value of the key.
     ///
     /// ```
     /// assert_eq!(rt; (counted.get(&1), counted.get(&9)), (Some(10), None));
     /// ```
     ///
-    /// Cost: as `LruMap::get`, and another search.
+    /// Cost: as `LruMap::get`.
     pub fn get<Q: LookupKey<K>>(&mut self, key: &Q) -> Option<V>
         ensures value { result ≡ lookup (Q.names key.now) self.old.map.pairs }
         ensures map { self.new.map ≡ promoted (Q.names key.now) self.old.map }
         ensures is_map { IsMap K.eq self.new.map }
         ensures counts { self.new.counts ≡ looked_up (is_some result) self.old.counts }
     {
-        let value = self.map.peek(key).copied();
-        self.promote(key);
+        let value = get(&mut self.map, key);
+        self.counts.count_look_up(value.is_some());
         value
     }
 }
@@ -260,6 +260,21 @@ impl<K: Eq + Hash + Drop, V: Drop, L: Limiter<K, V>, S: KeyHasher<K>> CountedMap
         ensures counts { self.new.counts ≡ self.old.counts }
     {
         self.map.remove(key)
+    }
+}
+
+fn get<K: Eq + Hash, V: Copy, Q: LookupKey<K>, L: Limiter<K, V>, S: KeyHasher<K>>(
+    map: &mut LruMap<K, V, L, S>,
+    key: &Q,
+) -> Option<V>
+    ensures value { result ≡ lookup (Q.names key.now) map.old.pairs }
+    ensures promoted { map.new ≡ promoted (Q.names key.now) map.old }
+    ensures map { IsMap K.eq map.new }
+{
+    let _len = map.len();
+    match map.get(key) {
+        Some(value) => Some(*value),
+        None => None,
     }
 }
 

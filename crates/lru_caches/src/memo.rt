@@ -13,12 +13,10 @@ use std::alloc::Global;
 use std::hash::Hash;
 use std::marker::Model;
 
-pub(crate) mod load;
+pub(crate) mod loader;
 pub(crate) mod table;
 
 /// A function with its newest results, up to a limit.
-///
-/// If the function may fail, as a read of a file may, call `load`, which stores no failures. Otherwise call `answer`.
 ///
 /// ```
 /// let mut squares = Memo::new(alloc, ByLength::new(9), |n: &u64| n.wrapping_mul(*n));
@@ -41,7 +39,7 @@ impl<K: Eq + Hash, V, F, L: Insertion<K, V, K>, S: KeyHasher<K>> Model for Memo<
     ghost invariant = { λ m. KeepsValues L.offers };
 }
 
-impl<K: Eq + Hash, V, R, F: Fn(&K) -> R, L: Insertion<K, V, K>> Memo<K, V, F, L, RandomState> {
+impl<K: Eq + Hash, V, F: Fn(&K) -> V, L: Insertion<K, V, K>> Memo<K, V, F, L, RandomState> {
     /// Makes a memo of a function, with no results yet.
     ///
     /// If strangers choose the keys, call `with_hasher`. Cost: `O(1)`, and no memory.
@@ -54,7 +52,7 @@ impl<K: Eq + Hash, V, R, F: Fn(&K) -> R, L: Insertion<K, V, K>> Memo<K, V, F, L,
         ensures map { result.map ≡ empty_map limiter result.map.hasher (entry_size K.row V.row L.LinkType.row)
             (L.LinkType.number L.LinkType.MAX) }
         ensures empty { result.map.pairs ≡ [] }
-        ensures known { (post : K → V → Type 0) → AreAnswers K.eq post result.map.pairs }
+        ensures known { AreAnswers K.eq (FnReturnsAt F.Fn result.function) result.map.pairs }
         ensures function { result.function ≡ function }
     {
         Memo {
@@ -64,13 +62,7 @@ impl<K: Eq + Hash, V, R, F: Fn(&K) -> R, L: Insertion<K, V, K>> Memo<K, V, F, L,
     }
 }
 
-impl<K: Eq + Hash, V, R, F: Fn(&K) -> R, L: Insertion<K, V, K>, S: KeyHasher<K>> Memo<
-    K,
-    V,
-    F,
-    L,
-    S,
-> {
+impl<K: Eq + Hash, V, F: Fn(&K) -> V, L: Insertion<K, V, K>, S: KeyHasher<K>> Memo<K, V, F, L, S> {
     /// Makes a memo of a function, with a hasher of keys.
     ///
     /// ```
@@ -85,7 +77,7 @@ impl<K: Eq + Hash, V, R, F: Fn(&K) -> R, L: Insertion<K, V, K>, S: KeyHasher<K>>
         ensures map { result.map ≡ empty_map limiter hasher (entry_size K.row V.row L.LinkType.row)
             (L.LinkType.number L.LinkType.MAX) }
         ensures empty { result.map.pairs ≡ [] }
-        ensures known { (post : K → V → Type 0) → AreAnswers K.eq post result.map.pairs }
+        ensures known { AreAnswers K.eq (FnReturnsAt F.Fn result.function) result.map.pairs }
         ensures function { result.function ≡ function }
     {
         Memo {
@@ -93,9 +85,7 @@ impl<K: Eq + Hash, V, R, F: Fn(&K) -> R, L: Insertion<K, V, K>, S: KeyHasher<K>>
             function,
         }
     }
-}
 
-impl<K: Eq + Hash, V, F, L: Insertion<K, V, K>, S: KeyHasher<K>> Memo<K, V, F, L, S> {
     /// Returns how many results are stored.
     ///
     /// Cost: `O(1)`.
@@ -223,9 +213,7 @@ impl<K: Eq + Hash + Drop, V: Drop, F: Fn(&K) -> V, L: Insertion<K, V, K>, S: Key
         let _ = self.map.insert(key, value);
         result
     }
-}
 
-impl<K: Eq + Hash + Drop, V: Drop, F, L: Insertion<K, V, K>, S: KeyHasher<K>> Memo<K, V, F, L, S> {
     /// Returns the stored result of a key, and makes it the newest. Does not call the function. A caller with a `&str`
     /// can try `get`, and make a `String` for `answer` only if nothing is stored.
     ///
@@ -239,11 +227,11 @@ impl<K: Eq + Hash + Drop, V: Drop, F, L: Insertion<K, V, K>, S: KeyHasher<K>> Me
     pub fn get<Q: LookupKey<K>>(&mut self, key: &Q) -> Option<V>
     where
         V: Copy,
+        requires known { AreAnswers K.eq (FnReturnsAt F.Fn self.old.function) self.old.map.pairs }
         ensures stored { result ≡ lookup (Q.names key.now) self.old.map.pairs }
         ensures step { self.new.map ≡ promoted (Q.names key.now) self.old.map }
         ensures map { IsMap K.eq self.new.map }
-        ensures known { (post : K → V → Type 0) → AreAnswers K.eq post self.old.map.pairs →
-            AreAnswers K.eq post self.new.map.pairs }
+        ensures known { AreAnswers K.eq (FnReturnsAt F.Fn self.new.function) self.new.map.pairs }
         ensures function { self.new.function ≡ self.old.function }
     {
         self.get_with(key, |value| *value)
@@ -265,12 +253,12 @@ impl<K: Eq + Hash + Drop, V: Drop, F, L: Insertion<K, V, K>, S: KeyHasher<K>> Me
         read: U,
     ) -> Option<R>
         requires readable { U.IsAlwaysCallable read }
+        requires known { AreAnswers K.eq (FnReturnsAt F.Fn self.old.function) self.old.map.pairs }
         ensures stored { MatchOption (lookup (Q.names key.now) self.old.map.pairs) (result ≡ None)
             (λ value. (given : R) × (result ≡ Some given) × FnOnceReturnsAt U.FnOnce read value given) }
         ensures step { self.new.map ≡ promoted (Q.names key.now) self.old.map }
         ensures map { IsMap K.eq self.new.map }
-        ensures known { (post : K → V → Type 0) → AreAnswers K.eq post self.old.map.pairs →
-            AreAnswers K.eq post self.new.map.pairs }
+        ensures known { AreAnswers K.eq (FnReturnsAt F.Fn self.new.function) self.new.map.pairs }
         ensures function { self.new.function ≡ self.old.function }
     {
         let value = self.map.get(key)?;
@@ -287,12 +275,12 @@ impl<K: Eq + Hash + Drop, V: Drop, F, L: Insertion<K, V, K>, S: KeyHasher<K>> Me
     ///
     /// Cost: as `LruMap::set_limiter`.
     pub fn set_limiter(&mut self, limiter: L) -> L
+        requires known { AreAnswers K.eq (FnReturnsAt F.Fn self.old.function) self.old.map.pairs }
         ensures limiter { result ≡ self.old.map.limiter }
         ensures step { Trims L.rules (record self.old.map { limiter = limiter }) self.new.map }
         ensures within { IsWithin L.rules (contents self.new.map) }
         ensures map { IsMap K.eq self.new.map }
-        ensures known { (post : K → V → Type 0) → AreAnswers K.eq post self.old.map.pairs →
-            AreAnswers K.eq post self.new.map.pairs }
+        ensures known { AreAnswers K.eq (FnReturnsAt F.Fn self.new.function) self.new.map.pairs }
         ensures function { self.new.function ≡ self.old.function }
     {
         self.map.set_limiter(limiter)
@@ -305,12 +293,12 @@ impl<K: Eq + Hash + Drop, V: Drop, F, L: Insertion<K, V, K>, S: KeyHasher<K>> Me
     /// ```
     ///
     /// Cost: `O(1)` expected.
-    pub fn remove<Q: LookupKey<K>>(&mut self, key: &Q) -> bool
-        ensures there { result ≡ is_some (lookup (Q.names key.now) self.old.map.pairs) }
-        ensures step { (value : Option V) × Remove L.rules (Q.names key.now) self.old.map value self.new.map }
+    pub fn remove(&mut self, key: &K) -> bool
+        requires known { AreAnswers K.eq (FnReturnsAt F.Fn self.old.function) self.old.map.pairs }
+        ensures there { result ≡ is_some (lookup (K.eq key.now) self.old.map.pairs) }
+        ensures step { (value : Option V) × Remove L.rules (K.eq key.now) self.old.map value self.new.map }
         ensures map { IsMap K.eq self.new.map }
-        ensures known { (post : K → V → Type 0) → AreAnswers K.eq post self.old.map.pairs →
-            AreAnswers K.eq post self.new.map.pairs }
+        ensures known { AreAnswers K.eq (FnReturnsAt F.Fn self.new.function) self.new.map.pairs }
         ensures function { self.new.function ≡ self.old.function }
     {
         self.map.remove(key).is_some()
@@ -326,8 +314,7 @@ impl<K: Eq + Hash + Drop, V: Drop, F, L: Insertion<K, V, K>, S: KeyHasher<K>> Me
     pub fn clear(&mut self)
         ensures step { self.new.map ≡ cleared L.rules self.old.map }
         ensures map { IsMap K.eq self.new.map }
-        ensures known { (post : K → V → Type 0) → AreAnswers K.eq post self.old.map.pairs →
-            AreAnswers K.eq post self.new.map.pairs }
+        ensures known { AreAnswers K.eq (FnReturnsAt F.Fn self.new.function) self.new.map.pairs }
         ensures function { self.new.function ≡ self.old.function }
     {
         self.map.clear();

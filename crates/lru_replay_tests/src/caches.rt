@@ -1,4 +1,4 @@
-//! Calls of a memo and of a page cache that are references.
+//! Calls of a memo, of a loader and of a page cache that are references.
 ghost use Rattle.std.specs.Prelude.{◌≡◌, ◌≤◌, ◌∷◌, ℕ, Bool, false, IfOk, IsOk, List, OnOk, Result, nat_eq, take};
 ghost use Rattle.std.specs.Fn.{FnReturnsAt};
 ghost use Rattle.std.specs.String.{string_eq};
@@ -11,7 +11,7 @@ ghost use Rattle.lru_replay.specs.References.{Reference, of_length};
 ghost use Rattle.lru_theory.specs.Inclusion.{IsIncluded};
 ghost use Rattle.lru_theory.specs.Traces.{recency, refer};
 
-use lru_caches::{BlockDevice, Memo, PageCache, PageError};
+use lru_caches::{BlockDevice, Loader, Memo, PageCache, PageError};
 use lru_replay::references::calls_make_references;
 use schnellru::{ByLength, RandomState};
 
@@ -26,19 +26,19 @@ fn answer<F: Fn(&String) -> u64>(memo: &mut Memo<String, u64, F, ByLength>, key:
     memo.answer(key)
 }
 
-/// If the call returns `Ok`, and the memo does not run out of memory, the call is a reference.
+/// If the call returns `Ok`, and the loader does not run out of memory, the call is a reference.
 fn load<F: Fn(&String) -> Result<u64, u64>>(
-    memo: &mut Memo<String, u64, F, ByLength>,
+    loader: &mut Loader<String, u64, F, ByLength>,
     key: String,
 ) -> Result<u64, u64>
-    requires callable { F.IsAlwaysCallable memo.old.function }
-    requires known { AreAnswers string_eq (loads (FnReturnsAt F.Fn memo.old.function)) memo.old.map.pairs }
-    requires keeps { KeepsToLength memo.old.map }
+    requires callable { F.IsAlwaysCallable loader.old.function }
+    requires known { AreAnswers string_eq (loads (FnReturnsAt F.Fn loader.old.function)) loader.old.map.pairs }
+    requires keeps { KeepsToLength loader.old.map }
     ensures { IfOk result (λ value. (kept : Result Bool AllocError) ×
-        (IsOk kept → Reference (of_length string_eq) key memo.old.map memo.new.map)) }
+        (IsOk kept → Reference (of_length string_eq) key loader.old.map loader.new.map)) }
 {
     calls_make_references::<String, u64, RandomState>();
-    let value = memo.load(key)?;
+    let value = loader.load(key)?;
     Ok(value)
 }
 

@@ -9,7 +9,7 @@ mod page_cache;
 
 pub use counted::{CountedMap, Counts};
 pub use devices::{Durable, FileDevice, FileError, HashedFileDevice};
-pub use memo::Memo;
+pub use memo::{Loader, Memo};
 pub use ordered_map::{Entries, IntoEntries, Keys, OrderedMap, Values};
 #[cfg(feature = "runtime-rng")]
 pub use page_cache::with_cache;

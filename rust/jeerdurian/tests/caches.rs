@@ -1,7 +1,7 @@
 //! The tenants and the ordered map, compared with plain lists, and with keys whose `==` and `Hash` say anything and panic:
 //! nothing is dropped twice or used after its drop.
 
-use jeerdurian::caches::{CountedMap, Counts, Memo, OrderedMap};
+use jeerdurian::caches::{CountedMap, Counts, Loader, Memo, OrderedMap};
 use jeerdurian::tenants::TenantCache;
 use jeerdurian::trace::{ByteCurve, Curve};
 use jeerdurian::{ByCost, ByLength, ByMemoryUsage, LruMap, RandomState};
@@ -258,20 +258,20 @@ fn memos_count_the_bytes_of_their_entries() {
     let limit = ByMemoryUsage::new(5000);
     let mut map = LruMap::with_hasher(limit, S::new());
     let mut memo = Memo::with_hasher(limit, S::new(), |n: &u64| *n);
-    let mut loader = Memo::with_hasher(limit, S::new(), |n: &u64| Ok::<_, ()>(*n));
+    let mut loader = Loader::with_hasher(limit, S::new(), |n: &u64| Ok::<_, ()>(*n));
     for n in 0..500u64 {
         assert_eq!((map.insert(n, n), memo.answer(n), loader.load(n)), (true, n, Ok(n)));
         assert_eq!((memo.len(), loader.len()), (map.len(), map.len()));
     }
 }
 
-/// Memos call their functions once for an answer that is not stored, also while they evict.
+/// Memos and loaders call their functions once for an answer that is not stored, also while they evict.
 #[test]
 fn memos_call_their_functions_once() {
     let (mut state, calls) = (5, Cell::new(0));
     let count = || calls.set(calls.get() + 1);
     let mut memo = Memo::new(ByLength::new(60), |n: &u64| (count(), n * n).1);
-    let mut loader = Memo::new(ByLength::new(60), |n: &u64| (count(), Ok::<_, ()>(n * n)).1);
+    let mut loader = Loader::new(ByLength::new(60), |n: &u64| (count(), Ok::<_, ()>(n * n)).1);
     for _ in 0..10_000 {
         let key = next(&mut state, 100);
         let is_new = memo.get(&key).is_none();

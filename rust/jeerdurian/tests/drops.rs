@@ -1,6 +1,6 @@
 //! Each key, value and closure is dropped once: what calls evict, what they reject, and what closures own.
 
-use jeerdurian::caches::Memo;
+use jeerdurian::caches::{Loader, Memo};
 use jeerdurian::tenants::{Counting, TenantCache, TenantError, TenantPool};
 use jeerdurian::{
     ByCost, ByLength, ByMemoryUsage, ByWeight, Costed, Limiter, LruMap, More, Unlimited, UnlimitedCompact,
@@ -163,7 +163,7 @@ fn closures_and_names_of_caches_are_dropped() {
     let mut cache: TenantCache<Live, Live, Live, Counting<ByCost>> = TenantCache::new();
     assert_eq!((cache.set_total_limit(Some(60)), cache.open(Live::new(1), 60)), (Ok(()), Ok(())));
     let mut memo = Memo::new(ByLength::new(60), |key: &Live| key.0);
-    let mut loader = Memo::new(ByLength::new(60), |key: &Live| if key.0 % 3 == 1 { Ok(key.0) } else { Err(key.0) });
+    let mut loader = Loader::new(ByLength::new(60), |key: &Live| if key.0 % 3 == 1 { Ok(key.0) } else { Err(key.0) });
     for n in 0..1000 {
         let (name, key, owned) = (Live::new(1 + n % 2), || Live::new(n * n % 97), || Live::new(n));
         let (first, second, third) = (owned(), owned(), owned());

@@ -2,7 +2,7 @@
 
 mod refusing;
 
-use jeerdurian::caches::{FileDevice, Memo, OrderedMap, PageCache};
+use jeerdurian::caches::{FileDevice, Loader, Memo, OrderedMap, PageCache};
 use jeerdurian::tenants::{ByteTenants, TenantCache, TenantPool};
 use jeerdurian::trace::{Curve, report};
 use jeerdurian::{ByLength, ByMemoryUsage, LruMap, More, ReserveError, Unlimited, UnlimitedCompact};
@@ -64,7 +64,8 @@ fn new_caches_take_no_memory() {
     let (blocks, was_refused) = refused(1, || {
         drop((TenantCache::<u64, u64, u64>::new(), TenantPool::<u64, u64, u64>::new(9)));
         drop((ByteTenants::<u64, u64, u64>::new(9), OrderedMap::<u64, u64>::new()));
-        drop(Memo::<u64, u64, _>::new(ByLength::new(9), |key: &u64| *key));
+        drop(Memo::new(ByLength::new(9), |key: &u64| *key));
+        drop(Loader::new(ByLength::new(9), |key: &u64| Ok::<_, ()>(*key)));
         PageCache::new(device, 8).discard().len()
     });
     assert_eq!((blocks, was_refused), (8, false));

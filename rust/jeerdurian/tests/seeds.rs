@@ -1,6 +1,6 @@
 //! The hashers of each `new` have random seeds: two of them hash a key differently.
 
-use jeerdurian::caches::{Memo, OrderedMap};
+use jeerdurian::caches::{Loader, Memo, OrderedMap};
 use jeerdurian::tenants::{ByteTenants, TenantCache, TenantPool};
 use jeerdurian::{ByLength, Costed, LruMap, OwnedBytes};
 use std::cell::Cell;
@@ -50,7 +50,7 @@ fn each_new_takes_random_seeds() {
     is_seeded(|| LruMap::new(ByLength::new(9)).insert(Key, 1));
     is_seeded(|| LruMap::with_memory_budget(9000).insert(Key, 1));
     is_seeded(|| Memo::new(ByLength::new(9), |_: &Key| 1).answer(Key) == 1);
-    is_seeded(|| Memo::new(ByLength::new(9), |_: &Key| Ok::<_, ()>(1)).load(Key) == Ok(1));
+    is_seeded(|| Loader::new(ByLength::new(9), |_: &Key| Ok::<_, ()>(1)).load(Key) == Ok(1));
     is_seeded(|| OrderedMap::new().insert(Key, 1) == Ok(None));
     is_seeded(|| TenantCache::<Key, u64, u64>::new().open(Key, 1) == Ok(()));
     is_seeded(|| TenantPool::<Key, u64, u64>::new(9).open(Key, 1) == Ok(()));

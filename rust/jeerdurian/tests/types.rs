@@ -93,7 +93,7 @@ macro_rules! lend_alike {
             IntoIter<$type, u8, ByLength, RandomState>, IntoIter<u8, $type, ByLength, RandomState>,
             caches::OrderedMap<u8, $type>, caches::IntoEntries<u8, $type, RandomState>,
             caches::Memo<u8, $type, fn(&u8) -> $type>, tenants::TenantCache<u8, u8, Vec<$type>>,
-            caches::CountedMap<u8, $type>,
+            caches::Loader<u8, $type, fn(&u8) -> Result<$type, ()>>, caches::CountedMap<u8, $type>,
             tenants::TenantPool<u8, u8, Vec<$type>>);
     )*};
 }
@@ -103,7 +103,7 @@ fn auto_traits_of_iterators_and_caches() {
     lend_alike!(u64, Box<dyn Fn() + Send>, Box<dyn Fn() + Sync>, std::rc::Rc<u8>, Cell<u8>, MutexGuard<'static, u8>);
     same!(std::rc::Rc<u8>: caches::OrderedMap<std::rc::Rc<u8>, u8>, tenants::TenantCache<u8, std::rc::Rc<u8>, u8>,
         tenants::TenantCache<std::rc::Rc<u8>, u8, u8>, caches::Memo<u8, u8, std::rc::Rc<u8>>,
-        tenants::TenantPool<std::rc::Rc<u8>, u8, u8>);
+        tenants::TenantPool<std::rc::Rc<u8>, u8, u8>, caches::Loader<u8, u8, std::rc::Rc<u8>>);
 }
 
 #[test]

@@ -1,9 +1,9 @@
-//! Memos, compared with a list of the keys whose results they remember.
+//! A memo and a loader, compared with a list of the keys whose results they remember.
 ghost use Rattle.std.specs.Fn.{FnReturnsAt};
 ghost use Rattle.std.specs.Prelude.{nat_eq};
 ghost use Rattle.lru_caches.specs.Answers.{AreAnswers, loads};
 
-use lru_caches::Memo;
+use lru_caches::{Loader, Memo};
 use schnellru::ByLength;
 use std::alloc::Global;
 use std::cell::Cell;
@@ -30,7 +30,7 @@ fn use_key(keys: &mut [u64; 100], length: u32, key: u64) -> bool {
 
 fn count<F: Fn(&u64) -> u64, G: Fn(&u64) -> Result<u64, u64>>(
     mut memo: Memo<u64, u64, F, ByLength>,
-    mut loader: Memo<u64, u64, G, ByLength>,
+    mut loader: Loader<u64, u64, G, ByLength>,
     calls: &Cell<u64>,
     length: u32,
 ) -> u64
@@ -61,7 +61,7 @@ pub fn calls_that_agree(alloc: Global) -> u64 {
             calls.set(calls.get().saturating_add(1));
             *n
         });
-        let mut loader = Memo::new(alloc, ByLength::new(length), |n: &u64| {
+        let mut loader = Loader::new(alloc, ByLength::new(length), |n: &u64| {
             calls.set(calls.get().saturating_add(1));
             if *n <= KEYS { Ok(*n) } else { Err(*n) }
         });

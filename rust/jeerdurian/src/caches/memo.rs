@@ -9,9 +9,6 @@ use core::hash::{BuildHasher, Hash};
 
 /// A function that remembers its newest results, up to a limit.
 ///
-/// If the function may fail, as a read of a file may, call [`load`](Self::load), which stores no failure. Otherwise call
-/// [`answer`](Self::answer).
-///
 /// Proved: each answer is a result of the function at an equal key, if the limiter stores values as they are, as all
 /// limiters of this crate do.
 ///
@@ -20,10 +17,6 @@ use core::hash::{BuildHasher, Hash};
 ///
 /// let mut squares = Memo::new(ByLength::new(9), |n: &u64| n * n);
 /// assert_eq!((squares.answer(3), squares.len()), (9, 1));
-///
-/// let disk = [10, 11, 12];
-/// let mut blocks = Memo::new(ByLength::new(9), |n: &usize| disk.get(*n).copied().ok_or(*n));
-/// assert_eq!((blocks.load(1), blocks.load(3), blocks.len()), (Ok(11), Err(3), 1));
 /// ```
 pub struct Memo<K, V, F, L = ByLength, S = RandomState>
 where
@@ -35,12 +28,12 @@ where
 }
 
 #[cfg(feature = "runtime-rng")]
-impl<K: Eq + Hash, V, R, F: Fn(&K) -> R, L: Admission<K, V>> Memo<K, V, F, L> {
+impl<K: Eq + Hash, V, F: Fn(&K) -> V, L: Admission<K, V>> Memo<K, V, F, L> {
     /// Makes a memo of a function without results, with a hasher with random seeds. It takes no memory.
     ///
     /// ```
     /// # use jeerdurian::{ByLength, caches::Memo};
-    /// let squares: Memo<u64, u64, _> = Memo::new(ByLength::new(9), |n: &u64| n * n);
+    /// let squares = Memo::new(ByLength::new(9), |n: &u64| n * n);
     /// assert!(squares.is_empty());
     /// ```
     pub fn new(limiter: L, function: F) -> Self {
@@ -48,20 +41,39 @@ impl<K: Eq + Hash, V, R, F: Fn(&K) -> R, L: Admission<K, V>> Memo<K, V, F, L> {
     }
 }
 
-impl<K: Eq + Hash, V, R, F: Fn(&K) -> R, L: Admission<K, V>, S: BuildHasher> Memo<K, V, F, L, S> {
+impl<K: Eq + Hash, V, F: Fn(&K) -> V, L: Admission<K, V>, S: BuildHasher> Memo<K, V, F, L, S> {
     /// Makes a memo of a function without results, with this hasher of keys. It takes no memory.
     ///
     /// ```
     /// # use jeerdurian::{ByLength, RandomState, caches::Memo};
-    /// let mut cubes = Memo::with_hasher(ByLength::new(9), RandomState::default(), |n: &u64| n * n * n);
-    /// assert_eq!((cubes.answer(3), cubes.len()), (27, 1));
+    /// let cubes = Memo::with_hasher(ByLength::new(9), RandomState::default(), |n: &u64| n * n * n);
+    /// assert!(cubes.is_empty());
     /// ```
     pub fn with_hasher(limiter: L, hasher: S, function: F) -> Self {
         Memo { memo: proved::Memo::with_hasher(Global, Calls(limiter), hasher, function) }
     }
-}
 
-impl<K: Eq + Hash, V, F: Fn(&K) -> V, L: Admission<K, V>, S: BuildHasher> Memo<K, V, F, L, S> {
+    /// Returns the number of stored results.
+    ///
+    /// ```
+    /// # use jeerdurian::{ByLength, caches::Memo};
+    /// let mut squares = Memo::new(ByLength::new(9), |n: &u64| n * n);
+    /// assert_eq!((squares.answer(3), squares.len()), (9, 1));
+    /// ```
+    pub fn len(&self) -> usize {
+        self.memo.len()
+    }
+
+    /// Returns whether no result is stored.
+    ///
+    /// ```
+    /// # use jeerdurian::{ByLength, caches::Memo};
+    /// assert!(Memo::new(ByLength::new(9), |n: &u64| n * n).is_empty());
+    /// ```
+    pub fn is_empty(&self) -> bool {
+        self.memo.is_empty()
+    }
+
     /// Returns what the function returns at a key: the stored result, or else the result of a call, which is stored.
     ///
     /// If the memo runs out of memory, or a limit prevents storing the result, the result is returned anyway.
@@ -110,77 +122,6 @@ impl<K: Eq + Hash, V, F: Fn(&K) -> V, L: Admission<K, V>, S: BuildHasher> Memo<K
     pub fn answer_with<R>(&mut self, key: K, read: impl FnOnce(&V) -> R) -> R {
         self.memo.answer_with(key, read)
     }
-}
-
-impl<K, V, E, F, L, S> Memo<K, V, F, L, S>
-where
-    K: Eq + Hash,
-    F: Fn(&K) -> Result<V, E>,
-    L: Admission<K, V>,
-    S: BuildHasher,
-{
-    /// Returns the stored value of a key, or else the result of a call of the function. An `Ok` value is stored.
-    ///
-    /// If the memo runs out of memory, or a limit prevents storing the value, the value is returned anyway.
-    ///
-    /// Cost: a get, and if no value is stored, a call of the function and an insert.
-    ///
-    /// # Errors
-    ///
-    /// The function failed, with this error. The stored values stay.
-    ///
-    /// ```
-    /// # use jeerdurian::{ByLength, caches::Memo};
-    /// let mut next = Memo::new(ByLength::new(9), |n: &u64| n.checked_add(1).ok_or(*n));
-    /// assert_eq!((next.load(1), next.load(u64::MAX)), (Ok(2), Err(u64::MAX)));
-    /// ```
-    pub fn load(&mut self, key: K) -> Result<V, E>
-    where
-        V: Copy,
-    {
-        self.memo.load(key)
-    }
-
-    /// Lends a closure what [`load`](Self::load) would return, and returns what the closure returns. The values need
-    /// not be `Copy`.
-    ///
-    /// # Errors
-    ///
-    /// The function failed, with this error. The closure is not called, and the stored values stay.
-    ///
-    /// ```
-    /// # use jeerdurian::{ByLength, caches::Memo};
-    /// let mut texts = Memo::new(ByLength::new(9), |name: &String| std::fs::read_to_string(name));
-    /// let len = texts.load_with("Cargo.toml".to_string(), |text| text.len()).unwrap_or(0);
-    /// assert_eq!((len > 0, texts.len()), (true, 1));
-    /// ```
-    pub fn load_with<R>(&mut self, key: K, read: impl FnOnce(&V) -> R) -> Result<R, E> {
-        self.memo.load_with(key, read)
-    }
-}
-
-impl<K: Eq + Hash, V, F, L: Admission<K, V>, S: BuildHasher> Memo<K, V, F, L, S> {
-    /// Returns the number of stored results.
-    ///
-    /// ```
-    /// # use jeerdurian::{ByLength, caches::Memo};
-    /// let mut squares = Memo::new(ByLength::new(9), |n: &u64| n * n);
-    /// assert_eq!((squares.answer(3), squares.len()), (9, 1));
-    /// ```
-    pub fn len(&self) -> usize {
-        self.memo.len()
-    }
-
-    /// Returns whether no result is stored.
-    ///
-    /// ```
-    /// # use jeerdurian::{ByLength, caches::Memo};
-    /// let mut squares = Memo::new(ByLength::new(9), |n: &u64| n * n);
-    /// assert!(squares.is_empty() && squares.answer(3) == 9 && !squares.is_empty());
-    /// ```
-    pub fn is_empty(&self) -> bool {
-        self.memo.is_empty()
-    }
 
     /// Returns the stored result of a key, and makes it the newest. Does not call the function.
     ///
@@ -203,14 +144,8 @@ impl<K: Eq + Hash, V, F, L: Admission<K, V>, S: BuildHasher> Memo<K, V, F, L, S>
     }
 
     /// Removes the stored result of a key, and returns whether there was one.
-    ///
-    /// ```
-    /// # use jeerdurian::{ByLength, caches::Memo};
-    /// let mut lengths = Memo::new(ByLength::new(9), |text: &String| text.len());
-    /// assert!(lengths.answer("word".to_string()) == 4 && lengths.remove("word") && !lengths.remove("word"));
-    /// ```
-    pub fn remove(&mut self, key: &(impl Hash + PartialEq<K> + ?Sized)) -> bool {
-        self.memo.remove(&Named(key))
+    pub fn remove(&mut self, key: &K) -> bool {
+        self.memo.remove(key)
     }
 
     /// Drops all stored results.
@@ -230,5 +165,121 @@ impl<K: Eq + Hash, V, F, L: Admission<K, V>, S: BuildHasher> Memo<K, V, F, L, S>
     /// ```
     pub fn set_limiter(&mut self, limiter: L) -> L {
         self.memo.set_limiter(Calls(limiter)).0
+    }
+}
+
+/// A memo of a function that may fail, such as a read of a file. It stores no failure.
+///
+/// Proved: each value is a result of the function at an equal key, and a failure stores nothing, if the limiter stores
+/// values as they are, as all limiters of this crate do.
+///
+/// ```
+/// use jeerdurian::{ByLength, caches::Loader};
+///
+/// let disk = [10, 11, 12];
+/// let mut blocks = Loader::new(ByLength::new(9), |n: &usize| disk.get(*n).copied().ok_or(*n));
+/// assert_eq!((blocks.load(1), blocks.len()), (Ok(11), 1));
+/// assert_eq!((blocks.load(3), blocks.len()), (Err(3), 1));
+/// ```
+pub struct Loader<K, V, F, L = ByLength, S = RandomState>
+where
+    K: Eq + Hash,
+    L: Admission<K, V>,
+    S: BuildHasher,
+{
+    loader: proved::Loader<K, V, F, Calls<L>, S>,
+}
+
+#[cfg(feature = "runtime-rng")]
+impl<K: Eq + Hash, V, E, F: Fn(&K) -> Result<V, E>, L: Admission<K, V>> Loader<K, V, F, L> {
+    /// Makes a loader by a function without values, with a hasher with random seeds. It takes no memory.
+    ///
+    /// ```
+    /// # use jeerdurian::{ByLength, caches::Loader};
+    /// let next = Loader::new(ByLength::new(9), |n: &u64| n.checked_add(1).ok_or(*n));
+    /// assert!(next.is_empty());
+    /// ```
+    pub fn new(limiter: L, function: F) -> Self {
+        Self::with_hasher(limiter, RandomState::default(), function)
+    }
+}
+
+impl<K, V, E, F, L, S> Loader<K, V, F, L, S>
+where
+    K: Eq + Hash,
+    F: Fn(&K) -> Result<V, E>,
+    L: Admission<K, V>,
+    S: BuildHasher,
+{
+    /// Makes a loader by a function without values, with this hasher of keys. It takes no memory.
+    ///
+    /// ```
+    /// # use jeerdurian::{ByLength, RandomState, caches::Loader};
+    /// let hasher = RandomState::default();
+    /// let next = Loader::with_hasher(ByLength::new(9), hasher, |n: &u64| n.checked_add(1).ok_or(*n));
+    /// assert!(next.is_empty());
+    /// ```
+    pub fn with_hasher(limiter: L, hasher: S, function: F) -> Self {
+        Loader { loader: proved::Loader::with_hasher(Global, Calls(limiter), hasher, function) }
+    }
+
+    /// Returns the number of stored values.
+    ///
+    /// ```
+    /// # use jeerdurian::{ByLength, caches::Loader};
+    /// let mut next = Loader::new(ByLength::new(9), |n: &u64| n.checked_add(1).ok_or(*n));
+    /// assert_eq!((next.load(1), next.len()), (Ok(2), 1));
+    /// ```
+    pub fn len(&self) -> usize {
+        self.loader.len()
+    }
+
+    /// Returns whether no value is stored.
+    ///
+    /// ```
+    /// # use jeerdurian::{ByLength, caches::Loader};
+    /// assert!(Loader::new(ByLength::new(9), |n: &u64| n.checked_add(1).ok_or(*n)).is_empty());
+    /// ```
+    pub fn is_empty(&self) -> bool {
+        self.loader.is_empty()
+    }
+
+    /// Returns the stored value of a key, or else the result of a call of the function. A value is stored then.
+    ///
+    /// If the loader runs out of memory, or a limit prevents storing the value, the value is returned anyway.
+    ///
+    /// Cost: a get, and if no value is stored, a call of the function and an insert.
+    ///
+    /// # Errors
+    ///
+    /// The function failed, with this error. The stored values stay.
+    ///
+    /// ```
+    /// # use jeerdurian::{ByLength, caches::Loader};
+    /// let mut next = Loader::new(ByLength::new(9), |n: &u64| n.checked_add(1).ok_or(*n));
+    /// assert_eq!((next.load(1), next.load(u64::MAX)), (Ok(2), Err(u64::MAX)));
+    /// ```
+    pub fn load(&mut self, key: K) -> Result<V, E>
+    where
+        V: Copy,
+    {
+        self.loader.load(key)
+    }
+
+    /// Lends a closure what [`load`](Self::load) would return, and returns what the closure returns. The values need
+    /// not be `Copy`.
+    ///
+    /// # Errors
+    ///
+    /// The function failed, with this error. The closure is not called, and the stored values stay.
+    ///
+    /// ```
+    /// # use jeerdurian::{ByLength, caches::Loader};
+    /// let mut texts = Loader::new(ByLength::new(9), |name: &String| std::fs::read_to_string(name));
+    /// let len = texts.load_with("Cargo.toml".to_string(), |text| text.len()).unwrap_or(0);
+    /// assert_eq!((len > 0, texts.len()), (true, 1));
+    /// ```
+    pub fn load_with<R>(&mut self, key: K, read: impl FnOnce(&V) -> R) -> Result<R, E> {
+        self.loader.load_with(key, read)
     }
 }

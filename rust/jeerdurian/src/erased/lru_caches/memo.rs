@@ -6,12 +6,10 @@ use crate::erased::schnellru::{Insertion, KeyHasher, LookupKey, LruMap, RandomSt
 use crate::rattle_std::alloc::Global;
 use crate::rattle_std::hash::Hash;
 
-pub(crate) mod load;
+pub(crate) mod loader;
 pub(crate) mod table;
 
 /// A function with its newest results, up to a limit.
-///
-/// If the function may fail, as a read of a file may, call `load`, which stores no failures. Otherwise call `answer`.
 ///
 /// ```text
 /// let mut squares = Memo::new(alloc, ByLength::new(9), |n: &u64| n.wrapping_mul(*n));
@@ -23,7 +21,7 @@ pub struct Memo<K: Eq + Hash, V, F, L: Insertion<K, V, K>, S: KeyHasher<K> = Ran
     function: F,
 }
 
-impl<K: Eq + Hash, V, R, F: Fn(&K) -> R, L: Insertion<K, V, K>> Memo<K, V, F, L, RandomState> {
+impl<K: Eq + Hash, V, F: Fn(&K) -> V, L: Insertion<K, V, K>> Memo<K, V, F, L, RandomState> {
     /// Makes a memo of a function, with no results yet.
     ///
     /// If strangers choose the keys, call `with_hasher`. Cost: `O(1)`, and no memory.
@@ -36,7 +34,7 @@ impl<K: Eq + Hash, V, R, F: Fn(&K) -> R, L: Insertion<K, V, K>> Memo<K, V, F, L,
     }
 }
 
-impl<K: Eq + Hash, V, R, F: Fn(&K) -> R, L: Insertion<K, V, K>, S: KeyHasher<K>> Memo<K, V, F, L, S> {
+impl<K: Eq + Hash, V, F: Fn(&K) -> V, L: Insertion<K, V, K>, S: KeyHasher<K>> Memo<K, V, F, L, S> {
     /// Makes a memo of a function, with a hasher of keys.
     ///
     /// ```text
@@ -49,9 +47,7 @@ impl<K: Eq + Hash, V, R, F: Fn(&K) -> R, L: Insertion<K, V, K>, S: KeyHasher<K>>
     pub fn with_hasher(alloc: Global, limiter: L, hasher: S, function: F) -> Self {
         Memo { map: LruMap::with_limiter_and_hasher(alloc, limiter, hasher), function }
     }
-}
 
-impl<K: Eq + Hash, V, F, L: Insertion<K, V, K>, S: KeyHasher<K>> Memo<K, V, F, L, S> {
     /// Returns how many results are stored.
     ///
     /// Cost: `O(1)`.
@@ -131,9 +127,7 @@ impl<K: Eq + Hash, V, F: Fn(&K) -> V, L: Insertion<K, V, K>, S: KeyHasher<K>> Me
         let _ = self.map.insert(key, value);
         result
     }
-}
 
-impl<K: Eq + Hash, V, F, L: Insertion<K, V, K>, S: KeyHasher<K>> Memo<K, V, F, L, S> {
     /// Returns the stored result of a key, and makes it the newest. Does not call the function. A caller with a `&str`
     /// can try `get`, and make a `String` for `answer` only if nothing is stored.
     ///
@@ -186,7 +180,7 @@ impl<K: Eq + Hash, V, F, L: Insertion<K, V, K>, S: KeyHasher<K>> Memo<K, V, F, L
     /// ```
     ///
     /// Cost: `O(1)` expected.
-    pub fn remove<Q: LookupKey<K>>(&mut self, key: &Q) -> bool {
+    pub fn remove(&mut self, key: &K) -> bool {
         self.map.remove(key).is_some()
     }
 

@@ -2,9 +2,9 @@
 //! Caches above the verified LRU map.
 //!
 //! [`PageCache`] is a write-back cache of a [`BlockDevice`]. [`FileDevice`] and [`HashedFileDevice`] are devices over a
-//! [`Durable`] file. [`Memo`] stores the newest results of a function, and [`MemoTable`] does so for a function that
-//! calls itself. [`OrderedMap`] is a hash map whose entries are in the order of insertion, and [`CountedMap`] is a map
-//! that counts hits, misses and evictions.
+//! [`Durable`] file. [`Memo`] stores the newest results of a function, [`Loader`] does so for a function that may fail,
+//! and [`MemoTable`] for a function that calls itself. [`OrderedMap`] is a hash map whose entries are in the order of
+//! insertion, and [`CountedMap`] is a map that counts hits, misses and evictions.
 
 #[allow(unused_imports)]
 use crate::rattle_std::prelude::*;
@@ -22,6 +22,7 @@ pub use file_device::durable::Durable;
 pub use file_device::hashed::HashedFileDevice;
 pub use file_device::{FileDevice, FileError};
 pub use memo::Memo;
+pub use memo::loader::Loader;
 pub use memo::table::{MemoTable, Question};
 pub use ordered_map::OrderedMap;
 pub use ordered_map::entries::Entries;

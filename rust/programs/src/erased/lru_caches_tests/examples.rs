@@ -5,8 +5,8 @@
 use crate::rattle_std::prelude::*;
 
 use crate::erased::lru_caches::{
-    BlockDevice, CountedMap, Counts, Durable, FileDevice, FileError, HashedFileDevice, Memo, MemoTable, OrderedMap,
-    PageCache, PageError, Question, Unclosed,
+    BlockDevice, CountedMap, Counts, Durable, FileDevice, FileError, HashedFileDevice, Loader, Memo, MemoTable,
+    OrderedMap, PageCache, PageError, Question, Unclosed,
 };
 use crate::erased::schnellru::{ByLength, LruMap, RandomState};
 use crate::programs::lru_caches_tests::beginnings::{Cache, Counted, Map, recount, refill, rewrite};
@@ -305,11 +305,16 @@ fn of_file_device() {
 }
 
 #[test]
-fn of_memo_load() {
+fn of_memo_loader() {
     let run = |rt: HostRuntime| -> () {
         let alloc = rt.alloc();
-        let held = (blocks.load(1), blocks.len()) == (Ok(11), 1);
-        let mut texts = Memo::new(alloc, ByLength::new(9), |n: &usize| vec![in alloc; 7u8; *n].map_err(|_| *n));
+        let disk = [10, 11, 12];
+        let mut blocks = Loader::new(alloc, ByLength::new(9), |n: &usize| disk.get(*n).copied().ok_or(*n));
+        let held = all!((blocks.load(1), blocks.len()) == (Ok(11), 1), (blocks.load(3), blocks.len()) == (Err(3), 1));
+        let seeded = RandomState::with_seeds([5, 6, 7, 8]);
+        let empty = Loader::with_hasher(alloc, ByLength::new(9), seeded, |n: &u64| n.checked_add(1).ok_or(*n));
+        let held = held & all!(empty.is_empty());
+        let mut texts = Loader::new(alloc, ByLength::new(9), |n: &usize| vec![in alloc; 7u8; *n].map_err(|_| *n));
         let held = held & all!((texts.load_with(3, |text| text.len()), texts.len()) == (Ok(3), 1));
         check!(rt; held);
     };

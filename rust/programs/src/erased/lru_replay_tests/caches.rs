@@ -1,10 +1,10 @@
 // Erased from crates/lru_replay_tests/src/caches.rt: do not edit.
-//! Calls of a memo and of a page cache that are references.
+//! Calls of a memo, of a loader and of a page cache that are references.
 
 #[allow(unused_imports)]
 use crate::rattle_std::prelude::*;
 
-use crate::erased::lru_caches::{BlockDevice, Memo, PageCache, PageError};
+use crate::erased::lru_caches::{BlockDevice, Loader, Memo, PageCache, PageError};
 use crate::erased::schnellru::{ByLength, RandomState};
 use crate::programs::lru_replay::references::calls_make_references;
 
@@ -14,13 +14,13 @@ fn answer<F: Fn(&String) -> u64>(memo: &mut Memo<String, u64, F, ByLength>, key:
     memo.answer(key)
 }
 
-/// If the call returns `Ok`, and the memo does not run out of memory, the call is a reference.
+/// If the call returns `Ok`, and the loader does not run out of memory, the call is a reference.
 fn load<F: Fn(&String) -> Result<u64, u64>>(
-    memo: &mut Memo<String, u64, F, ByLength>,
+    loader: &mut Loader<String, u64, F, ByLength>,
     key: String,
 ) -> Result<u64, u64> {
     calls_make_references::<String, u64, RandomState>();
-    let value = memo.load(key)?;
+    let value = loader.load(key)?;
     Ok(value)
 }
 

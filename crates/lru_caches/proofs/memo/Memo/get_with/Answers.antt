@@ -1,5 +1,5 @@
 use Rattle.std.proofs.Common.{◌≡◌, Option, Some, None, refl, sym, subst}
-use Rattle.std.specs.Fn.{FnOnceReturnsAt}
+use Rattle.std.specs.Fn.{FnReturnsAt, FnOnceReturnsAt}
 use Rattle.std.specs.Prelude.{MatchOption}
 use Rattle.lru_model.proofs.CallerLemmas.{read-all, read_back, promoted-absent}
 use Rattle.lru_caches.specs.Answers.{IsAnswer, AreAnswers}
@@ -12,13 +12,16 @@ returns g c =
     let value = c.in_ok-value.value.now in
     let there = sym c.in_ok-value.ensures.value in
     let result : Option g.row.R.Denot = Some c.read.result in
+    let known = subst (λ m. AreAnswers g.K.PartialEq.eq (FnReturnsAt g.F.Fn m.function) m.map.pairs)
+    (sym c.self.view_is) c.requires.known in
     rw (← c.self.view_is) (record {
       stored = subst (λ o. MatchOption o (result ≡ None) (λ value. (given : g.row.R.Denot) × (result ≡ Some given)
           × FnOnceReturnsAt g.U.FnOnce c.args.read value given)) c.in_ok-value.ensures.value
           (_, refl, (_, c.read.ensures, refl));
       step = read_back names old value there;
       map = c.in_ok-value.ensures.map value;
-      known = λ post known. read-all names old (λ p. IsAnswer g.K.PartialEq.eq post p.0 p.1) value there known;
+      known = read-all names old (λ p. IsAnswer g.K.PartialEq.eq (FnReturnsAt g.F.Fn c.self.inside.function) p.0 p.1)
+          value there known;
       function = refl;
     })
 
@@ -28,4 +31,5 @@ returns-in_err-value-clause-step g c = rw (← c.self.view_is) (sym (promoted-ab
 
 pub returns-in_err-value-clause-known : goal.returns-in_err-value-clause-known
 returns-in_err-value-clause-known g c =
-    λ post known. subst (λ m. AreAnswers g.K.PartialEq.eq post m.map.pairs) (sym c.self.view_is) known
+    subst (λ m. AreAnswers g.K.PartialEq.eq (FnReturnsAt g.F.Fn m.function) m.map.pairs) (sym c.self.view_is)
+    c.requires.known

@@ -1,10 +1,10 @@
 // Erased from crates/lru_caches_tests/src/trials/memos.rt: do not edit.
-//! Memos, compared with a list of the keys whose results they remember.
+//! A memo and a loader, compared with a list of the keys whose results they remember.
 
 #[allow(unused_imports)]
 use crate::rattle_std::prelude::*;
 
-use crate::erased::lru_caches::Memo;
+use crate::erased::lru_caches::{Loader, Memo};
 use crate::erased::schnellru::ByLength;
 use crate::programs::test_helpers::{Hog, Random};
 use crate::rattle_std::alloc::Global;
@@ -31,7 +31,7 @@ fn use_key(keys: &mut [u64; 100], length: u32, key: u64) -> bool {
 
 fn count<F: Fn(&u64) -> u64, G: Fn(&u64) -> Result<u64, u64>>(
     mut memo: Memo<u64, u64, F, ByLength>,
-    mut loader: Memo<u64, u64, G, ByLength>,
+    mut loader: Loader<u64, u64, G, ByLength>,
     calls: &Cell<u64>,
     length: u32,
 ) -> u64 {
@@ -57,7 +57,7 @@ pub fn calls_that_agree(alloc: Global) -> u64 {
             calls.set(calls.get().saturating_add(1));
             *n
         });
-        let mut loader = Memo::new(alloc, ByLength::new(length), |n: &u64| {
+        let mut loader = Loader::new(alloc, ByLength::new(length), |n: &u64| {
             calls.set(calls.get().saturating_add(1));
             if *n <= KEYS { Ok(*n) } else { Err(*n) }
         });

@@ -4,7 +4,7 @@ use Rattle.std.specs.Fn.{FnReturnsAt, FnOnceReturnsAt}
 use Rattle.std.specs.Prelude.{IfSome}
 use Rattle.lru_caches.specs.Answers.{AreAnswers, loads, loaded, failed}
 use Rattle.lru_caches.proofs.StoredAnswers.{got_answer, inserted_answer}
-use Rattle.lru_caches.proofs.memo.load.Memo.load_with.Goals as goal
+use Rattle.lru_caches.proofs.memo.loader.Loader.load_with.Goals as goal
 
 pub returns-in-Some : goal.returns-in-Some
 returns-in-Some g c =

@@ -3,7 +3,7 @@ use Rattle.std.specs.Fn.{FnReturnsAt}
 use Rattle.lru_caches.specs.Answers.{IsAnswer, Remembers, loads}
 use Rattle.std.proofs.lemmas.Result.{IfOk-weaker}
 use Rattle.lru_caches.proofs.StoredAnswers.{loaded_as_read}
-use Rattle.lru_caches.proofs.memo.load.Memo.load.Goals as goal
+use Rattle.lru_caches.proofs.memo.loader.Loader.load.Goals as goal
 
 pub returns-clause-value : goal.returns-clause-value
 returns-clause-value g c = IfOk-weaker c.load_with.result _ _ (λ given (value, is, step, copied).
