@@ -8,7 +8,7 @@ use Rattle.std.specs.List.{All}
 use Rattle.std.proofs.lemmas.Option.{none-some}
 use Rattle.std.specs.declared.alloc.AllocError.{AllocError}
 use Rattle.lru_limits.specs.Rules.{Rules, Offers}
-use Rattle.lru_model.proofs.CallerLemmas.{lookup-entry, read-all, read_back, inserted-all, inserted-only}
+use Rattle.lru_model.proofs.CallerLemmas.{lookup-entry, read-all, read_back, inserted-all, inserted-only, all-without}
 use Rattle.lru_model.specs.Calls.{Remove, left_of, promoted, written}
 use Rattle.lru_model.specs.GetOrInserts.{got, inserted}
 use Rattle.lru_model.specs.Inserts.{Insert}
@@ -77,6 +77,13 @@ removed_there {K} {V} rules names old value new removes =
         ≡ is_some (option_map (λ p. p.1) o)
     left None = refl
     left (Some p) = refl
+
+pub removed_known : {K V S H : Type 0} (rules : Rules K V S) {eq : K → K → Bool} (post : K → V → Type 0)
+    (names : K → Bool) (old : State K V S H) (value : Option V) (new : State K V S H) → AreAnswers eq post old.pairs
+    → Remove rules names old value new → AreAnswers eq post new.pairs
+removed_known rules {eq} post names old value new known removes =
+    subst (All (λ p. IsAnswer eq post p.0 p.1)) (sym (ap (λ st. st.pairs) removes.state.is))
+    (all-without (λ p. IsAnswer eq post p.0 p.1) names old.pairs known)
 
 pub loaded_as_read : {V E : Type 0} {gives : Result V E → Type 0} {reads : V → V → Type 0} {result : Result V E}
     → ReadsLoaded gives reads result → ((value given : V) → reads value given → given ≡ value) → gives result

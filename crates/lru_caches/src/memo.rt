@@ -293,10 +293,10 @@ impl<K: Eq + Hash + Drop, V: Drop, F: Fn(&K) -> V, L: Insertion<K, V, K>, S: Key
     /// ```
     ///
     /// Cost: `O(1)` expected.
-    pub fn remove(&mut self, key: &K) -> bool
+    pub fn remove<Q: LookupKey<K>>(&mut self, key: &Q) -> bool
         requires known { AreAnswers K.eq (FnReturnsAt F.Fn self.old.function) self.old.map.pairs }
-        ensures there { result ≡ is_some (lookup (K.eq key.now) self.old.map.pairs) }
-        ensures step { (value : Option V) × Remove L.rules (K.eq key.now) self.old.map value self.new.map }
+        ensures there { result ≡ is_some (lookup (Q.names key.now) self.old.map.pairs) }
+        ensures step { (value : Option V) × Remove L.rules (Q.names key.now) self.old.map value self.new.map }
         ensures map { IsMap K.eq self.new.map }
         ensures known { AreAnswers K.eq (FnReturnsAt F.Fn self.new.function) self.new.map.pairs }
         ensures function { self.new.function ≡ self.old.function }

@@ -334,7 +334,12 @@ fn of_memo_loader(rt: HostRuntime) {
         ByLength::new(9),
         |n: &usize| vec![in alloc; 7u8; *n].map_err(|_| *n),
     );
-    let held = held & all!((texts.load_with(3, |text| text.len()), texts.len()) == (Ok(3), 1));
+    let held = held
+        & all!(
+            (texts.load_with(3, |text| text.len()), texts.len()) == (Ok(3), 1),
+            blocks.load(1) == Ok(11) && blocks.remove(&1) && !blocks.remove(&1)
+        );
+    blocks.clear();
     check!(rt; held);
 }
 

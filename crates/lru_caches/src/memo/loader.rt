@@ -1,13 +1,14 @@
-ghost use Rattle.std.specs.Prelude.{◌≡◌, [], length, None, Ok, IfOk, IfSome, OnErr};
+ghost use Rattle.std.specs.Prelude.{◌≡◌, [], length, Option, None, Ok, IfOk, IfSome, OnErr, is_some};
 ghost use Rattle.std.specs.Fn.{FnReturnsAt, FnOnceReturnsAt};
 ghost use Rattle.std.specs.Map.{lookup};
+ghost use Rattle.lru_model.specs.Calls.{Remove, cleared};
 ghost use Rattle.lru_model.specs.Lists.{is_empty};
 ghost use Rattle.lru_model.specs.Theorems.{KeepsValues};
 ghost use Rattle.lru_model.specs.State.{IsMap, empty_map};
 ghost use Rattle.ordered_table.specs.EntrySize.{entry_size};
 ghost use Rattle.lru_caches.specs.Answers.{IsAnswer, AreAnswers, Remembers, ReadsLoaded, loads};
 
-use schnellru::{Insertion, KeyHasher, LruMap, RandomState, laws};
+use schnellru::{Insertion, KeyHasher, LookupKey, LruMap, RandomState, laws};
 use std::alloc::Global;
 use std::hash::Hash;
 use std::marker::Model;
@@ -213,5 +214,40 @@ impl<
             }
             Err(error) => Err(error),
         }
+    }
+
+    /// Removes the stored value of a key, and returns whether there was one. The next `load` of the key calls the
+    /// function.
+    ///
+    /// ```
+    /// assert!(rt; blocks.load(1) == Ok(11) && blocks.remove(&1) && !blocks.remove(&1));
+    /// ```
+    ///
+    /// Cost: `O(1)` expected.
+    pub fn remove<Q: LookupKey<K>>(&mut self, key: &Q) -> bool
+        requires known { AreAnswers K.eq (loads (FnReturnsAt F.Fn self.old.function)) self.old.map.pairs }
+        ensures there { result ≡ is_some (lookup (Q.names key.now) self.old.map.pairs) }
+        ensures step { (value : Option V) × Remove L.rules (Q.names key.now) self.old.map value self.new.map }
+        ensures map { IsMap K.eq self.new.map }
+        ensures known { AreAnswers K.eq (loads (FnReturnsAt F.Fn self.new.function)) self.new.map.pairs }
+        ensures function { self.new.function ≡ self.old.function }
+    {
+        self.map.remove(key).is_some()
+    }
+
+    /// Drops all stored values.
+    ///
+    /// ```
+    /// blocks.clear();
+    /// ```
+    ///
+    /// Cost: as `LruMap::clear`.
+    pub fn clear(&mut self)
+        ensures step { self.new.map ≡ cleared L.rules self.old.map }
+        ensures map { IsMap K.eq self.new.map }
+        ensures known { AreAnswers K.eq (loads (FnReturnsAt F.Fn self.new.function)) self.new.map.pairs }
+        ensures function { self.new.function ≡ self.old.function }
+    {
+        self.map.clear();
     }
 }

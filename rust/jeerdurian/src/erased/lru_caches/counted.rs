@@ -162,16 +162,16 @@ impl<K: Eq + Hash, V, L: Limiter<K, V>, S: KeyHasher<K>> CountedMap<K, V, L, S> 
 }
 
 impl<K: Eq + Hash, V: Copy, L: Limiter<K, V>, S: KeyHasher<K>> CountedMap<K, V, L, S> {
-    /// Calls `promote`, and returns the value of the key.
+    /// Does what `promote` does, and returns the value of the key.
     ///
     /// ```text
     /// assert_eq!(rt; (counted.get(&1), counted.get(&9)), (Some(10), None));
     /// ```
     ///
-    /// Cost: as `LruMap::get`, and another search.
+    /// Cost: as `LruMap::get`.
     pub fn get<Q: LookupKey<K>>(&mut self, key: &Q) -> Option<V> {
-        let value = self.map.peek(key).copied();
-        self.promote(key);
+        let value = get(&mut self.map, key);
+        self.counts.count_look_up(value.is_some());
         value
     }
 }
@@ -210,6 +210,17 @@ impl<K: Eq + Hash, V, L: Limiter<K, V>, S: KeyHasher<K>> CountedMap<K, V, L, S> 
     /// Cost: as `LruMap::remove`.
     pub fn remove<Q: LookupKey<K>>(&mut self, key: &Q) -> Option<V> {
         self.map.remove(key)
+    }
+}
+
+fn get<K: Eq + Hash, V: Copy, Q: LookupKey<K>, L: Limiter<K, V>, S: KeyHasher<K>>(
+    map: &mut LruMap<K, V, L, S>,
+    key: &Q,
+) -> Option<V> {
+    let _len = map.len();
+    match map.get(key) {
+        Some(value) => Some(*value),
+        None => None,
     }
 }
 

@@ -1,11 +1,13 @@
 // Erased from crates/schnellru_tests/src/every_call.rt: do not edit.
-//! Every public call that may change a map is a step, or several steps. So the laws on steps and on runs hold for every
-//! call.
+//! Public calls that may change a map are steps, so the laws on steps and on runs hold for these calls.
+//!
+//! A call that gets a hash has the clauses of a call below. A `drain` pops each entry that it returns. No caller's proof
+//! can use the loan of `get_or_insert`, which is a step by `writes_newest` of `EveryCall`.
 
 #[allow(unused_imports)]
 use crate::rattle_std::prelude::*;
 
-use crate::erased::schnellru::{Insertion, KeyHasher, Limiter, LookupKey, LruMap};
+use crate::erased::schnellru::{Admission, Insertion, KeyHasher, Limiter, LookupKey, LruMap};
 use crate::rattle_std::hash::Hash;
 
 fn look_up<K: Eq + Hash, V, Q: LookupKey<K>, L: Limiter<K, V>, S: KeyHasher<K>>(map: &mut LruMap<K, V, L, S>, key: &Q) {
@@ -23,6 +25,10 @@ fn remove<K: Eq + Hash, V, Q: LookupKey<K>, L: Limiter<K, V>, S: KeyHasher<K>>(m
     map.clear();
 }
 
+fn release<K: Eq + Hash, V, L: Limiter<K, V>, S: KeyHasher<K>>(map: &mut LruMap<K, V, L, S>) {
+    let _ = map.try_pop_oldest(|_, _| -> Result<(), ()> { Ok(()) });
+}
+
 fn resize<K: Eq + Hash, V, L: Limiter<K, V>, S: KeyHasher<K>>(map: &mut LruMap<K, V, L, S>, limiter: L) {
     map.trim();
     map.set_limiter(limiter);
@@ -30,6 +36,13 @@ fn resize<K: Eq + Hash, V, L: Limiter<K, V>, S: KeyHasher<K>>(map: &mut LruMap<K
     let _ = map.shrink_to_fit();
     map.retain(|_, _| true);
     map.for_each_mut(|_, _| {});
+}
+
+fn pass_on<K: Eq + Hash, V, L: Limiter<K, V>, S: KeyHasher<K>>(map: &mut LruMap<K, V, L, S>, limiters: (L, L)) {
+    map.trim_with(&mut |_, _| {});
+    map.set_limiter_with(limiters.0, &mut |_, _| {});
+    map.retain_with(|_, _| true, &mut |_, _| {});
+    *map.limiter_mut() = limiters.1;
 }
 
 fn write<K: Eq + Hash, V, Q: LookupKey<K>, L: Limiter<K, V>, S: KeyHasher<K>>(
@@ -43,6 +56,39 @@ fn write<K: Eq + Hash, V, Q: LookupKey<K>, L: Limiter<K, V>, S: KeyHasher<K>>(
     }
 }
 
+fn overwrite<K: Eq + Hash, V, Q: LookupKey<K>, L: Limiter<K, V>, S: KeyHasher<K>>(
+    map: &mut LruMap<K, V, L, S>,
+    key: &Q,
+    value: V,
+) {
+    let _len = map.len();
+    if let Some(place) = map.peek_mut(key) {
+        *place = value;
+    }
+}
+
+fn find<K: Eq + Hash, V, Q: LookupKey<K>, L: Limiter<K, V>, S: KeyHasher<K>>(
+    map: &mut LruMap<K, V, L, S>,
+    key: &Q,
+    value: V,
+) {
+    if let Some(mut entry) = map.find_entry(key) {
+        entry.promote();
+        entry.demote();
+        *entry.get_mut() = value;
+        entry.remove_entry();
+    }
+}
+
+fn walk<K: Eq + Hash, V, L: Limiter<K, V>, S: KeyHasher<K>>(map: &mut LruMap<K, V, L, S>, value: V) {
+    let _len = map.len();
+    let mut walk = map.iter_mut();
+    if walk.len() > 0 {
+        let (_, place) = walk.lend_next();
+        *place = value;
+    }
+}
+
 fn insert<K: Eq + Hash, V, I: LookupKey<K>, L: Insertion<K, V, I>, S: KeyHasher<K>>(
     map: &mut LruMap<K, V, L, S>,
     keys: (I, I, I),
@@ -51,6 +97,32 @@ fn insert<K: Eq + Hash, V, I: LookupKey<K>, L: Insertion<K, V, I>, S: KeyHasher<
     let _ = map.insert(keys.0, values.0);
     map.update(keys.1, values.1);
     let _ = map.insert_and_keep(keys.2, values.2);
+}
+
+fn insert_with<K: Eq + Hash, V, I: LookupKey<K>, L: Insertion<K, V, I>, S: KeyHasher<K>>(
+    map: &mut LruMap<K, V, L, S>,
+    keys: (I, I, I, I),
+    values: (V, V, V, V),
+) {
+    let _ = map.insert_with(keys.0, values.0, &mut |_, _| {});
+    let _ = map.insert_full(keys.1, values.1, &mut |_, _| {});
+    map.update_with(keys.2, values.2, &mut |_, _| {});
+    if map.peek_key_value(&keys.3).is_none() {
+        let hash = map.hasher().hash_named(&keys.3);
+        let _ = map.insert_absent(hash, keys.3, values.3, &mut |_, _| {});
+    }
+}
+
+fn extend<K: Eq + Hash, V, L: Insertion<K, V, K>, S: KeyHasher<K>>(map: &mut LruMap<K, V, L, S>, entries: Vec<(K, V)>) {
+    let _ = map.try_extend(entries);
+}
+
+fn try_insert<K: Eq + Hash, V, L: Admission<K, V> + Copy, S: KeyHasher<K>>(
+    map: &mut LruMap<K, V, L, S>,
+    key: K,
+    value: V,
+) {
+    let _ = map.try_insert(key, value);
 }
 
 fn make<
@@ -77,4 +149,14 @@ fn write_newest<K: Eq + Hash, V, L: Limiter<K, V>, S: KeyHasher<K>>(map: &mut Lr
     if let Some(place) = map.newest_mut() {
         *place = value;
     }
+}
+
+fn insert_and_look_up<K: Eq + Hash, V, I: LookupKey<K>, Q: LookupKey<K>, L: Insertion<K, V, I>, S: KeyHasher<K>>(
+    map: &mut LruMap<K, V, L, S>,
+    inserted: I,
+    value: V,
+    key: &Q,
+) {
+    let _ = map.insert(inserted, value);
+    look_up(map, key);
 }
