@@ -62,7 +62,8 @@ pub mod trace;
 
 pub use entry::OccupiedEntry;
 pub use erased::lru_limits::{
-    ByBytes, ByCost, ByLength, ByMemoryUsage, ByWeight, Costed, DefaultHasher, OwnedBytes, Unlimited, UnlimitedCompact,
+    Both, ByBytes, ByCost, ByLength, ByMemoryUsage, ByWeight, Costed, DefaultHasher, OwnedBytes, Unlimited,
+    UnlimitedCompact,
 };
 pub use erased::lru_model::{GetOrInsertError, Inserted, MoveReport, ReserveError, Updated};
 pub use fallible::Fallible;

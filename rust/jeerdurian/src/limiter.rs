@@ -2,7 +2,7 @@
 
 use crate::erased::lru_limits as proved;
 use crate::erased::lru_limits::{
-    ByBytes, ByCost, ByLength, ByMemoryUsage, ByWeight, Costed, LinkType, OwnedBytes, Unlimited, UnlimitedCompact,
+    Both, ByBytes, ByCost, ByLength, ByMemoryUsage, ByWeight, Costed, LinkType, OwnedBytes, Unlimited, UnlimitedCompact,
 };
 use crate::keys::Offered;
 use crate::rattle_std::alloc::{AllocError, Global};
@@ -77,7 +77,8 @@ pub trait Limiter<K, V> {
     /// Called after the map was cleared.
     fn on_cleared(&mut self);
 
-    /// Called before the table grows to `new_memory_usage` bytes. `false` refuses that.
+    /// Called before the table grows to `new_memory_usage` bytes. `false` refuses that. Called with 0 after a panic has
+    /// left the map without a table; then the map ignores the answer.
     fn on_grow(&mut self, new_memory_usage: usize) -> bool;
 }
 
@@ -111,7 +112,9 @@ macro_rules! by_the_proved_limiter {
             }
 
             #[inline]
-            fn on_replace(&mut self, length: usize, old_key: &mut K, _: K, old: &mut V, new: &mut V) -> bool {
+            fn on_replace(&mut self, length: usize, old_key: &mut K, key: K, old: &mut V, new: &mut V) -> bool {
+                // If this drop unwinds, the total still counts the old value.
+                drop(key);
                 proved::Admission::<K, V>::admit_in_place(self, length, old_key, old, new)
             }
 
@@ -152,6 +155,9 @@ by_the_proved_limiter!([K, V] UnlimitedCompact, u32);
 by_the_proved_limiter!([K: OwnedBytes, V: OwnedBytes] ByBytes, u32);
 by_the_proved_limiter!([K, V: Costed] ByCost, usize);
 by_the_proved_limiter!([K: Costed, V: Costed, const OVERHEAD: u64] ByWeight<OVERHEAD>, usize);
+by_the_proved_limiter!(
+    [K, V, A: proved::Admission<K, V, LinkType: Eq + Debug>, B: proved::Admission<K, V>] Both<A, B>, A::LinkType
+);
 
 /// A limiter as the proved map calls it.
 #[derive(Clone, Copy)]

@@ -53,6 +53,7 @@ impl<K: Eq + Hash, V, L: Admission<K, V>> Insertion<K, V, K> for L {
         old_value: &mut V,
         new_value: &mut V,
     ) -> bool {
+        drop(_new_key);
         self.admit_in_place(length, &*old_key, &*old_value, &*new_value)
     }
 }

@@ -16,6 +16,11 @@ mod removing;
 mod totals;
 
 use totals::is_above;
+impl<N: Eq + Hash, K: Eq + Hash, V, L: Budgeted<K, V>, S: KeyHasher<K> + Copy> TenantCache<N, K, V, L, S> {
+    pub(crate) fn sum_again(&mut self) {
+        self.budgets = self.tenants.values().map(|map| map.limiter().budget() as u128).sum();
+    }
+}
 
 /// A cache for many tenants. Each tenant has a name, and a map limited by its own budget.
 ///

@@ -15,6 +15,12 @@ mod reading;
 
 use evict::settle;
 use part::{Part, cost_of, opened};
+impl<N: Eq + Hash, K: Eq + Hash, V, L: Budgeted<K, V>, S: KeyHasher<K> + Copy> TenantPool<N, K, V, L, S> {
+    pub(crate) fn sum_again(&mut self) {
+        self.shares = self.tenants.values().map(|(share, _)| *share).sum();
+        self.total = self.tenants.values().map(|(_, map)| cost_of(map) as u128).sum();
+    }
+}
 
 /// A cache for many tenants. Each tenant has its own share of one limit, and any tenant may use the rest.
 ///

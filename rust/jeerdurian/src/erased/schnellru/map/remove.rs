@@ -93,9 +93,14 @@ impl<K: Eq + Hash, V, L: Limiter<K, V>, S: KeyHasher<K>> LruMap<K, V, L, S> {
     ///
     /// Follows schnellru's `LruMap::clear`.
     pub fn clear(&mut self) {
-        let alloc = self.alloc;
-        if_unwound(&mut self.entries, |entries| leak(entries, OrderedTable::new(alloc)), |entries| entries.clear());
+        if_unwound(self, Self::abandon, |map| map.entries.clear());
         self.limiter.on_cleared();
+    }
+    // Leaks the entries and the table, and notifies the limiter that both are gone.
+    pub(super) fn abandon(&mut self) {
+        leak(&mut self.entries, OrderedTable::new(self.alloc));
+        self.limiter.on_cleared();
+        self.limiter.on_grow(0);
     }
 }
 

@@ -36,14 +36,7 @@ impl<K: Eq + Hash, V, L: Limiter<K, V>, S: KeyHasher<K>> LruMap<K, V, L, S> {
         if self.entries.buckets() <= count {
             return Ok(false);
         }
-        if_unwound(
-            self,
-            |map| {
-                leak(&mut map.entries, crate::erased::ordered_table::OrderedTable::new(map.alloc));
-                map.limiter.on_cleared();
-            },
-            |map| map.entries.move_to(count, &map.hasher),
-        )?;
+        if_unwound(self, Self::abandon, |map| map.entries.move_to(count, &map.hasher))?;
         self.shrunk = self.shrunk.saturating_add(len as u64);
         Ok(true)
     }
