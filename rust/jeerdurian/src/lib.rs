@@ -25,7 +25,7 @@
 //! proofs assume that the keys, the hasher and the limiter satisfy the laws of their traits; memory safety does not depend
 //! on that (`SAFETY.md`).
 #![no_std]
-#![deny(missing_docs, unsafe_op_in_unsafe_fn)]
+#![deny(missing_debug_implementations, missing_docs, unsafe_op_in_unsafe_fn)]
 
 #[cfg(not(target_pointer_width = "64"))]
 compile_error!("the sources are proved for a `usize` of 64 bits");
@@ -41,6 +41,8 @@ mod erased;
 
 #[cfg(feature = "std")]
 pub mod caches;
+mod costs;
+mod debug;
 #[cfg(any(feature = "lru", feature = "hashlink"))]
 mod doors;
 mod entry;
@@ -59,6 +61,7 @@ mod more;
 pub mod tenants;
 #[cfg(feature = "std")]
 pub mod trace;
+mod traits;
 
 pub use entry::OccupiedEntry;
 pub use erased::lru_limits::{

@@ -241,22 +241,3 @@ impl<K, V, L: Admission<K, V>> proved::Admission<K, V> for Calls<L> {
         false
     }
 }
-
-impl<T> Costed for alloc::vec::Vec<T> {
-    /// The number of items.
-    #[inline]
-    fn cost(&self) -> u64 {
-        self.len() as u64
-    }
-}
-
-impl<T: OwnedBytes> OwnedBytes for alloc::vec::Vec<T> {
-    /// Its block, however much of it is in use, and what its items own.
-    fn owned_bytes(&self) -> u64 {
-        let block = match self.capacity().saturating_mul(size_of::<T>()) as u64 {
-            0 => 0,
-            bytes => bytes.saturating_add(31) / 16 * 16,
-        };
-        self.iter().fold(block, |sum, item| sum.saturating_add(item.owned_bytes()))
-    }
-}

@@ -59,6 +59,14 @@ impl<K: Eq + Hash, V, S: KeyHasher<K>> OrderedMap<K, V, S> {
     pub fn with_hasher(alloc: Global, hasher: S) -> Self {
         OrderedMap { map: LruMap::with_limiter_and_hasher(alloc, Unlimited, hasher) }
     }
+    pub(crate) fn try_clone(&self) -> Result<Self, AllocError>
+    where
+        K: TryClone,
+        V: TryClone,
+        S: TryClone,
+    {
+        Ok(OrderedMap { map: self.map.try_clone()? })
+    }
 
     /// Returns the number of entries. Cost: `O(1)`.
     ///
