@@ -62,13 +62,9 @@ pub mod tenants;
 #[cfg(feature = "std")]
 pub mod trace;
 mod traits;
+mod types;
 
 pub use entry::OccupiedEntry;
-pub use erased::lru_limits::{
-    Both, ByBytes, ByCost, ByLength, ByMemoryUsage, ByWeight, Costed, DefaultHasher, OwnedBytes, Unlimited,
-    UnlimitedCompact,
-};
-pub use erased::lru_model::{GetOrInsertError, Inserted, MoveReport, ReserveError, Updated};
 pub use fallible::Fallible;
 pub use hasher::RandomState;
 pub use iter::{Drain, IntoIter, Iter, IterMut, Keys, Values};
@@ -76,6 +72,10 @@ pub use limiter::{Admission, Limiter};
 pub use map::LruMap;
 pub use more::More;
 pub use rattle_std::alloc::AllocError;
+pub use types::{
+    Both, ByBytes, ByCost, ByLength, ByMemoryUsage, ByWeight, Costed, DefaultHasher, GetOrInsertError, Inserted,
+    MoveReport, OwnedBytes, ReserveError, Unlimited, UnlimitedCompact, Updated,
+};
 
 // The unit tests of schnellru, from a file that `rust/upstream.sh` names, and what they take from its root.
 #[cfg(all(test, upstream_tests))]

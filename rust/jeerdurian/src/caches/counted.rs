@@ -1,11 +1,22 @@
 //! A map that counts hits, misses, insertions, rejections and evictions.
 
 use crate::erased::lru_caches as proved;
-pub use crate::erased::lru_caches::Counts;
 use crate::keys::{Named, Offered};
 use crate::limiter::{Calls, Limiter};
 use crate::{ByLength, Iter, LruMap, RandomState};
 use core::hash::{BuildHasher, Hash};
+
+/// The hits, misses, insertions, rejections and evictions of a cache.
+///
+/// ```
+/// use jeerdurian::{ByLength, LruMap, caches::{CountedMap, Counts}};
+///
+/// let mut counted = CountedMap::new(LruMap::new(ByLength::new(1)));
+/// counted.insert(1, 10);
+/// counted.get(&2);
+/// assert_eq!(counted.take_counts(), Counts { insertions: 1, misses: 1, ..Counts::default() });
+/// ```
+pub use crate::erased::lru_caches::Counts;
 
 /// A map that counts its look-ups and its inserts.
 ///
