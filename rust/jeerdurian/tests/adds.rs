@@ -37,7 +37,7 @@ fn costs() {
 
 #[test]
 fn owned_bytes() {
-    assert_eq!(((), 1i8, 2i16, 3i128).0.owned_bytes() + 4isize.owned_bytes() + 1.5f64.owned_bytes(), 0);
+    assert_eq!([()].owned_bytes() + 4isize.owned_bytes() + 1.5f64.owned_bytes(), 0);
     assert_eq!(1i8.owned_bytes() + 2i16.owned_bytes() + 3i128.owned_bytes() + 0.5f32.owned_bytes(), 0);
     // A block of 17 bytes takes 32, and 16 more.
     let text: Box<str> = "a".repeat(17).into();
