@@ -71,7 +71,8 @@ pub trait Limiter<K, V> {
         new_value: &mut V,
     ) -> bool;
 
-    /// Called after an entry was removed from the map, or accepted and then not stored because no table holds it.
+    /// Called after an entry was removed from the map, or accepted and then not stored, because no table holds it or a
+    /// callback panicked.
     fn on_removed(&mut self, key: &mut K, value: &mut V);
 
     /// Called after the map was cleared.
