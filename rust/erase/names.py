@@ -39,16 +39,30 @@ def imports(text):
 
 
 def docs(toks):
-    """Code blocks of docs are Rattle, so rustdoc does not run them. The erased tests contain each of their lines."""
-    is_inside = False
+    """Drops the code blocks of docs, which are Rattle, the paragraphs about these examples, and the empty lines above.
+    The erased tests contain each line of the code."""
+    out, end = [], None
     for t in toks:
-        m = re.fullmatch(r"(//[/!]\s*)```(\w*)", t.text) if t.kind == "comment" else None
-        if m:
-            is_inside = not is_inside
-            if is_inside and not m[2]:
-                t.text = m[1] + "```text"
-        elif not is_trivia(t):
-            is_inside = False
+        line = re.sub("//[/!]", "", t.text).strip() if t.kind == "comment" else None
+        if not is_trivia(t) or (end == "" and line == ""):
+            end = None
+        if end != "```" and line is not None and re.match(r"```\w*$|In the examples", line):
+            end = "```" if line[0] == "`" else ""
+            drop_last(out, "ws")
+            if out and out[-1].text in ("///", "//!"):
+                out.pop()
+                drop_last(out, "ws")
+        elif end is None or line is None:
+            out.append(t)
+        else:
+            drop_last(out, "ws")
+            end = None if line == end else end
+    return out
+
+
+def drop_last(toks, kind):
+    if toks and toks[-1].kind == kind:
+        toks.pop()
 
 
 def with_head(text, source):

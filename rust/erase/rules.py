@@ -13,5 +13,4 @@ def erase(text, crate, modules):
     toks, dropped = impls(toks)
     toks = constructors(calls(take_apart(toks, dropped)))
     toks = tests(key_bounds(indices(toks), dropped))
-    docs(toks)
-    return macros(imports(text_of(paths(toks, crate, modules))))
+    return macros(imports(text_of(paths(docs(toks), crate, modules))))

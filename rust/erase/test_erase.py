@@ -62,6 +62,11 @@ CASES = [
     ("#[test] fn f(rt: HostRuntime) -> R { g(rt) }",
      "#[test] fn f() { let run = |rt: HostRuntime| -> R { g(rt) }; run(HostRuntime).passes(); }"),
     ("fn main(rt: HostRuntime) -> R { g(rt) }", "pub(crate) fn main(rt: HostRuntime) -> R { g(rt) }"),
+    # The code of docs, of an item and of a module.
+    ("/// d\n///\n/// ```\n/// f(rt; 1)\n/// ```\n///\n/// e\nfn f() {}", "/// d\n///\n/// e\nfn f() {}"),
+    ("/// ```\n/// f(rt; 1)\n/// ```\nfn f() {}\n/// d\n/// ```text\n/// t\n/// ```\nfn g() {}", "fn f() {}\n/// d\nfn g() {}"),
+    ("/// d\n///\n/// In the examples, a\n/// is b.\n///\n/// ```\n/// a\n/// ```\nfn f() {}", "/// d\nfn f() {}"),
+    ("/// d\n///\n/// In the examples, a.\nfn f() {}", "/// d\nfn f() {}"),
     # A destructor that changes other values alone.
     ("struct S<'a> { a: &'a u8, b: u64 } impl Drop for S<'_> { fn drop(self) { g(self.a); } }",
      "struct S<'a> { a: &'a u8, b: u64 } impl Drop for S<'_> { fn drop(&mut self) {"

@@ -5,8 +5,12 @@ use crate::keys::{Named, Offered};
 use crate::limiter::Limiter;
 use crate::map::LruMap;
 use crate::rattle_std::alloc::AllocError;
-use crate::{GetOrInsertError, Inserted};
+use crate::{GetOrInsertError, Inserted, ReserveError};
 use core::hash::{BuildHasher, Hash};
+
+impl core::error::Error for ReserveError {}
+
+impl<E: core::error::Error> core::error::Error for GetOrInsertError<E> {}
 
 /// Drops what an insert evicts, the key first.
 fn discard<K, V>(key: K, value: V) {

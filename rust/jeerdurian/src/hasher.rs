@@ -11,7 +11,16 @@ use core::hash::BuildHasher;
 pub struct RandomState(lru_limits::RandomState);
 
 impl RandomState {
-    pub(crate) const fn with_seeds(seeds: [u64; 4]) -> Self {
+    /// Takes these seeds. Call it for equal hashes in each run; if strangers choose the keys, nobody may guess the seeds.
+    ///
+    /// ```
+    /// use jeerdurian::RandomState;
+    /// use std::hash::BuildHasher;
+    ///
+    /// let (one, other) = (RandomState::with_seeds([1, 2, 3, 4]), RandomState::with_seeds([1, 2, 3, 4]));
+    /// assert_eq!(one.hash_one("key"), other.hash_one("key"));
+    /// ```
+    pub const fn with_seeds(seeds: [u64; 4]) -> Self {
         RandomState(lru_limits::RandomState::with_seeds(seeds))
     }
 }

@@ -18,12 +18,6 @@ impl<'a, K, V, L: Limiter<K, V>> Iter<'a, K, V, L> {
     }
 }
 
-impl<K, V, L: Limiter<K, V>> Clone for Iter<'_, K, V, L> {
-    fn clone(&self) -> Self {
-        Iter { walk: self.walk.clone() }
-    }
-}
-
 /// An iterator over the keys of a map, the newest first. Proved: it returns each key once, in the order of use.
 pub struct Keys<'a, K, V, L: Limiter<K, V>> {
     pub(crate) walk: ordered_table::Keys<'a, K, V, L::LinkType>,
@@ -33,6 +27,17 @@ pub struct Keys<'a, K, V, L: Limiter<K, V>> {
 pub struct Values<'a, K, V, L: Limiter<K, V>> {
     pub(crate) walk: ordered_table::Values<'a, K, V, L::LinkType>,
 }
+
+macro_rules! clones {
+    ($($name:ident)*) => {$(
+        impl<K, V, L: Limiter<K, V>> Clone for $name<'_, K, V, L> {
+            fn clone(&self) -> Self {
+                $name { walk: self.walk.clone() }
+            }
+        }
+    )*};
+}
+clones!(Iter Keys Values);
 
 /// An iterator that takes the entries out of a map, the newest first. Dropping it clears the map.
 ///
@@ -51,7 +56,7 @@ pub struct IntoIter<K, V, L: Limiter<K, V>, S> {
     entries: proved::IntoIter<K, V, Calls<L>, S>,
 }
 
-// The three impls of an iterator that passes each call on to its field.
+// The impls of an iterator that passes each call on to its field. `last` and `count` do not walk.
 macro_rules! passes_on {
     ([$($parameters:tt)*] $name:ty, $item:ty, $field:ident) => {
         passes_on!([$($parameters)*] $name, $item, $field, where);
@@ -68,6 +73,16 @@ macro_rules! passes_on {
             #[inline]
             fn size_hint(&self) -> (usize, Option<usize>) {
                 self.$field.size_hint()
+            }
+
+            #[inline]
+            fn last(mut self) -> Option<$item> {
+                self.next_back()
+            }
+
+            #[inline]
+            fn count(self) -> usize {
+                self.len()
             }
         }
 

@@ -25,7 +25,7 @@
 //! proofs assume that the keys, the hasher and the limiter satisfy the laws of their traits; memory safety does not depend
 //! on that (`SAFETY.md`).
 #![no_std]
-#![deny(missing_docs, unsafe_op_in_unsafe_fn)]
+#![deny(missing_debug_implementations, missing_docs, unsafe_op_in_unsafe_fn)]
 
 #[cfg(not(target_pointer_width = "64"))]
 compile_error!("the sources are proved for a `usize` of 64 bits");
@@ -41,6 +41,8 @@ mod erased;
 
 #[cfg(feature = "std")]
 pub mod caches;
+mod costs;
+mod debug;
 #[cfg(any(feature = "lru", feature = "hashlink"))]
 mod doors;
 mod entry;
@@ -59,12 +61,10 @@ mod more;
 pub mod tenants;
 #[cfg(feature = "std")]
 pub mod trace;
+mod traits;
+mod types;
 
 pub use entry::OccupiedEntry;
-pub use erased::lru_limits::{
-    ByBytes, ByCost, ByLength, ByMemoryUsage, ByWeight, Costed, DefaultHasher, OwnedBytes, Unlimited, UnlimitedCompact,
-};
-pub use erased::lru_model::{GetOrInsertError, Inserted, MoveReport, ReserveError, Updated};
 pub use fallible::Fallible;
 pub use hasher::RandomState;
 pub use iter::{Drain, IntoIter, Iter, IterMut, Keys, Values};
@@ -72,6 +72,10 @@ pub use limiter::{Admission, Limiter};
 pub use map::LruMap;
 pub use more::More;
 pub use rattle_std::alloc::AllocError;
+pub use types::{
+    Both, ByBytes, ByCost, ByLength, ByMemoryUsage, ByWeight, Costed, DefaultHasher, GetOrInsertError, Inserted,
+    MoveReport, OwnedBytes, ReserveError, Unlimited, UnlimitedCompact, Updated,
+};
 
 // The unit tests of schnellru, from a file that `rust/upstream.sh` names, and what they take from its root.
 #[cfg(all(test, upstream_tests))]

@@ -2,7 +2,7 @@
 
 use crate::erased::lru_limits as proved;
 use crate::erased::lru_limits::{
-    ByBytes, ByCost, ByLength, ByMemoryUsage, ByWeight, Costed, LinkType, OwnedBytes, Unlimited, UnlimitedCompact,
+    Both, ByBytes, ByCost, ByLength, ByMemoryUsage, ByWeight, Costed, LinkType, OwnedBytes, Unlimited, UnlimitedCompact,
 };
 use crate::keys::Offered;
 use crate::rattle_std::alloc::{AllocError, Global};
@@ -71,13 +71,15 @@ pub trait Limiter<K, V> {
         new_value: &mut V,
     ) -> bool;
 
-    /// Called after an entry was removed from the map, or accepted and then not stored because no table holds it.
+    /// Called after an entry was removed from the map, or accepted and then not stored, because no table holds it or a
+    /// callback panicked.
     fn on_removed(&mut self, key: &mut K, value: &mut V);
 
     /// Called after the map was cleared.
     fn on_cleared(&mut self);
 
-    /// Called before the table grows to `new_memory_usage` bytes. `false` refuses that.
+    /// Called before the table grows to `new_memory_usage` bytes. `false` refuses that. Called with 0 after a panic has
+    /// left the map without a table; then the map ignores the answer.
     fn on_grow(&mut self, new_memory_usage: usize) -> bool;
 }
 
@@ -111,7 +113,9 @@ macro_rules! by_the_proved_limiter {
             }
 
             #[inline]
-            fn on_replace(&mut self, length: usize, old_key: &mut K, _: K, old: &mut V, new: &mut V) -> bool {
+            fn on_replace(&mut self, length: usize, old_key: &mut K, key: K, old: &mut V, new: &mut V) -> bool {
+                // If this drop unwinds, the total still counts the old value.
+                drop(key);
                 proved::Admission::<K, V>::admit_in_place(self, length, old_key, old, new)
             }
 
@@ -152,6 +156,9 @@ by_the_proved_limiter!([K, V] UnlimitedCompact, u32);
 by_the_proved_limiter!([K: OwnedBytes, V: OwnedBytes] ByBytes, u32);
 by_the_proved_limiter!([K, V: Costed] ByCost, usize);
 by_the_proved_limiter!([K: Costed, V: Costed, const OVERHEAD: u64] ByWeight<OVERHEAD>, usize);
+by_the_proved_limiter!(
+    [K, V, A: proved::Admission<K, V, LinkType: Eq + Debug>, B: proved::Admission<K, V>] Both<A, B>, A::LinkType
+);
 
 /// A limiter as the proved map calls it.
 #[derive(Clone, Copy)]
@@ -233,24 +240,5 @@ impl<K, V, L: Admission<K, V>> proved::Admission<K, V> for Calls<L> {
 
     fn admit_in_place(&mut self, _: usize, _: &K, _: &V, _: &V) -> bool {
         false
-    }
-}
-
-impl<T> Costed for alloc::vec::Vec<T> {
-    /// The number of items.
-    #[inline]
-    fn cost(&self) -> u64 {
-        self.len() as u64
-    }
-}
-
-impl<T: OwnedBytes> OwnedBytes for alloc::vec::Vec<T> {
-    /// Its block, however much of it is in use, and what its items own.
-    fn owned_bytes(&self) -> u64 {
-        let block = match self.capacity().saturating_mul(size_of::<T>()) as u64 {
-            0 => 0,
-            bytes => bytes.saturating_add(31) / 16 * 16,
-        };
-        self.iter().fold(block, |sum, item| sum.saturating_add(item.owned_bytes()))
     }
 }

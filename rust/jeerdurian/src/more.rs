@@ -6,6 +6,7 @@ use crate::iter::{Keys, Values};
 use crate::keys::{Named, Offered};
 use crate::limiter::{Admission, Calls, Limiter};
 use crate::map::LruMap;
+use crate::rattle_std::alloc::AllocError;
 use crate::{Inserted, MoveReport, ReserveError, Updated};
 use core::hash::{BuildHasher, Hash};
 
@@ -156,13 +157,58 @@ where
     where
         L::KeyToInsert<'a>: Hash + PartialEq<K>;
 
+    /// Updates as [`update`](Self::update) does, and passes each entry that the map evicts or removes to a callback.
+    /// Proved: as of `update`, and the callback gets each of these entries once, in their order.
+    ///
+    /// ```
+    /// use jeerdurian::{ByCost, LruMap, More, Updated};
+    ///
+    /// let mut map: LruMap<u64, u64, ByCost> = LruMap::new(ByCost::new(30));
+    /// map.extend([(1, 10), (2, 20)]);
+    /// let mut lost = Vec::new();
+    /// assert_eq!(map.update_with(2, 25, |key, _| lost.push(key)), Updated::Replaced(20));
+    /// assert_eq!(lost, [1]);
+    /// ```
+    fn update_with<'a>(&mut self, key: L::KeyToInsert<'a>, value: V, lost: impl FnMut(K, V)) -> Updated<V>
+    where
+        L::KeyToInsert<'a>: Hash + PartialEq<K>;
+
     /// Evicts the oldest entries while the limiter is over its limit. Proved: afterwards the map is within its limit or
     /// empty, and only the oldest entries are gone.
     fn trim(&mut self);
 
+    /// Trims as [`trim`](Self::trim) does, and passes each evicted entry to a callback, the oldest first. Proved: as of
+    /// `trim`, and the callback gets each evicted entry once.
+    ///
+    /// ```
+    /// use jeerdurian::{ByLength, LruMap, More};
+    ///
+    /// let mut map = LruMap::new(ByLength::new(3));
+    /// map.extend([(1, 10), (2, 20), (3, 30)]);
+    /// *map.limiter_mut() = ByLength::new(1);
+    /// let mut evicted = Vec::new();
+    /// map.trim_with(|key, value| evicted.push((key, value)));
+    /// assert_eq!(evicted, [(1, 10), (2, 20)]);
+    /// ```
+    fn trim_with(&mut self, evicted: impl FnMut(K, V));
+
     /// Sets the limiter, and evicts the oldest entries while it is over its limit. Returns the old one. A running total
     /// is the new limiter's own: it is not computed from the entries. Proved: as of `trim`, under the new limiter.
     fn set_limiter(&mut self, limiter: L) -> L;
+
+    /// Sets the limiter as [`set_limiter`](Self::set_limiter) does, and passes each evicted entry to a callback, the
+    /// oldest first. Proved: as of `trim_with`, under the new limiter.
+    ///
+    /// ```
+    /// use jeerdurian::{ByLength, LruMap, More};
+    ///
+    /// let mut map = LruMap::new(ByLength::new(3));
+    /// map.extend([(1, 10), (2, 20), (3, 30)]);
+    /// let mut evicted = Vec::new();
+    /// map.set_limiter_with(ByLength::new(2), |key, value| evicted.push((key, value)));
+    /// assert_eq!(evicted, [(1, 10)]);
+    /// ```
+    fn set_limiter_with(&mut self, limiter: L, evicted: impl FnMut(K, V)) -> L;
 
     /// Returns the hasher. Proved: it is the hasher that the map was made with.
     fn hasher(&self) -> &S;
@@ -184,6 +230,29 @@ where
     ///
     /// Proved: `moved` is at most twice `placed` plus `shrunk`.
     fn move_report(&self) -> MoveReport;
+
+    /// Clones the map as `clone` does. Proved: the entries and their order are those of the map.
+    ///
+    /// # Errors
+    ///
+    /// Out of memory for the table. A `Clone` of a key or a value does not return then.
+    ///
+    /// ```
+    /// use jeerdurian::{ByLength, LruMap, More};
+    ///
+    /// # fn main() -> Result<(), jeerdurian::AllocError> {
+    /// let mut map = LruMap::new(ByLength::new(3));
+    /// map.extend([(1, 10), (2, 20)]);
+    /// assert!(map.try_clone()? == map);
+    /// # Ok(())
+    /// # }
+    /// ```
+    fn try_clone(&self) -> Result<LruMap<K, V, L, S>, AllocError>
+    where
+        K: Clone,
+        V: Clone,
+        L: Clone,
+        S: Clone;
 
     /// Returns the calls that need memory in forms that return an error when it runs out.
     fn fallible(&mut self) -> Fallible<'_, K, V, L, S>;
@@ -315,12 +384,27 @@ where
         self.map.update(Offered(key), value)
     }
 
+    fn update_with<'a>(&mut self, key: L::KeyToInsert<'a>, value: V, mut lost: impl FnMut(K, V)) -> Updated<V>
+    where
+        L::KeyToInsert<'a>: Hash + PartialEq<K>,
+    {
+        self.map.update_with(Offered(key), value, &mut lost)
+    }
+
     fn trim(&mut self) {
         self.map.trim();
     }
 
+    fn trim_with(&mut self, mut evicted: impl FnMut(K, V)) {
+        self.map.trim_with(&mut evicted);
+    }
+
     fn set_limiter(&mut self, limiter: L) -> L {
         self.map.set_limiter(Calls(limiter)).0
+    }
+
+    fn set_limiter_with(&mut self, limiter: L, mut evicted: impl FnMut(K, V)) -> L {
+        self.map.set_limiter_with(Calls(limiter), &mut evicted).0
     }
 
     fn hasher(&self) -> &S {
@@ -337,6 +421,16 @@ where
 
     fn move_report(&self) -> MoveReport {
         self.map.move_report()
+    }
+
+    fn try_clone(&self) -> Result<LruMap<K, V, L, S>, AllocError>
+    where
+        K: Clone,
+        V: Clone,
+        L: Clone,
+        S: Clone,
+    {
+        Ok(LruMap { map: self.map.try_clone()? })
     }
 
     fn fallible(&mut self) -> Fallible<'_, K, V, L, S> {

@@ -27,6 +27,7 @@ use crate::erased::lru_limits::Budgeted;
 use crate::erased::lru_tenants as proved;
 use crate::keys::Borrowed;
 use crate::rattle_std::alloc::Global;
+use crate::rattle_std::unwinding::if_unwound;
 use crate::{ByCost, ByWeight, Costed, RandomState};
 use core::borrow::Borrow;
 use core::hash::{BuildHasher, Hash};
@@ -189,7 +190,7 @@ where
     /// assert_eq!(cache.open(1, 5), Err(TenantError::AlreadyOpen));
     /// ```
     pub fn open(&mut self, name: N, budget: u64) -> Result<(), TenantError> {
-        self.cache.open(name, budget)
+        if_unwound(&mut self.cache, proved::TenantCache::sum_again, |cache| cache.open(name, budget))
     }
 
     /// Returns the number of a tenant's entries.
@@ -331,7 +332,7 @@ where
         N: Borrow<T>,
         T: Eq + Hash + ?Sized,
     {
-        self.cache.close(&Borrowed(name))
+        if_unwound(&mut self.cache, proved::TenantCache::sum_again, |cache| cache.close(&Borrowed(name)))
     }
 
     /// Closes a tenant as [`close`](Self::close) does, and passes each entry to the callback, oldest first.
@@ -353,7 +354,9 @@ where
         N: Borrow<T>,
         T: Eq + Hash + ?Sized,
     {
-        self.cache.close_with(&Borrowed(name), &mut lost)
+        if_unwound(&mut self.cache, proved::TenantCache::sum_again, |cache| {
+            cache.close_with(&Borrowed(name), &mut lost)
+        })
     }
 
     /// Sets what the budgets of all tenants add up to at most, or that nothing limits their sum.

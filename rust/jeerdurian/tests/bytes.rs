@@ -100,4 +100,7 @@ fn owned_bytes_are_those_of_the_allocator() {
     check(|| (1u8, "a".repeat(100)));
     check(|| ("a".repeat(100), 1u8));
     check(|| Some(vec![1u64; 100]));
+    check(|| "a".repeat(100).into_boxed_str());
+    check(|| vec!["a".repeat(100), "b".repeat(33)].into_boxed_slice());
+    check(|| ["a".repeat(100), "b".repeat(33)]);
 }

@@ -23,6 +23,9 @@ trait No {
     fn is_unwind_safe(&self) -> bool {
         false
     }
+    fn is_ref_unwind_safe(&self) -> bool {
+        false
+    }
 }
 
 impl<T: ?Sized> No for &Asked<T> {}
@@ -37,12 +40,12 @@ macro_rules! yes {
     )*};
 }
 
-yes!(is_send: Send, is_sync: Sync, is_unwind_safe: UnwindSafe,);
+yes!(is_send: Send, is_sync: Sync, is_unwind_safe: UnwindSafe, is_ref_unwind_safe: RefUnwindSafe,);
 
 macro_rules! asked {
     ($type:ty) => {{
         let it = &Asked::<$type>(std::marker::PhantomData);
-        (it.is_send(), it.is_sync(), it.is_unwind_safe())
+        (it.is_send(), it.is_sync(), it.is_unwind_safe(), it.is_ref_unwind_safe())
     }};
 }
 
@@ -51,14 +54,9 @@ macro_rules! alike {
     ($($type:ty),*) => {$({
         assert_eq!(asked!(LruMap<$type, u8>), asked!(Vec<$type>), stringify!($type));
         assert_eq!(asked!(LruMap<u8, $type>), asked!(Vec<$type>), stringify!($type));
-        let (send, sync, _) = asked!(&'static Vec<$type>);
-        let (iter_send, iter_sync, _) = asked!(Iter<'static, u8, $type, ByLength>);
-        assert_eq!((iter_send, iter_sync), (send, sync), stringify!($type));
-        let (send, sync, _) = asked!(&'static mut Vec<$type>);
-        let (iter_send, iter_sync, _) = asked!(IterMut<'static, u8, $type, ByLength>);
-        assert_eq!((iter_send, iter_sync), (send, sync), stringify!($type));
-        let (iter_send, iter_sync, _) = asked!(Drain<'static, u8, $type, ByLength, RandomState>);
-        assert_eq!((iter_send, iter_sync), (send, sync), stringify!($type));
+        assert_eq!(asked!(Iter<'static, u8, $type, ByLength>), asked!(&'static Vec<$type>), stringify!($type));
+        assert_eq!(asked!(IterMut<'static, u8, $type, ByLength>), asked!(&'static mut Vec<$type>), stringify!($type));
+        assert_eq!(asked!(Drain<'static, u8, $type, ByLength, RandomState>), asked!(&'static mut Vec<$type>));
     })*};
 }
 
@@ -66,15 +64,12 @@ macro_rules! alike {
 fn auto_traits() {
     alike!(u64, String, Box<dyn Fn()>, Box<dyn Fn() + Send>, Box<dyn Fn() + Sync>, std::rc::Rc<u8>, Cell<u8>);
     alike!(RefCell<u8>, UnsafeCell<u8>, *mut u8, &'static Cell<u8>, &'static mut u8, MutexGuard<'static, u8>);
-    fn is_ref_unwind_safe<T: RefUnwindSafe>() {}
-    is_ref_unwind_safe::<LruMap<u64, String>>();
 }
 
 /// Whether a type has the auto traits of another one.
 macro_rules! same {
     ($other:ty: $($type:ty),* $(,)?) => {$({
-        let ((send, sync, _), (is_send, is_sync, _)) = (asked!($type), asked!($other));
-        assert_eq!((send, sync), (is_send, is_sync), stringify!($type));
+        assert_eq!(asked!($type), asked!($other), stringify!($type));
     })*};
 }
 

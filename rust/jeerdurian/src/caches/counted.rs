@@ -1,11 +1,22 @@
 //! A map that counts hits, misses, insertions, rejections and evictions.
 
 use crate::erased::lru_caches as proved;
-pub use crate::erased::lru_caches::Counts;
 use crate::keys::{Named, Offered};
 use crate::limiter::{Calls, Limiter};
-use crate::{ByLength, LruMap, RandomState};
+use crate::{ByLength, Iter, LruMap, RandomState};
 use core::hash::{BuildHasher, Hash};
+
+/// The hits, misses, insertions, rejections and evictions of a cache.
+///
+/// ```
+/// use jeerdurian::{ByLength, LruMap, caches::{CountedMap, Counts}};
+///
+/// let mut counted = CountedMap::new(LruMap::new(ByLength::new(1)));
+/// counted.insert(1, 10);
+/// counted.get(&2);
+/// assert_eq!(counted.take_counts(), Counts { insertions: 1, misses: 1, ..Counts::default() });
+/// ```
+pub use crate::erased::lru_caches::Counts;
 
 /// A map that counts its look-ups and its inserts.
 ///
@@ -48,6 +59,42 @@ impl<K: Eq + Hash, V, L: Limiter<K, V>, S: BuildHasher> CountedMap<K, V, L, S> {
     /// Returns the map, and drops the counts.
     pub fn into_map(self) -> LruMap<K, V, L, S> {
         LruMap { map: self.counted.into_map() }
+    }
+
+    /// Returns the entries, the newest first. The order stays, and nothing is counted.
+    ///
+    /// ```
+    /// use jeerdurian::{ByLength, LruMap, caches::CountedMap};
+    ///
+    /// let mut counted = CountedMap::new(LruMap::new(ByLength::new(2)));
+    /// assert!(counted.insert("a", 1));
+    /// assert!(counted.iter().eq([(&"a", &1)]));
+    /// assert_eq!(counted.counts().hits, 0);
+    /// ```
+    pub fn iter(&self) -> Iter<'_, K, V, L> {
+        Iter::new(self.counted.map())
+    }
+
+    /// Returns whether a key is there. The order stays, and nothing is counted.
+    ///
+    /// ```
+    /// # use jeerdurian::{ByLength, LruMap, caches::CountedMap};
+    /// let mut counted = CountedMap::new(LruMap::new(ByLength::new(2)));
+    /// assert!(counted.insert("a", 1) && counted.contains(&"a") && !counted.contains(&"b"));
+    /// ```
+    pub fn contains(&self, key: &(impl Hash + PartialEq<K> + ?Sized)) -> bool {
+        self.counted.map().contains(&Named(key))
+    }
+
+    /// Returns the limiter.
+    ///
+    /// ```
+    /// # use jeerdurian::{ByLength, LruMap, caches::CountedMap};
+    /// let counted: CountedMap<u64, u64> = CountedMap::new(LruMap::new(ByLength::new(2)));
+    /// assert_eq!(counted.limiter().max_length(), 2);
+    /// ```
+    pub fn limiter(&self) -> &L {
+        &self.counted.map().limiter().0
     }
 
     /// Returns the number of entries.

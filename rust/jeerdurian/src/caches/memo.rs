@@ -144,8 +144,14 @@ impl<K: Eq + Hash, V, F: Fn(&K) -> V, L: Admission<K, V>, S: BuildHasher> Memo<K
     }
 
     /// Removes the stored result of a key, and returns whether there was one.
-    pub fn remove(&mut self, key: &K) -> bool {
-        self.memo.remove(key)
+    ///
+    /// ```
+    /// # use jeerdurian::{ByLength, caches::Memo};
+    /// let mut lengths = Memo::new(ByLength::new(9), |text: &String| text.len());
+    /// assert!(lengths.answer("word".to_string()) == 4 && lengths.remove("word") && !lengths.remove("word"));
+    /// ```
+    pub fn remove(&mut self, key: &(impl Hash + PartialEq<K> + ?Sized)) -> bool {
+        self.memo.remove(&Named(key))
     }
 
     /// Drops all stored results.
@@ -281,5 +287,28 @@ where
     /// ```
     pub fn load_with<R>(&mut self, key: K, read: impl FnOnce(&V) -> R) -> Result<R, E> {
         self.loader.load_with(key, read)
+    }
+
+    /// Removes the stored value of a key, and returns whether there was one. The next [`load`](Self::load) of the key
+    /// calls the function.
+    ///
+    /// ```
+    /// # use jeerdurian::{ByLength, caches::Loader};
+    /// let mut next = Loader::new(ByLength::new(9), |n: &u64| n.checked_add(1).ok_or(*n));
+    /// assert!(next.load(1) == Ok(2) && next.remove(&1) && !next.remove(&1));
+    /// ```
+    pub fn remove(&mut self, key: &(impl Hash + PartialEq<K> + ?Sized)) -> bool {
+        self.loader.remove(&Named(key))
+    }
+
+    /// Drops all stored values.
+    ///
+    /// ```
+    /// # use jeerdurian::{ByLength, caches::Loader};
+    /// let mut next = Loader::new(ByLength::new(9), |n: &u64| n.checked_add(1).ok_or(*n));
+    /// assert_eq!((next.load(1), next.clear(), next.len()), (Ok(2), (), 0));
+    /// ```
+    pub fn clear(&mut self) {
+        self.loader.clear();
     }
 }

@@ -1,6 +1,7 @@
 //! A hash map in the order of insertion.
 
 mod iter;
+mod traits;
 
 use crate::erased::lru_caches as proved;
 use crate::keys::Borrowed;
@@ -376,28 +377,5 @@ impl<K: Eq + Hash, V, S: BuildHasher> OrderedMap<K, V, S> {
     /// ```
     pub fn shrink_to_fit(&mut self) -> Result<bool, AllocError> {
         self.map.shrink_to_fit()
-    }
-}
-
-#[cfg(feature = "runtime-rng")]
-impl<K: Eq + Hash, V> Default for OrderedMap<K, V> {
-    fn default() -> Self {
-        Self::new()
-    }
-}
-
-/// Maps are equal if they have equal entries in the same order. Their hashers and tables may differ.
-impl<K: Eq + Hash, V: PartialEq, S: BuildHasher> PartialEq for OrderedMap<K, V, S> {
-    fn eq(&self, other: &Self) -> bool {
-        self.map == other.map
-    }
-}
-
-impl<K: Eq + Hash, V: Eq, S: BuildHasher> Eq for OrderedMap<K, V, S> {}
-
-/// Shows the entries, oldest first, as `{1: 11, 2: 20}`.
-impl<K: Eq + Hash + core::fmt::Debug, V: core::fmt::Debug, S: BuildHasher> core::fmt::Debug for OrderedMap<K, V, S> {
-    fn fmt(&self, f: &mut core::fmt::Formatter<'_>) -> core::fmt::Result {
-        self.map.fmt(f)
     }
 }

@@ -1,6 +1,7 @@
 //! The entries of a cache: of a key that is given, and of one that is only looked up (`raw`).
 
 use super::LruCache;
+use crate::debug::shows;
 use crate::doors::{Map, Table, bucket_or_hash, hash_of, insert_absent};
 use crate::keys::Borrowed;
 use core::borrow::Borrow;
@@ -271,5 +272,19 @@ impl<'a, K: Eq + Hash, V, S: BuildHasher> RawVacantEntryMut<'a, K, V, S> {
     pub fn insert(self, key: K, value: V) -> (&'a mut K, &'a mut V) {
         let hash = hash_of(self.map, &key);
         insert_absent(self.map, hash, key, value)
+    }
+}
+
+shows! {
+    [K, V, S] RawEntryBuilderMut: RawEntryBuilderMut<'_, K, V, S>, len: |it| it.map.entries.len();
+    [K, V, S] RawVacantEntryMut: RawVacantEntryMut<'_, K, V, S>, len: |it| it.map.entries.len();
+}
+
+impl<K: Debug, V: Debug, S> Debug for RawEntryMut<'_, K, V, S> {
+    fn fmt(&self, f: &mut Formatter<'_>) -> fmt::Result {
+        match self {
+            RawEntryMut::Occupied(entry) => f.debug_tuple("RawEntryMut").field(entry).finish(),
+            RawEntryMut::Vacant(entry) => f.debug_tuple("RawEntryMut").field(entry).finish(),
+        }
     }
 }

@@ -1,4 +1,4 @@
-//! Sixteen bytes, compared at once: by SSE2, or by loops where there is none.
+//! Sixteen bytes, compared at once: by SSE2, or as two words where there is none.
 
 pub mod prelude {
     pub use super::u8x16;
@@ -83,16 +83,62 @@ impl u8x16 {
 impl u8x16 {
     #[inline(always)]
     pub fn simd_eq(self, other: Self) -> Mask {
-        self.lanes(other, |a, b| a == b)
+        // The top bit of each byte that is zero. No byte carries into the next one.
+        self.by_words(other, |a, b| {
+            let x = a ^ b;
+            !(((x & !TOPS) + !TOPS) | x)
+        })
     }
 
     #[inline(always)]
     pub fn simd_ge(self, other: Self) -> Mask {
-        self.lanes(other, |a, b| a >= b)
+        // Bytes with different top bits are compared by these, and others by their lower bits, whose difference keeps
+        // the borrowed top bit if it is not negative.
+        self.by_words(other, |a, b| (a & !b) | (!(a ^ b) & ((a | TOPS) - (b & !TOPS))))
     }
 
+    /// Compares eight bytes at once: `f` sets the top bit of each byte for which the comparison holds.
     #[inline(always)]
-    fn lanes(self, other: Self, holds: impl Fn(u8, u8) -> bool) -> Mask {
-        Mask((0..16).fold(0, |mask, i| mask | u16::from(holds(self.0[i], other.0[i])) << i))
+    fn by_words(self, other: Self, f: impl Fn(u64, u64) -> u64) -> Mask {
+        let (a, b) = (u128::from_le_bytes(self.0), u128::from_le_bytes(other.0));
+        // The product has the top bit of byte i as bit 56 + i. No two of its terms meet, so nothing is carried.
+        let gathered = |found: u64| (((found & TOPS) >> 7).wrapping_mul(0x0102_0408_1020_4080) >> 56) as u16;
+        let high = gathered(f((a >> 64) as u64, (b >> 64) as u64));
+        Mask(gathered(f(a as u64, b as u64)) | high << 8)
+    }
+}
+
+/// The top bit of each byte.
+#[cfg(not(all(target_arch = "x86_64", not(portable_lanes))))]
+const TOPS: u64 = 0x8080_8080_8080_8080;
+
+#[cfg(test)]
+mod tests {
+    use super::u8x16;
+
+    /// Compares each comparison with a plain loop, for each tag, over groups of random bytes and of bytes near the tag.
+    #[test]
+    fn comparisons_are_those_of_a_loop() {
+        let mut random = 1u64;
+        let mut next = || {
+            random = random.wrapping_mul(6364136223846793005).wrapping_add(1442695040888963407);
+            (random >> 33) as u8
+        };
+        for tag in 0..=255u8 {
+            for round in 0..400 {
+                let lanes: [u8; 16] = core::array::from_fn(|_| match round % 4 {
+                    0 => next(),
+                    1 => tag.wrapping_add(next() % 3).wrapping_sub(1),
+                    2 => tag ^ (next() & 0x80),
+                    _ => [tag, 0, 127, 128, 255][usize::from(next() % 5)],
+                });
+                let (group, splat) = (u8x16::from_array(lanes), u8x16::splat(tag));
+                let by_loop =
+                    |holds: fn(u8, u8) -> bool| (0..16).fold(0, |mask, i| mask | u64::from(holds(lanes[i], tag)) << i);
+                assert_eq!(group.simd_eq(splat).to_bitmask(), by_loop(|a, b| a == b), "{lanes:?} {tag}");
+                assert_eq!(group.simd_ge(splat).to_bitmask(), by_loop(|a, b| a >= b), "{lanes:?} {tag}");
+                assert_eq!(group.simd_lt(splat).to_bitmask() & 0xffff, by_loop(|a, b| a < b), "{lanes:?} {tag}");
+            }
+        }
     }
 }

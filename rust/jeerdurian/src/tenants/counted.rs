@@ -2,6 +2,17 @@
 
 use super::{Budget, TenantCache, TenantError};
 use crate::caches::Counts;
+
+/// A limiter of a tenant that also counts.
+///
+/// ```
+/// use jeerdurian::ByCost;
+/// use jeerdurian::tenants::{Counting, TenantCache};
+///
+/// let mut cache: TenantCache<u64, u64, u64, Counting<ByCost>> = TenantCache::new();
+/// assert_eq!((cache.open(1, 3), cache.put_counted(&1, 7, 2)), (Ok(()), Ok(true)));
+/// assert_eq!(cache.counts(&1).map(|it| it.insertions), Ok(1));
+/// ```
 pub use crate::erased::lru_tenants::Counting;
 use crate::keys::Borrowed;
 use core::borrow::Borrow;

@@ -4,6 +4,7 @@ use super::{Budget, TenantError};
 use crate::erased::lru_tenants as proved;
 use crate::keys::Borrowed;
 use crate::rattle_std::alloc::Global;
+use crate::rattle_std::unwinding::if_unwound;
 use crate::{ByCost, RandomState};
 use core::borrow::Borrow;
 use core::hash::{BuildHasher, Hash};
@@ -16,8 +17,7 @@ use core::hash::{BuildHasher, Hash};
 /// `put` included.
 ///
 /// Proved of the sources: the total of all costs stays within the limit. While a tenant's cost is within its share, no
-/// call of another tenant changes the tenant. The proofs assume that a cost never changes while its entry is stored. A
-/// panic inside a `put` may leave the total wrong.
+/// call of another tenant changes the tenant. The proofs assume that a cost never changes while its entry is stored.
 ///
 /// In the examples of the calls, `pool` has a limit of 5 and two open tenants: 1 with a share of 3 and the entry (7, 2),
 /// and 2 with a share of 1 and no entry.
@@ -113,7 +113,7 @@ where
     /// `AlreadyOpen`; `OverTotal`: the shares of all tenants would add up to more than the limit; `Memory`: out of memory
     /// for one tenant more. An error changes nothing.
     pub fn open(&mut self, name: N, share: u64) -> Result<(), TenantError> {
-        self.pool.open(name, share)
+        if_unwound(&mut self.pool, proved::TenantPool::sum_again, |pool| pool.open(name, share))
     }
 
     /// Inserts a key with a value, as the newest entry of the tenant. Returns whether the key is there then.
@@ -131,7 +131,7 @@ where
         N: Borrow<T>,
         T: Eq + Hash + ?Sized,
     {
-        self.pool.put(&Borrowed(name), key, value)
+        if_unwound(&mut self.pool, proved::TenantPool::sum_again, |pool| pool.put(&Borrowed(name), key, value))
     }
 
     /// Returns a tenant's value of a key, and makes its entry the tenant's newest.
@@ -191,7 +191,7 @@ where
         K: Borrow<Q>,
         Q: Eq + Hash + ?Sized,
     {
-        self.pool.remove(&Borrowed(name), &Borrowed(key))
+        if_unwound(&mut self.pool, proved::TenantPool::sum_again, |pool| pool.remove(&Borrowed(name), &Borrowed(key)))
     }
 
     /// Returns the sum of the costs of a tenant's entries.
@@ -230,6 +230,6 @@ where
         N: Borrow<T>,
         T: Eq + Hash + ?Sized,
     {
-        self.pool.close(&Borrowed(name))
+        if_unwound(&mut self.pool, proved::TenantPool::sum_again, |pool| pool.close(&Borrowed(name)))
     }
 }

@@ -49,6 +49,9 @@ unsafe impl<T, A: Allocator + Send> Send for Deed<T, A> {}
 // SAFETY: a `Deed` has no method that takes a `&`.
 unsafe impl<T, A: Allocator> Sync for Deed<T, A> {}
 
+impl<T> core::panic::UnwindSafe for Block<T> {}
+impl<T: core::panic::UnwindSafe> core::panic::UnwindSafe for Cells<T> {}
+impl<T, A: Allocator> core::panic::UnwindSafe for Deed<T, A> {}
 #[inline]
 pub(crate) const fn bytes_of<T>() -> usize {
     size_of::<T>()

@@ -9,33 +9,18 @@ use crate::rattle_std::simd::prelude::*;
 
 /// Returns which of sixteen neighbouring control bytes are the tag: bit i of the result is set if and only if byte i is
 /// the tag. `docs/TABLE.md` shows masks.
-///
-/// ```text
-/// let bytes: [u8; 16] = [0, 255, 128, 5, 255, 255, 255, 255, 255, 255, 255, 255, 255, 255, 255, 255];
-/// assert_eq!(rt; match_tag(&bytes, 0), 0x0001);
-/// ```
 #[inline]
 pub fn match_tag(bytes: &[u8; 16], tag: u8) -> u16 {
     u8x16::from_array(*bytes).simd_eq(u8x16::splat(tag)).to_bitmask() as u16
 }
 
 /// Returns which of the bytes are 255, the byte of an empty bucket.
-///
-/// ```text
-/// let bytes: [u8; 16] = [0, 255, 128, 5, 255, 255, 255, 255, 255, 255, 255, 255, 255, 255, 255, 255];
-/// assert_eq!(rt; match_empty(&bytes), 0xfff2);
-/// ```
 #[inline]
 pub fn match_empty(bytes: &[u8; 16]) -> u16 {
     match_tag(bytes, EMPTY)
 }
 
 /// Returns which of the bytes have the top bit set: 255 for an empty bucket, and 128 for a deleted bucket.
-///
-/// ```text
-/// let bytes: [u8; 16] = [0, 255, 128, 5, 255, 255, 255, 255, 255, 255, 255, 255, 255, 255, 255, 255];
-/// assert_eq!(rt; match_free(&bytes), 0xfff6);
-/// ```
 #[inline]
 pub fn match_free(bytes: &[u8; 16]) -> u16 {
     u8x16::from_array(*bytes).simd_ge(u8x16::splat(DELETED)).to_bitmask() as u16

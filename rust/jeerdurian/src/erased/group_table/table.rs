@@ -26,12 +26,6 @@ mod relocation;
 /// Only `with_buckets`, `relocate`, `rehash` and `clone_with` allocate. `new`, `get`, `get_mut`, `take` and reads such
 /// as `len` take O(1). `find`, `place` and `try_place` take O(1) if the hashes are spread, and at worst O(B) for B
 /// buckets. All other calls take O(B).
-///
-/// ```text
-/// let mut table = Table::with_buckets(alloc, 8)?;
-/// let b = table.try_place(7, "a").ok().ok_or("no room")?;
-/// assert_eq!(rt; table.find(7, |entry| *entry == "a"), Some(b));
-/// ```
 pub struct Table<T> {
     // If this field were next to `len`, the compiler would join their changes into one slower load and store.
     growth_left: usize,
@@ -129,13 +123,6 @@ impl<T> Table<T> {
     ///
     /// If the bucket was empty, the growth left falls by one. If the bucket was deleted, the growth left stays. `place`
     /// allocates nothing, and moves no other entry.
-    ///
-    /// ```text
-    /// if table.growth_left() > 0 {
-    ///     let b = table.place(9, "b");
-    ///     assert_eq!(rt; table.find(9, |entry| *entry == "b"), Some(b));
-    /// }
-    /// ```
     #[inline(always)]
     pub fn place(&mut self, hash: u64, entry: T) -> usize {
         let b = first_free(&self.control, hash);

@@ -11,12 +11,6 @@ use crate::rattle_std::hash::Hash;
 /// The counts of a cache, which an operator may watch. Each count stops at `u64::MAX`.
 ///
 /// A call counts only if its documentation says so. Evictions by other calls, such as `set_budget`, are not counted.
-///
-/// ```text
-/// let mut counts = Counts::default();
-/// counts.count_look_up(true);
-/// assert_eq!(rt; (counts.hits, counts.misses), (1, 0));
-/// ```
 #[derive(Clone, Copy, Debug, Default, PartialEq, Eq)]
 pub struct Counts {
     /// How many look-ups found their key.
@@ -34,12 +28,6 @@ pub struct Counts {
 
 impl Counts {
     /// Counts a look-up.
-    ///
-    /// ```text
-    /// let mut counts = Counts::default();
-    /// counts.count_look_up(false);
-    /// assert_eq!(rt; counts.misses, 1);
-    /// ```
     pub fn count_look_up(&mut self, found: bool) {
         if found {
             self.hits = self.hits.saturating_add(1);
@@ -49,13 +37,6 @@ impl Counts {
     }
 
     /// Counts an insert with this result, and the entries that the insert evicted.
-    ///
-    /// ```text
-    /// let done: Result<bool, ()> = Ok(true);
-    /// let mut counts = Counts::default();
-    /// counts.count_insert(&done, 1);
-    /// assert_eq!(rt; (counts.insertions, counts.rejections, counts.evictions), (1, 0, 1));
-    /// ```
     pub fn count_insert<E>(&mut self, done: &Result<bool, E>, evicted: u64) {
         self.evictions = self.evictions.saturating_add(evicted);
         match done {
@@ -67,15 +48,6 @@ impl Counts {
 }
 
 /// A map that counts its look-ups and its inserts.
-///
-/// In the examples, `counted` has room for three entries, and contains (1, 10), (2, 20) and (3, 30).
-///
-/// ```text
-/// assert_eq!(rt; (counted.get(&1), counted.get(&9)), (Some(10), None));
-/// assert!(rt; counted.insert(4, 40)?);
-/// let counts = counted.counts();
-/// assert_eq!(rt; (counts.hits, counts.misses, counts.insertions, counts.evictions), (1, 1, 1, 1));
-/// ```
 
 pub struct CountedMap<K, V, L: Limiter<K, V>, S = RandomState> {
     map: LruMap<K, V, L, S>,
@@ -85,11 +57,6 @@ pub struct CountedMap<K, V, L: Limiter<K, V>, S = RandomState> {
 impl<K: Eq + Hash, V, L: Limiter<K, V>, S: KeyHasher<K>> CountedMap<K, V, L, S> {
     /// Counts the calls on this map from now on.
     ///
-    /// ```text
-    /// let counted: CountedMap<u64, u64, ByLength> = CountedMap::new(LruMap::with_limiter(alloc, ByLength::new(3)));
-    /// assert!(rt; counted.map().is_empty());
-    /// ```
-    ///
     /// Cost: `O(1)`.
     pub fn new(map: LruMap<K, V, L, S>) -> Self {
         CountedMap { map, counts: Counts::default() }
@@ -97,21 +64,12 @@ impl<K: Eq + Hash, V, L: Limiter<K, V>, S: KeyHasher<K>> CountedMap<K, V, L, S> 
 
     /// Returns the counts.
     ///
-    /// ```text
-    /// assert_eq!(rt; counted.counts(), Counts::default());
-    /// ```
-    ///
     /// Cost: `O(1)`.
     pub fn counts(&self) -> Counts {
         self.counts
     }
 
     /// Returns the counts, and begins again with zeros.
-    ///
-    /// ```text
-    /// counted.get(&1);
-    /// assert_eq!(rt; (counted.take_counts().hits, counted.counts().hits), (1, 0));
-    /// ```
     ///
     /// Cost: `O(1)`.
     pub fn take_counts(&mut self) -> Counts {
@@ -122,21 +80,12 @@ impl<K: Eq + Hash, V, L: Limiter<K, V>, S: KeyHasher<K>> CountedMap<K, V, L, S> 
 
     /// Returns the map. Calls on it count nothing.
     ///
-    /// ```text
-    /// assert_eq!(rt; (counted.map().len(), counted.map().peek(&2).copied()), (3, Some(20)));
-    /// ```
-    ///
     /// Cost: `O(1)`.
     pub fn map(&self) -> &LruMap<K, V, L, S> {
         &self.map
     }
 
     /// Returns the map, and drops the counts.
-    ///
-    /// ```text
-    /// let counted: CountedMap<u64, u64, ByLength> = CountedMap::new(LruMap::with_limiter(alloc, ByLength::new(3)));
-    /// assert!(rt; counted.into_map().is_empty());
-    /// ```
     ///
     /// Cost: `O(1)`.
     pub fn into_map(self) -> LruMap<K, V, L, S> {
@@ -146,12 +95,6 @@ impl<K: Eq + Hash, V, L: Limiter<K, V>, S: KeyHasher<K>> CountedMap<K, V, L, S> 
 
     /// Makes the entry of a key the newest, and counts a hit. If the key is not there, counts a miss. Returns whether
     /// the key is there. If the key is there, `map().peek_newest()` returns its entry.
-    ///
-    /// ```text
-    /// assert!(rt; counted.promote(&1) && !counted.promote(&9));
-    /// assert!(rt; counted.map().peek_newest() == Some((&1, &10)));
-    /// assert_eq!(rt; (counted.counts().hits, counted.counts().misses), (1, 1));
-    /// ```
     ///
     /// Cost: as `LruMap::promote`.
     pub fn promote<Q: LookupKey<K>>(&mut self, key: &Q) -> bool {
@@ -164,10 +107,6 @@ impl<K: Eq + Hash, V, L: Limiter<K, V>, S: KeyHasher<K>> CountedMap<K, V, L, S> 
 impl<K: Eq + Hash, V: Copy, L: Limiter<K, V>, S: KeyHasher<K>> CountedMap<K, V, L, S> {
     /// Does what `promote` does, and returns the value of the key.
     ///
-    /// ```text
-    /// assert_eq!(rt; (counted.get(&1), counted.get(&9)), (Some(10), None));
-    /// ```
-    ///
     /// Cost: as `LruMap::get`.
     pub fn get<Q: LookupKey<K>>(&mut self, key: &Q) -> Option<V> {
         let value = get(&mut self.map, key);
@@ -178,11 +117,6 @@ impl<K: Eq + Hash, V: Copy, L: Limiter<K, V>, S: KeyHasher<K>> CountedMap<K, V, 
 
 impl<K: Eq + Hash, V, L: Limiter<K, V>, S: KeyHasher<K>> CountedMap<K, V, L, S> {
     /// Does what `LruMap::insert` does, and counts the insert.
-    ///
-    /// ```text
-    /// assert!(rt; counted.insert(4, 40)?);
-    /// assert_eq!(rt; (counted.counts().insertions, counted.counts().evictions), (1, 1));
-    /// ```
     ///
     /// Cost: as `LruMap::insert`.
     ///
@@ -202,10 +136,6 @@ impl<K: Eq + Hash, V, L: Limiter<K, V>, S: KeyHasher<K>> CountedMap<K, V, L, S> 
     }
 
     /// Does what `LruMap::remove` does. A removal counts nothing.
-    ///
-    /// ```text
-    /// assert_eq!(rt; (counted.remove(&1), counted.counts()), (Some(10), Counts::default()));
-    /// ```
     ///
     /// Cost: as `LruMap::remove`.
     pub fn remove<Q: LookupKey<K>>(&mut self, key: &Q) -> Option<V> {

@@ -9,15 +9,6 @@ use crate::rattle_std::prelude::*;
 /// says what the blocks are, and no `read`, `write` or `sync` may be called.
 ///
 /// For most devices a contract sees the block itself: `ghost seen = { λ block. block };`.
-///
-/// ```text
-/// let calls_left = Cell::new(2);           // the third call fails
-/// let mut disk = Disk::new([10, 11, 12, 13], [false; 4], &calls_left);
-/// assert_eq!(rt; disk.write(1, &20), Ok(()));
-/// assert_eq!(rt; disk.read(1), Ok(20));
-/// assert_eq!(rt; disk.read(1), Err(DiskError));
-/// assert_eq!(rt; disk.sync(), Ok(()));
-/// ```
 pub trait BlockDevice<B> {
     /// Why a call fails.
     type Error;

@@ -14,10 +14,6 @@ pub(crate) mod record;
 pub(crate) mod recorded;
 
 /// Why a call on a file device failed.
-///
-/// ```text
-/// assert_eq!(rt; hashed.read(2), Err(FileError::Damaged));
-/// ```
 #[derive(Clone, Copy, Debug, PartialEq)]
 pub enum FileError {
     /// A seek, a read, a write or a sync of the file failed.
@@ -43,13 +39,6 @@ impl ::core::fmt::Display for FileError {
 /// [`HashedFileDevice`] also detects torn and damaged blocks.
 ///
 /// [`HashedFileDevice`]: crate::HashedFileDevice
-///
-/// ```text
-/// let file = Cursor::new(*b"zeroone.two.");
-/// let mut device: FileDevice<_, 4> = FileDevice::new(file, 3);
-/// assert_eq!(rt; device.write(1, b"uno."), Ok(()));
-/// assert_eq!(rt; device.read(1), Ok(*b"uno."));
-/// ```
 
 pub struct FileDevice<F, const N: usize> {
     file: RecordedFile<F>,
@@ -61,20 +50,12 @@ impl<F: Read + Write + Seek, const N: usize> FileDevice<F, N> {
     /// Makes a device of the first `count` blocks of a file. The file may be shorter: past its end, a read fails, and a
     /// write makes the file longer.
     ///
-    /// ```text
-    /// let mut device: FileDevice<_, 4> = FileDevice::new(file, 3);
-    /// ```
-    ///
     /// Cost: `O(1)`, and no call on the file.
     pub fn new(file: F, count: u64) -> Self {
         FileDevice { file: RecordedFile::new(file), count, is_usable: true }
     }
 
     /// Makes a device of all whole blocks of the file. Nothing is proved about the number of blocks.
-    ///
-    /// ```text
-    /// assert_eq!(rt; FileDevice::<_, 4>::open(Cursor::new(*b"zeroone.two.thr"))?.len(), 3);
-    /// ```
     ///
     /// Cost: a seek to the end of the file.
     ///
@@ -90,19 +71,11 @@ where {
     /// Returns the number of blocks.
     ///
     /// Cost: `O(1)`.
-    ///
-    /// ```text
-    /// assert_eq!(rt; device.len(), 3);
-    /// ```
     pub fn len(&self) -> u64 {
         self.count
     }
 
     /// Lends the file.
-    ///
-    /// ```text
-    /// assert_eq!(rt; device.file().position(), 8);
-    /// ```
     ///
     /// Cost: `O(1)`.
     pub fn file(&self) -> &F {
@@ -112,11 +85,6 @@ where {
     /// Returns the file.
     ///
     /// Call `sync` first. If the device was in a page cache, `close` has called `sync`.
-    ///
-    /// ```text
-    /// let bytes = device.into_file().into_inner();
-    /// assert!(rt; bytes.starts_with(b"zerouno."));
-    /// ```
     ///
     /// Cost: `O(1)`.
     pub fn into_file(self) -> F {

@@ -10,11 +10,6 @@ pub(crate) mod loader;
 pub(crate) mod table;
 
 /// A function with its newest results, up to a limit.
-///
-/// ```text
-/// let mut squares = Memo::new(alloc, ByLength::new(9), |n: &u64| n.wrapping_mul(*n));
-/// assert_eq!(rt; (squares.answer(3), squares.len()), (9, 1));
-/// ```
 
 pub struct Memo<K: Eq + Hash, V, F, L: Insertion<K, V, K>, S: KeyHasher<K> = RandomState> {
     map: LruMap<K, V, L, S>,
@@ -25,10 +20,6 @@ impl<K: Eq + Hash, V, F: Fn(&K) -> V, L: Insertion<K, V, K>> Memo<K, V, F, L, Ra
     /// Makes a memo of a function, with no results yet.
     ///
     /// If strangers choose the keys, call `with_hasher`. Cost: `O(1)`, and no memory.
-    ///
-    /// ```text
-    /// let mut squares = Memo::new(alloc, ByLength::new(9), |n: &u64| n.wrapping_mul(*n));
-    /// ```
     pub fn new(alloc: Global, limiter: L, function: F) -> Self {
         Memo { map: LruMap::with_limiter(alloc, limiter), function }
     }
@@ -36,12 +27,6 @@ impl<K: Eq + Hash, V, F: Fn(&K) -> V, L: Insertion<K, V, K>> Memo<K, V, F, L, Ra
 
 impl<K: Eq + Hash, V, F: Fn(&K) -> V, L: Insertion<K, V, K>, S: KeyHasher<K>> Memo<K, V, F, L, S> {
     /// Makes a memo of a function, with a hasher of keys.
-    ///
-    /// ```text
-    /// let seeded = RandomState::with_seeds([5, 6, 7, 8]);
-    /// let cubes = Memo::with_hasher(alloc, ByLength::new(9), seeded, |n: &u64| n.wrapping_pow(3));
-    /// assert!(rt; cubes.is_empty());
-    /// ```
     ///
     /// Cost: `O(1)`, and no memory.
     pub fn with_hasher(alloc: Global, limiter: L, hasher: S, function: F) -> Self {
@@ -51,10 +36,6 @@ impl<K: Eq + Hash, V, F: Fn(&K) -> V, L: Insertion<K, V, K>, S: KeyHasher<K>> Me
     /// Returns how many results are stored.
     ///
     /// Cost: `O(1)`.
-    ///
-    /// ```text
-    /// assert_eq!(rt; (squares.answer(3), squares.len()), (9, 1));
-    /// ```
     pub fn len(&self) -> usize {
         self.map.len()
     }
@@ -62,12 +43,6 @@ impl<K: Eq + Hash, V, F: Fn(&K) -> V, L: Insertion<K, V, K>, S: KeyHasher<K>> Me
     /// Returns whether no result is stored.
     ///
     /// Cost: `O(1)`.
-    ///
-    /// ```text
-    /// let seeded = RandomState::with_seeds([5, 6, 7, 8]);
-    /// let cubes = Memo::with_hasher(alloc, ByLength::new(9), seeded, |n: &u64| n.wrapping_pow(3));
-    /// assert!(rt; cubes.is_empty());
-    /// ```
     pub fn is_empty(&self) -> bool {
         self.map.is_empty()
     }
@@ -79,21 +54,12 @@ impl<K: Eq + Hash, V: Copy, F: Fn(&K) -> V, L: Insertion<K, V, K>, S: KeyHasher<
     ///
     /// Returns the result even if memory runs out, or if a limit prevents storing it.
     ///
-    /// ```text
-    /// assert_eq!(rt; (squares.answer(3), squares.len()), (9, 1));
-    /// ```
-    ///
     /// Cost: a get, and if no result is stored, a call of the function and an insert.
     pub fn answer(&mut self, key: K) -> V {
         self.answer_full(key).0
     }
 
     /// Does what `answer` does, and also returns whether it called the function.
-    ///
-    /// ```text
-    /// squares.clear();
-    /// assert_eq!(rt; (squares.answer_full(3), squares.answer_full(3)), ((9, true), (9, false)));
-    /// ```
     ///
     /// Cost: as `answer`.
     pub fn answer_full(&mut self, key: K) -> (V, bool) {
@@ -111,11 +77,6 @@ impl<K: Eq + Hash, V, F: Fn(&K) -> V, L: Insertion<K, V, K>, S: KeyHasher<K>> Me
     /// Lends a closure the result that `answer` would return, and returns what the closure returns. The results need
     /// not be `Copy`.
     ///
-    /// ```text
-    /// let mut blocks = Memo::new(alloc, ByLength::new(9), |n: &usize| vec![in alloc; 7u8; *n].ok());
-    /// assert_eq!(rt; (blocks.answer_with(3, |block| block.is_some()), blocks.len()), (true, 1));
-    /// ```
-    ///
     /// Cost: as `answer`, plus a call of the closure.
     pub fn answer_with<R, U: FnOnce(&V) -> R>(&mut self, key: K, read: U) -> R {
         laws::inserts_evict_the_oldest::<K, V, K, L, S>();
@@ -131,12 +92,6 @@ impl<K: Eq + Hash, V, F: Fn(&K) -> V, L: Insertion<K, V, K>, S: KeyHasher<K>> Me
     /// Returns the stored result of a key, and makes it the newest. Does not call the function. A caller with a `&str`
     /// can try `get`, and make a `String` for `answer` only if nothing is stored.
     ///
-    /// ```text
-    /// let mut lengths = Memo::new(alloc, ByLength::new(9), |text: &String| text.as_bytes().len());
-    /// assert_eq!(rt; (lengths.get(&"word"), lengths.answer(String::from_str(alloc, "word")?)), (None, 4));
-    /// assert_eq!(rt; lengths.get(&"word"), Some(4));
-    /// ```
-    ///
     /// Cost: as `LruMap::get`.
     pub fn get<Q: LookupKey<K>>(&mut self, key: &Q) -> Option<V>
     where
@@ -148,12 +103,6 @@ impl<K: Eq + Hash, V, F: Fn(&K) -> V, L: Insertion<K, V, K>, S: KeyHasher<K>> Me
     /// Does what `get` does, but lends the result to a closure, and returns what the closure returns. The results need
     /// not be `Copy`.
     ///
-    /// ```text
-    /// let mut lists = Memo::new(alloc, ByLength::new(9), |n: &usize| vec![in alloc; 7u8; *n].ok());
-    /// assert_eq!(rt; (lists.get_with(&3, |_| 1), lists.answer_with(3, |_| 2)), (None, 2));
-    /// assert_eq!(rt; lists.get_with(&3, |list| list.is_some()), Some(true));
-    /// ```
-    ///
     /// Cost: as `get`, plus a call of the closure.
     pub fn get_with<Q: LookupKey<K>, R, U: FnOnce(&V) -> R>(&mut self, key: &Q, read: U) -> Option<R> {
         let value = self.map.get(key)?;
@@ -163,11 +112,6 @@ impl<K: Eq + Hash, V, F: Fn(&K) -> V, L: Insertion<K, V, K>, S: KeyHasher<K>> Me
     /// Sets another limiter, and drops the oldest results while the new limiter is over its limit. Returns the old
     /// limiter. `LruMap::set_limiter` says with which running total a limiter must begin.
     ///
-    /// ```text
-    /// assert_eq!(rt; (squares.answer(3), squares.answer(4)), (9, 16));
-    /// assert!(rt; squares.set_limiter(ByLength::new(1)).max_length() == 9 && squares.len() == 1);
-    /// ```
-    ///
     /// Cost: as `LruMap::set_limiter`.
     pub fn set_limiter(&mut self, limiter: L) -> L {
         self.map.set_limiter(limiter)
@@ -175,20 +119,12 @@ impl<K: Eq + Hash, V, F: Fn(&K) -> V, L: Insertion<K, V, K>, S: KeyHasher<K>> Me
 
     /// Removes the stored result of a key, and returns whether there was one.
     ///
-    /// ```text
-    /// assert!(rt; squares.answer(3) == 9 && squares.remove(&3) && squares.is_empty());
-    /// ```
-    ///
     /// Cost: `O(1)` expected.
-    pub fn remove(&mut self, key: &K) -> bool {
+    pub fn remove<Q: LookupKey<K>>(&mut self, key: &Q) -> bool {
         self.map.remove(key).is_some()
     }
 
     /// Drops all stored results.
-    ///
-    /// ```text
-    /// squares.clear();
-    /// ```
     ///
     /// Cost: as `LruMap::clear`.
     pub fn clear(&mut self) {

@@ -23,13 +23,6 @@ mod more;
 ///
 /// A call follows indexmap's `IndexMap` call of the same name, unless its comment names another call. In the examples,
 /// `map` contains (1, 11) and then (2, 20).
-///
-/// ```text
-/// let mut map: OrderedMap<u64, u64> = OrderedMap::new(alloc);
-/// assert_eq!(rt; (map.insert(1, 10)?, map.insert(2, 20)?), (None, None));
-/// assert_eq!(rt; map.insert(1, 11)?, Some(10));
-/// assert!(rt; map.first() == Some((&1, &11)) && map.last() == Some((&2, &20)));
-/// ```
 
 pub struct OrderedMap<K, V, S = RandomState> {
     map: LruMap<K, V, Unlimited, S>,
@@ -39,10 +32,6 @@ impl<K: Eq + Hash, V> OrderedMap<K, V, RandomState> {
     /// Makes an empty map with the default hasher.
     ///
     /// Cost: `O(1)`, and no memory.
-    ///
-    /// ```text
-    /// let mut map: OrderedMap<u64, u64> = OrderedMap::new(alloc);
-    /// ```
     pub fn new(alloc: Global) -> Self {
         OrderedMap::with_hasher(alloc, RandomState::default())
     }
@@ -50,30 +39,24 @@ impl<K: Eq + Hash, V> OrderedMap<K, V, RandomState> {
 
 impl<K: Eq + Hash, V, S: KeyHasher<K>> OrderedMap<K, V, S> {
     /// Makes an empty map with this hasher. Cost: `O(1)`, and no memory.
-    ///
-    /// ```text
-    /// let seeded = RandomState::with_seeds([5, 6, 7, 8]);
-    /// let map: OrderedMap<u64, u64> = OrderedMap::with_hasher(alloc, seeded);
-    /// assert!(rt; map.is_empty());
-    /// ```
     pub fn with_hasher(alloc: Global, hasher: S) -> Self {
         OrderedMap { map: LruMap::with_limiter_and_hasher(alloc, Unlimited, hasher) }
     }
+    pub(crate) fn try_clone(&self) -> Result<Self, AllocError>
+    where
+        K: TryClone,
+        V: TryClone,
+        S: TryClone,
+    {
+        Ok(OrderedMap { map: self.map.try_clone()? })
+    }
 
     /// Returns the number of entries. Cost: `O(1)`.
-    ///
-    /// ```text
-    /// assert_eq!(rt; map.len(), 2);
-    /// ```
     pub fn len(&self) -> usize {
         self.map.len()
     }
 
     /// Returns whether there are no entries. Cost: `O(1)`.
-    ///
-    /// ```text
-    /// assert!(rt; !map.is_empty());
-    /// ```
     pub fn is_empty(&self) -> bool {
         self.map.is_empty()
     }
@@ -81,20 +64,12 @@ impl<K: Eq + Hash, V, S: KeyHasher<K>> OrderedMap<K, V, S> {
     /// Returns whether a key is in the map.
     ///
     /// Cost: `O(1)` expected.
-    ///
-    /// ```text
-    /// assert!(rt; map.contains_key(&1) && !map.contains_key(&9));
-    /// ```
     pub fn contains_key<Q: LookupKey<K>>(&self, key: &Q) -> bool {
         distinct(&self.map);
         self.map.contains(key)
     }
 
     /// Returns the value of a key.
-    ///
-    /// ```text
-    /// assert_eq!(rt; (map.get(&1), map.get(&9)), (Some(&11), None));
-    /// ```
     ///
     /// Cost: `O(1)` expected.
     pub fn get<Q: LookupKey<K>>(&self, key: &Q) -> Option<&V> {
@@ -104,13 +79,6 @@ impl<K: Eq + Hash, V, S: KeyHasher<K>> OrderedMap<K, V, S> {
 
     /// Lends the value of a key for writing. Does not change the order.
     ///
-    /// ```text
-    /// if let Some(value) = map.get_mut(&2) {
-    ///     *value = 22;
-    /// }
-    /// assert_eq!(rt; map.get(&2), Some(&22));
-    /// ```
-    ///
     /// Cost: `O(1)` expected.
     pub fn get_mut<Q: LookupKey<K>>(&mut self, key: &Q) -> Option<&mut V> {
         distinct(&self.map);
@@ -119,10 +87,6 @@ impl<K: Eq + Hash, V, S: KeyHasher<K>> OrderedMap<K, V, S> {
 
     /// Returns the oldest entry.
     ///
-    /// ```text
-    /// assert!(rt; map.first() == Some((&1, &11)) && map.last() == Some((&2, &20)));
-    /// ```
-    ///
     /// Cost: `O(1)`.
     pub fn first(&self) -> Option<(&K, &V)> {
         self.map.peek_oldest()
@@ -130,20 +94,12 @@ impl<K: Eq + Hash, V, S: KeyHasher<K>> OrderedMap<K, V, S> {
 
     /// Returns the newest entry.
     ///
-    /// ```text
-    /// assert!(rt; map.first() == Some((&1, &11)) && map.last() == Some((&2, &20)));
-    /// ```
-    ///
     /// Cost: `O(1)`.
     pub fn last(&self) -> Option<(&K, &V)> {
         self.map.peek_newest()
     }
 
     /// Removes and returns the oldest entry.
-    ///
-    /// ```text
-    /// assert_eq!(rt; map.pop_first(), Some((1, 11)));
-    /// ```
     ///
     /// Cost: `O(1)`.
     ///
@@ -154,10 +110,6 @@ impl<K: Eq + Hash, V, S: KeyHasher<K>> OrderedMap<K, V, S> {
 
     /// Removes and returns the newest entry.
     ///
-    /// ```text
-    /// assert_eq!(rt; map.pop_last(), Some((2, 20)));
-    /// ```
-    ///
     /// Cost: `O(1)`.
     ///
     /// Follows std's `BTreeMap::pop_last`.
@@ -166,10 +118,6 @@ impl<K: Eq + Hash, V, S: KeyHasher<K>> OrderedMap<K, V, S> {
     }
 
     /// Removes a key, and returns the stored key and its value. The other entries keep their order.
-    ///
-    /// ```text
-    /// assert_eq!(rt; (map.remove_entry(&2), map.remove_entry(&2)), (Some((2, 20)), None));
-    /// ```
     ///
     /// Cost: `O(1)` expected.
     ///
@@ -181,10 +129,6 @@ impl<K: Eq + Hash, V, S: KeyHasher<K>> OrderedMap<K, V, S> {
 
     /// Returns an iterator over the keys, oldest first.
     ///
-    /// ```text
-    /// assert!(rt; map.keys().next() == Some(&1) && map.values().next_back() == Some(&20));
-    /// ```
-    ///
     /// Cost: `O(1)`, and `O(1)` for each step from either end.
     pub fn keys(&self) -> Keys<'_, K, V> {
         Keys::new(self.iter())
@@ -192,24 +136,12 @@ impl<K: Eq + Hash, V, S: KeyHasher<K>> OrderedMap<K, V, S> {
 
     /// Returns an iterator over the values, oldest first.
     ///
-    /// ```text
-    /// assert!(rt; map.keys().next() == Some(&1) && map.values().next_back() == Some(&20));
-    /// ```
-    ///
     /// Cost: `O(1)`, and `O(1)` for each step from either end.
     pub fn values(&self) -> Values<'_, K, V> {
         Values::new(self.iter())
     }
 
     /// Returns an iterator over the entries, oldest first.
-    ///
-    /// ```text
-    /// let mut total = 0u64;
-    /// for (key, value) in map.iter() {
-    ///     total = total.wrapping_add(key.wrapping_mul(*value));
-    /// }
-    /// assert_eq!(rt; total, 51);
-    /// ```
     ///
     /// Cost: `O(1)`, and `O(1)` for each step from either end.
     pub fn iter(&self) -> Entries<'_, K, V> {
@@ -219,10 +151,6 @@ impl<K: Eq + Hash, V, S: KeyHasher<K>> OrderedMap<K, V, S> {
 
 impl<K: Eq + Hash, V, S: KeyHasher<K>> OrderedMap<K, V, S> {
     /// Removes a key, and returns its value. The other entries keep their order.
-    ///
-    /// ```text
-    /// assert_eq!(rt; (map.remove(&2), map.remove(&2)), (Some(20), None));
-    /// ```
     ///
     /// Cost: `O(1)` expected.
     ///
@@ -236,12 +164,6 @@ impl<K: Eq + Hash, V, S: KeyHasher<K>> OrderedMap<K, V, S> {
 impl<K: Eq + Hash, V, S: KeyHasher<K>> OrderedMap<K, V, S> {
     /// Inserts a key with a value as the newest entry. If the key is in the map, replaces and returns the old value,
     /// and the entry keeps its key and its place.
-    ///
-    /// ```text
-    /// let mut map: OrderedMap<u64, u64> = OrderedMap::new(alloc);
-    /// assert_eq!(rt; (map.insert(1, 10)?, map.insert(2, 20)?), (None, None));
-    /// assert_eq!(rt; map.insert(1, 11)?, Some(10));
-    /// ```
     ///
     /// Cost: `O(1)` expected, amortised over the inserts.
     ///
@@ -263,11 +185,6 @@ impl<K: Eq + Hash, V, S: KeyHasher<K>> OrderedMap<K, V, S> {
     ///
     /// The closure is called with each entry, oldest first.
     ///
-    /// ```text
-    /// map.retain(|key, value| *key == 1 || *value > 30);
-    /// assert_eq!(rt; (map.len(), map.contains_key(&1)), (1, true));
-    /// ```
-    ///
     /// Cost: `O(len)`.
     ///
     /// Follows std's `HashMap::retain`, whose closure may write the value.
@@ -276,11 +193,6 @@ impl<K: Eq + Hash, V, S: KeyHasher<K>> OrderedMap<K, V, S> {
     }
 
     /// Drops all entries. The table keeps its memory. Cost: as `LruMap::clear`.
-    ///
-    /// ```text
-    /// map.clear();
-    /// assert!(rt; map.is_empty());
-    /// ```
     pub fn clear(&mut self) {
         self.map.clear();
     }

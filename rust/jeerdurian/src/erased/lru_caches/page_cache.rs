@@ -17,10 +17,6 @@ mod pages;
 mod pins;
 
 /// Why a call on a page cache failed. Unless a `sync` failed, the call changed no block that the cache shows.
-///
-/// ```text
-/// assert_eq!(rt; cache.read(4), Err(PageError::NoBlock));
-/// ```
 #[derive(Debug, PartialEq)]
 
 pub enum PageError<E> {
@@ -61,14 +57,6 @@ where
 ///
 /// Call `close` or `discard` at the end. Code that drops or forgets a cache does not compile, because dirty pages would
 /// be lost.
-///
-/// ```text
-/// let mut cache = PageCache::new(alloc, disk, 2);
-/// assert_eq!(rt; cache.write(1, 20), Ok(()));
-/// assert_eq!(rt; (cache.read(1), cache.len()), (Ok(20), 1));
-/// assert_eq!(rt; cache.flush(), Ok(()));
-/// cache.discard();
-/// ```
 pub struct PageCache<B: Copy, D: BlockDevice<B>, S = RandomState> {
     map: Pages<B, S>,
     // reserved memory for the numbers of the pages, for flushes
@@ -85,10 +73,6 @@ impl<B: Copy, D: BlockDevice<B>> PageCache<B, D, RandomState> {
     /// If strangers choose the block numbers, call `with_hasher`.
     ///
     /// Cost: `O(1)`, and no memory.
-    ///
-    /// ```text
-    /// let mut cache = PageCache::new(alloc, disk, 2);
-    /// ```
     pub fn new(alloc: Global, device: D, capacity: usize) -> Self {
         PageCache::with_hasher(alloc, device, capacity, RandomState::default())
     }
@@ -98,13 +82,6 @@ impl<B: Copy, D: BlockDevice<B>, S: KeyHasher<u64>> PageCache<B, D, S> {
     /// Makes an empty cache, with a hasher of block numbers (see `new`).
     ///
     /// Cost: `O(1)`, and no memory.
-    ///
-    /// ```text
-    /// let seeded = RandomState::with_seeds([5, 6, 7, 8]);
-    /// let mut cache = PageCache::with_hasher(alloc, disk, 2, seeded);
-    /// assert!(rt; cache.is_empty());
-    /// cache.discard();
-    /// ```
     pub fn with_hasher(alloc: Global, device: D, capacity: usize, hasher: S) -> Self {
         PageCache {
             map: LruMap::with_limiter_and_hasher(alloc, UnlimitedCompact, hasher),
@@ -119,10 +96,6 @@ impl<B: Copy, D: BlockDevice<B>, S: KeyHasher<u64>> PageCache<B, D, S> {
     /// Returns how many pages are cached.
     ///
     /// Cost: `O(1)`.
-    ///
-    /// ```text
-    /// assert_eq!(rt; (cache.read(1), cache.len()), (Ok(20), 1));
-    /// ```
     pub fn len(&self) -> usize {
         self.map.len()
     }
@@ -130,10 +103,6 @@ impl<B: Copy, D: BlockDevice<B>, S: KeyHasher<u64>> PageCache<B, D, S> {
     /// Returns whether no page is cached.
     ///
     /// Cost: `O(1)`.
-    ///
-    /// ```text
-    /// assert!(rt; cache.is_empty());
-    /// ```
     pub fn is_empty(&self) -> bool {
         self.map.is_empty()
     }
@@ -141,10 +110,6 @@ impl<B: Copy, D: BlockDevice<B>, S: KeyHasher<u64>> PageCache<B, D, S> {
     /// Returns whether a page is cached.
     ///
     /// Cost: `O(1)` expected.
-    ///
-    /// ```text
-    /// assert!(rt; cache.contains(1) && !cache.contains(2));
-    /// ```
     pub fn contains(&self, n: u64) -> bool {
         self.map.contains(&n)
     }
@@ -152,11 +117,6 @@ impl<B: Copy, D: BlockDevice<B>, S: KeyHasher<u64>> PageCache<B, D, S> {
     /// Returns how many successful reads, writes and pins found their page cached, at most `u64::MAX`.
     ///
     /// Cost: `O(1)`.
-    ///
-    /// ```text
-    /// let (hits, misses) = (cache.hits(), cache.misses());
-    /// assert!(rt; cache.read(1) == Ok(20) && cache.hits() == hits.saturating_add(1) && cache.misses() == misses);
-    /// ```
     pub fn hits(&self) -> u64 {
         self.counts.hits
     }
@@ -164,11 +124,6 @@ impl<B: Copy, D: BlockDevice<B>, S: KeyHasher<u64>> PageCache<B, D, S> {
     /// Returns how many successful reads, writes and pins did not find their page cached, at most `u64::MAX`.
     ///
     /// Cost: `O(1)`.
-    ///
-    /// ```text
-    /// let (hits, misses) = (cache.hits(), cache.misses());
-    /// assert!(rt; cache.read(1) == Ok(20) && cache.hits() == hits.saturating_add(1) && cache.misses() == misses);
-    /// ```
     pub fn misses(&self) -> u64 {
         self.counts.misses
     }
@@ -176,10 +131,6 @@ impl<B: Copy, D: BlockDevice<B>, S: KeyHasher<u64>> PageCache<B, D, S> {
     /// Returns how many pages were evicted, at most `u64::MAX`.
     ///
     /// Cost: `O(1)`.
-    ///
-    /// ```text
-    /// assert_eq!(rt; cache.misses(), cache.evictions().saturating_add(cache.len() as u64));
-    /// ```
     pub fn evictions(&self) -> u64 {
         self.counts.evictions
     }
@@ -187,20 +138,11 @@ impl<B: Copy, D: BlockDevice<B>, S: KeyHasher<u64>> PageCache<B, D, S> {
     /// Lends the device, which does not contain the dirty pages yet.
     ///
     /// Cost: `O(1)`.
-    ///
-    /// ```text
-    /// assert_eq!(rt; cache.device().blocks, [10, 11, 12, 13]);
-    /// ```
     pub fn device(&self) -> &D {
         &self.device
     }
 
     /// Writes all dirty pages to the device, and then calls its `sync`. The pages stay cached, and are clean.
-    ///
-    /// ```text
-    /// assert_eq!(rt; cache.flush(), Ok(()));
-    /// assert_eq!(rt; cache.device().blocks, [10, 20, 12, 13]);
-    /// ```
     ///
     /// Cost, if n pages are dirty: `O(len + n log n)`, n writes of the device, and a `sync`, even if n is 0.
     ///
@@ -220,14 +162,6 @@ impl<B: Copy, D: BlockDevice<B>, S: KeyHasher<u64>> PageCache<B, D, S> {
 
     /// Flushes the cache, and returns the device.
     ///
-    /// ```text
-    /// let mut cache = match cache.close() {
-    ///     Ok(disk) => PageCache::new(alloc, disk, 2),
-    ///     Err(Unclosed { cache, error: _ }) => cache,
-    /// };
-    /// cache.discard();
-    /// ```
-    ///
     /// Cost: as `flush`.
     ///
     /// # Errors
@@ -243,10 +177,6 @@ where {
 
     /// Drops the cached pages and returns the device. Writes since the last flush may be lost.
     ///
-    /// ```text
-    /// cache.discard();
-    /// ```
-    ///
     /// Cost: `O(1)`.
     pub fn discard(self) -> D
 where {
@@ -256,10 +186,6 @@ where {
 }
 
 /// A cache that was not closed, because its flush failed.
-///
-/// ```text
-/// Err(Unclosed { cache, error: _ }) => cache,
-/// ```
 pub struct Unclosed<B: Copy, D: BlockDevice<B>, S = RandomState> {
     pub cache: PageCache<B, D, S>,
     pub error: PageError<D::Error>,

@@ -22,22 +22,6 @@ pub use owned_bytes::OwnedBytes;
 ///
 /// The limiter reads the cost of a value again when its entry is evicted or removed, or when the value is replaced. If
 /// the cost of a stored value changes, the running total is no longer the sum of the costs.
-///
-/// ```text
-/// struct Page {
-///     bytes: u64,
-/// }
-///
-/// impl Costed for Page {
-///     ghost cost = { λ page. page.bytes };
-///
-///     fn cost(&self) -> u64 {
-///         self.bytes
-///     }
-/// }
-///
-/// assert_eq!(rt; Page { bytes: 4096 }.cost(), 4096);
-/// ```
 pub trait Costed {
     /// Returns the cost of the value.
     fn cost(&self) -> u64;
@@ -97,11 +81,6 @@ impl<T> Costed for Vec<T> {
 ///
 /// The total after each call is the sum of the costs of the map's entries, until a caller writes to a stored value, or
 /// writes or sets the limiter.
-///
-/// ```text
-/// let limiter = ByCost::new(3);
-/// assert_eq!(rt; Summing::<u64, u64>::account(&limiter), 0);
-/// ```
 pub trait Summing<K, V>: Admission<K, V> {
     /// Returns the cost of an entry.
     fn cost_of(key: &K, value: &V) -> u64;

@@ -13,12 +13,6 @@ use crate::rattle_std::hash::Hash;
 ///
 /// Every `Admission` is an [`Insertion`], and can be in [`crate::Both`]. If an `Admission` is `Copy`, a map with it has
 /// `try_insert`. `never_changes` of `specs/Admissions.antt` defines the terms of a limiter that never changes.
-///
-/// ```text
-/// let mut limiter = ByLength::new(0);
-/// assert!(rt; !limiter.accepts(0, &1u64, &2u64) && !limiter.admit(0, &1u64, &2u64));
-/// assert!(rt; limiter.accepts_in_place(1, &1u64, &2u64, &3u64));
-/// ```
 pub trait Admission<K, V>: Limiter<K, V> {
     /// Returns whether `admit` would accept this entry.
     fn accepts(&self, length: usize, key: &K, value: &V) -> bool;
@@ -53,6 +47,7 @@ impl<K: Eq + Hash, V, L: Admission<K, V>> Insertion<K, V, K> for L {
         old_value: &mut V,
         new_value: &mut V,
     ) -> bool {
+        drop(_new_key);
         self.admit_in_place(length, &*old_key, &*old_value, &*new_value)
     }
 }

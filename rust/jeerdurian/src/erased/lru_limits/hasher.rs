@@ -20,11 +20,6 @@ const REST_FACTOR: u64 = 0xa54f_f53a_5f1d_36f1;
 ///
 /// `state.hash_one(&key)` is the hash of the key in a map with an equal `RandomState`. Every value that names a key has
 /// the hash of this key. The default seeds are 1, 2, 3, 4, so an attacker can choose keys that collide.
-///
-/// ```text
-/// let state = RandomState::with_seeds([5, 6, 7, 8]);
-/// assert_eq!(rt; state.hash_one(&"a"), state.hash_one(&key));
-/// ```
 #[derive(Clone, Copy)]
 pub struct RandomState {
     state: u64,
@@ -34,10 +29,6 @@ pub struct RandomState {
 
 impl RandomState {
     /// Makes the state with these seeds.
-    ///
-    /// ```text
-    /// let state = RandomState::with_seeds([5, 6, 7, 8]);
-    /// ```
     pub const fn with_seeds(seeds: [u64; 4]) -> RandomState {
         RandomState {
             state: seeds[0] ^ STATE,
@@ -73,12 +64,6 @@ impl BuildHasher for RandomState {
 ///
 /// A whole number is written as its bytes, the lowest byte first: `write_u64(n)` does what `write(&n.to_le_bytes())`
 /// does. Two writes may give another hash than one write of the same bytes.
-///
-/// ```text
-/// let mut hasher = state.build_hasher();
-/// key.hash(&mut hasher);
-/// assert_eq!(rt; hasher.finish(), state.hash_one(&key));
-/// ```
 
 pub struct DefaultHasher {
     state: u64,

@@ -11,12 +11,6 @@ use crate::rattle_std::hash::{BuildHasher, Hash};
 /// Every key type implements `LookupKey` for its own keys, and `&str` implements it for `String` keys. In your own
 /// impl, define in `names` which key a value names, compute `names` in `is_key`, and prove two laws. If a struct has
 /// one field, its derived `Hash` writes what the field writes.
-///
-/// ```text
-/// let key = String::from_str(rt.alloc(), "a")?;
-/// assert!(rt; "a".is_key(&key));
-/// assert!(rt; !"b".is_key(&key));
-/// ```
 pub trait LookupKey<K: Eq + Hash>: Hash {
     /// Returns whether the value names this key.
     fn is_key(&self, key: &K) -> bool;
@@ -37,10 +31,6 @@ impl LookupKey<String> for &str {
 }
 
 /// Hashes keys, and values that name keys. Every `BuildHasher` is a `KeyHasher`.
-///
-/// ```text
-/// assert_eq!(rt; KeyHasher::<String>::hash_named(&state, &"a"), state.hash_one(&key));
-/// ```
 pub trait KeyHasher<K: Eq + Hash>: BuildHasher {
     /// Returns the hash of the key that the value names.
     fn hash_named<Q: LookupKey<K>>(&self, key: &Q) -> u64;

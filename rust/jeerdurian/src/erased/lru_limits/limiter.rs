@@ -14,12 +14,6 @@ use crate::rattle_std::hash::Hash;
 ///
 /// A callback may be called with any state, length, key and value. In `rules`, the impl defines the result and the
 /// effect of each callback as functions of its arguments.
-///
-/// ```text
-/// let limiter = ByLength::new(3);
-/// assert!(rt; !Limiter::<u64, u64>::is_over_the_limit(&limiter, 3));
-/// assert!(rt; Limiter::<u64, u64>::is_over_the_limit(&limiter, 4));
-/// ```
 pub trait Limiter<K, V> {
     /// The type of the map's links, which limits the number of entries.
     type LinkType: LinkType;
@@ -60,12 +54,6 @@ pub trait Limiter<K, V> {
 /// `I` is the type of the key, or of a value that names the key. For example, a `&str` becomes a `String` only if the
 /// limiter accepts the entry. The impl defines `offers`: what may be stored for an offered entry, when an offer may run
 /// out of memory, and what a replacement does. Each [`crate::Admission`] is an `Insertion`.
-///
-/// ```text
-/// let mut limiter = ByCost::new(3);
-/// assert!(rt; limiter.on_insert(alloc, 0, 1u64, 2u64)?.is_some());
-/// assert!(rt; limiter.on_insert(alloc, 1, 2u64, 4u64)?.is_none());
-/// ```
 pub trait Insertion<K: Eq + Hash, V, I: LookupKey<K>>: Limiter<K, V> {
     /// Called by an insert with a new key and its value, before the insert evicts anything. The map has `length`
     /// entries. Returns the entry to store, or `None` if the limiter rejects it. If it is rejected, the map's entries

@@ -18,11 +18,6 @@ use crate::rattle_std::fmt::Display;
 ///   and `kept` is false.
 ///
 /// If `kept` is false and `unkept` is `Some`, the callback got the entry of the key.
-///
-/// ```text
-/// let inserted = map.insert_full(1, 11, &mut |_, _| {})?;
-/// assert_eq!(rt; (inserted.kept, inserted.unkept), (true, Some(10)));
-/// ```
 #[derive(Clone, Copy, Debug, PartialEq, Eq)]
 pub struct Inserted<V> {
     /// Whether the key is in the map after the insert.
@@ -32,10 +27,6 @@ pub struct Inserted<V> {
 }
 
 /// What an update did, with a value that is not in the map afterwards.
-///
-/// ```text
-/// assert_eq!(rt; map.update(1, 11), Updated::Replaced(10));
-/// ```
 #[derive(Clone, Copy, Debug, PartialEq, Eq)]
 pub enum Updated<V> {
     /// The old value, because the limiter accepted the new value. The entry may have been evicted afterwards, if the
@@ -48,14 +39,6 @@ pub enum Updated<V> {
 }
 
 /// Why `try_reserve` fails.
-///
-/// ```text
-/// let mut map: LruMap<u64, u64, Unlimited> = LruMap::new(alloc, Unlimited, [1, 2, 3, 4], 32);
-/// assert_eq!(rt; map.try_reserve(usize::MAX), Err(ReserveError::TooLarge));
-/// assert_eq!(rt; map.try_reserve(1 << 50), Err(ReserveError::Memory));
-/// let mut map: LruMap<u32, u32, ByMemoryUsage> = LruMap::with_memory_budget(alloc, 84, [1, 2, 3, 4], 16);
-/// assert_eq!(rt; map.try_reserve(4), Err(ReserveError::Refused));
-/// ```
 #[derive(Clone, Copy, Debug, PartialEq, Eq)]
 pub enum ReserveError {
     /// No table can hold the entries plus the reserved entries, or the sum of the two numbers overflows.
@@ -77,11 +60,6 @@ impl ::core::fmt::Display for ReserveError {
 }
 
 /// Why `ensure_newest_fallible` or `get_or_insert_fallible` fails.
-///
-/// ```text
-/// let answer = map.ensure_newest_fallible(4, || Err(7u8));
-/// assert_eq!(rt; answer, Err(GetOrInsertError::Caller(7)));
-/// ```
 #[derive(Debug, PartialEq, Eq)]
 
 pub enum GetOrInsertError<E> {
@@ -104,12 +82,6 @@ where
 }
 
 /// How many entries the inserts of a map moved and stored, and how many entries its shrinks rehashed.
-///
-/// ```text
-/// let mut map: LruMap<u64, u64> = LruMap::with_limiter(alloc, ByLength::new(3));
-/// assert!(rt; map.insert(1, 10)?);
-/// assert_eq!(rt; map.move_report(), MoveReport { moved: 0, placed: 1, shrunk: 0 });
-/// ```
 #[derive(Clone, Copy, Debug, PartialEq, Eq)]
 pub struct MoveReport {
     /// Entries that inserts moved, because the table grew or was rehashed. Entries that `try_reserve` or `try_insert`

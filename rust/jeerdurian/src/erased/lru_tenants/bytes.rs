@@ -18,14 +18,6 @@ use tenant::ByteTenant;
 /// tables, and what their entries own.
 ///
 /// Each tenant's map has its own limit, as under [`ByBytes`]. While a table grows, the old table is not counted.
-///
-/// In the examples of the calls, `bytes` has a limit of 4,000 bytes, and one tenant, 1, with a limit of 500 bytes and
-/// the entry (7, 2).
-///
-/// ```text
-/// let mut bytes: ByteTenants<u64, u64, u64> = ByteTenants::new(alloc, [1, 2, 3, 4], 4000);
-/// assert_eq!(rt; (bytes.open(1, 500), bytes.put(&1, 7, 2)), (Ok(()), Ok(true)));
-/// ```
 pub struct ByteTenants<
     N: Eq + Hash + OwnedBytes,
     K: Eq + Hash + OwnedBytes,
@@ -38,11 +30,6 @@ pub struct ByteTenants<
 
 impl<N: Eq + Hash + OwnedBytes, K: Eq + Hash + OwnedBytes, V: OwnedBytes> ByteTenants<N, K, V> {
     /// Makes a cache without tenants (see `TenantCache::new`). Cost: `O(1)`, and no memory.
-    ///
-    /// ```text
-    /// let bytes: ByteTenants<u64, u64, u64> = ByteTenants::new(alloc, [1, 2, 3, 4], 4000);
-    /// assert_eq!(rt; bytes.left(), 4000);
-    /// ```
     pub fn new(alloc: Global, seeds: [u64; 4], limit: u64) -> Self {
         ByteTenants::with_hasher(alloc, RandomState::with_seeds(seeds), limit)
     }
@@ -52,12 +39,6 @@ impl<N: Eq + Hash + OwnedBytes, K: Eq + Hash + OwnedBytes, V: OwnedBytes, S: Key
     ByteTenants<N, K, V, S>
 {
     /// Makes a cache without tenants (see `TenantCache::with_hasher`). Cost: `O(1)`, and no memory.
-    ///
-    /// ```text
-    /// let bytes: ByteTenants<u64, u64, u64, _> =
-    ///     ByteTenants::with_hasher(alloc, std::collections::hash_map::RandomState::new(&rt)?, 4000);
-    /// assert_eq!(rt; bytes.len(), 0);
-    /// ```
     pub fn with_hasher(alloc: Global, hasher: S, limit: u64) -> Self {
         laws::calls_keep_the_bytes::<N, ByteTenant<K, V, S>, S>();
         ByteTenants {
@@ -71,11 +52,6 @@ impl<N: Eq + Hash + OwnedBytes, K: Eq + Hash + OwnedBytes, V: OwnedBytes, S: Key
     }
 
     /// Opens a tenant with an empty map, and reserves the tenant's limit until the tenant is closed.
-    ///
-    /// ```text
-    /// assert_eq!(rt; (bytes.open(1, 100), bytes.open(2, 100)), (Err(TenantError::AlreadyOpen), Ok(())));
-    /// assert_eq!(rt; bytes.open(3, 3500), Err(TenantError::OverTotal));
-    /// ```
     ///
     /// Cost: as `LruMap::try_insert`.
     ///
@@ -103,10 +79,6 @@ impl<N: Eq + Hash + OwnedBytes, K: Eq + Hash + OwnedBytes, V: OwnedBytes, S: Key
 
     /// Does what `TenantCache::put` does, under [`ByBytes`] with the tenant's limit.
     ///
-    /// ```text
-    /// assert_eq!(rt; (bytes.put(&1, 8, 3), bytes.put(&9, 8, 3)), (Ok(true), Err(TenantError::NotOpen)));
-    /// ```
-    ///
     /// Cost: as `LruMap::insert`.
     ///
     /// # Errors
@@ -125,10 +97,6 @@ impl<N: Eq + Hash + OwnedBytes, K: Eq + Hash + OwnedBytes, V: OwnedBytes, S: Key
 
     /// Closes a tenant and drops its entries. Returns their number. The table of tenants keeps its size.
     ///
-    /// ```text
-    /// assert_eq!(rt; (bytes.close(&1), bytes.open(2, 500)), (Ok(1), Ok(())));
-    /// ```
-    ///
     /// Cost: `O(buckets)` of its table.
     ///
     /// # Errors
@@ -144,10 +112,6 @@ impl<N: Eq + Hash + OwnedBytes, K: Eq + Hash + OwnedBytes, V: OwnedBytes, S: Key
     }
 
     /// Removes a key of a tenant. Returns its value.
-    ///
-    /// ```text
-    /// assert_eq!(rt; (bytes.remove(&1, &7), bytes.remove(&1, &7)), (Ok(Some(2)), Ok(None)));
-    /// ```
     ///
     /// Cost: `O(1)` expected.
     ///

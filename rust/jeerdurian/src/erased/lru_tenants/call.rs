@@ -5,10 +5,6 @@ use crate::rattle_std::prelude::*;
 use crate::erased::lru_tenants::error::TenantError;
 
 /// A call of a run.
-///
-/// ```text
-/// let calls = vec![in alloc; TenantCall::Open(1, 3), TenantCall::Put(1, 7, 1), TenantCall::Get(2, 7)]?;
-/// ```
 #[derive(Debug)]
 pub enum TenantCall<N, K, V> {
     Open(N, u64),
@@ -19,11 +15,6 @@ pub enum TenantCall<N, K, V> {
 }
 
 /// The answer to a call.
-///
-/// ```text
-/// let answers = run_tenants(alloc, &mut cache, calls)?;
-/// assert!(rt; answers.get(1) == Some(&TenantAnswer::Put(Ok(true))));
-/// ```
 #[derive(Debug, PartialEq)]
 pub enum TenantAnswer<V> {
     Opened(Result<(), TenantError>),

@@ -9,16 +9,6 @@ use crate::erased::lru_limits::{Admission, Budgeted, Limiter, Summing};
 ///
 /// In a `TenantCache` with this limiter, call `get_counted`, `put_counted` and `get_or_put_counted`. No other call
 /// counts.
-///
-/// In the examples of the calls, `counted` has one tenant, 1, with a budget of 3, the entry (7, 2) and the count of its
-/// insertion.
-///
-/// ```text
-/// assert_eq!(rt; counted.get_counted(&1, &7), Ok(Some(&2)));
-/// assert_eq!(rt; counted.get_counted(&1, &8), Ok(None));
-/// let counts = counted.counts(&1)?;
-/// assert_eq!(rt; (counts.hits, counts.misses, counts.insertions), (1, 1, 1));
-/// ```
 #[derive(Clone, Copy, Debug)]
 pub struct Counting<L> {
     pub limiter: L,

@@ -3,10 +3,6 @@
 use crate::rattle_std::prelude::*;
 
 /// Why a call on a tenant failed. After an error other than `Memory`, nothing has changed.
-///
-/// ```text
-/// assert_eq!(rt; cache.open(1, 5), Err(TenantError::AlreadyOpen));
-/// ```
 #[derive(Clone, Copy, Debug, PartialEq, Eq)]
 pub enum TenantError {
     AlreadyOpen = 1,

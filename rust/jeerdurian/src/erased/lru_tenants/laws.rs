@@ -13,17 +13,9 @@ use crate::rattle_std::hash::Hash;
 /// tenants come between (`own`). If no call names a tenant, its map stays as it is (`others`).
 ///
 /// The premise: each call changes only the tenant that it names, as each clause with `On` says.
-///
-/// ```text
-/// each_tenant_has_its_own_run::<u64, u64, u64, ByCost, RandomState>();
-/// ```
 pub fn each_tenant_has_its_own_run<N: Eq + Hash, K: Eq + Hash, V, L: Budgeted<K, V>, S: KeyHasher<K>>() {}
 
 /// If there is a total limit, the costs of the entries of all tenants add up to at most this limit.
-///
-/// ```text
-/// costs_are_within_the_total_limit(&cache);
-/// ```
 pub fn costs_are_within_the_total_limit<N: Eq + Hash, K: Eq + Hash, V, L: Budgeted<K, V>, S: KeyHasher<K> + Copy>(
     cache: &TenantCache<N, K, V, L, S>,
 ) {
@@ -37,8 +29,4 @@ pub fn costs_are_within_the_total_limit<N: Eq + Hash, K: Eq + Hash, V, L: Budget
 /// The premise: each call spares every tenant that the call does not name, as the clause `spares` of `put` says. No
 /// other call changes a tenant that the call does not name (`leaves`). `joins` joins two calls that name the same
 /// tenants.
-///
-/// ```text
-/// calls_spare_other_tenants::<u64, u64, u64, ByCost, RandomState>();
-/// ```
 pub fn calls_spare_other_tenants<N: Eq + Hash, K: Eq + Hash, V, L: Budgeted<K, V>, S: KeyHasher<K>>() {}

@@ -15,21 +15,17 @@ mod reading;
 
 use evict::settle;
 use part::{Part, cost_of, opened};
+impl<N: Eq + Hash, K: Eq + Hash, V, L: Budgeted<K, V>, S: KeyHasher<K> + Copy> TenantPool<N, K, V, L, S> {
+    pub(crate) fn sum_again(&mut self) {
+        self.shares = self.tenants.values().map(|(share, _)| *share).sum();
+        self.total = self.tenants.values().map(|(_, map)| cost_of(map) as u128).sum();
+    }
+}
 
 /// A cache for many tenants. Each tenant has its own share of one limit, and any tenant may use the rest.
 ///
 /// All costs add up to at most the limit. While a tenant's cost is within its share, no call of another tenant changes
 /// the tenant.
-///
-/// In the examples of the calls, `pool` has a limit of 5 and two tenants. Tenant 1 has a share of 3 and the entry
-/// (7, 2). Tenant 2 has a share of 1 and no entry.
-///
-/// ```text
-/// let mut pool: TenantPool<u64, u64, u64> = TenantPool::new(alloc, [1, 2, 3, 4], 5);
-/// assert_eq!(rt; (pool.open(1, 3), pool.open(2, 1)), (Ok(()), Ok(())));
-/// assert_eq!(rt; (pool.put(&1, 7, 2), pool.put(&2, 8, 3)), (Ok(true), Ok(true)));
-/// assert_eq!(rt; (pool.put(&1, 9, 1), pool.cost(&2), pool.cost(&1)), (Ok(true), Ok(0), Ok(3)));
-/// ```
 pub struct TenantPool<N: Eq + Hash, K: Eq + Hash, V, L: Budgeted<K, V> = ByCost, S: KeyHasher<K> + Copy = RandomState> {
     tenants: LruMap<N, Part<K, V, L, S>, Unlimited, S>,
     hasher: S,
@@ -41,11 +37,6 @@ pub struct TenantPool<N: Eq + Hash, K: Eq + Hash, V, L: Budgeted<K, V> = ByCost,
 
 impl<N: Eq + Hash, K: Eq + Hash, V: Costed> TenantPool<N, K, V> {
     /// Makes a pool without tenants (see `TenantCache::new`). Cost: `O(1)`, and no memory.
-    ///
-    /// ```text
-    /// let mut pool: TenantPool<u64, u64, u64> = TenantPool::new(alloc, [1, 2, 3, 4], 5);
-    /// assert!(rt; pool.is_empty());
-    /// ```
     pub fn new(alloc: Global, seeds: [u64; 4], limit: u64) -> Self {
         TenantPool::with_hasher(alloc, RandomState::with_seeds(seeds), limit)
     }
@@ -53,13 +44,6 @@ impl<N: Eq + Hash, K: Eq + Hash, V: Costed> TenantPool<N, K, V> {
 
 impl<N: Eq + Hash, K: Eq + Hash, V, L: Budgeted<K, V>, S: KeyHasher<K> + Copy> TenantPool<N, K, V, L, S> {
     /// Makes a pool without tenants (see `TenantCache::with_hasher`). Cost: `O(1)`, and no memory.
-    ///
-    /// ```text
-    /// let mut weighed: TenantPool<u64, u64, u64, ByWeight<16>, _> =
-    ///     TenantPool::with_hasher(alloc, std::collections::hash_map::RandomState::new(&rt)?, 40);
-    /// assert_eq!(rt; (weighed.open(1, 0), weighed.put(&1, 7, 2)), (Ok(()), Ok(true)));
-    /// assert_eq!(rt; weighed.cost(&1), Ok(25));
-    /// ```
     pub fn with_hasher(alloc: Global, hasher: S, limit: u64) -> Self {
         TenantPool {
             tenants: LruMap::<N, Part<K, V, L, S>, Unlimited, S>::with_limiter_and_hasher(alloc, Unlimited, hasher),
@@ -74,11 +58,6 @@ impl<N: Eq + Hash, K: Eq + Hash, V, L: Budgeted<K, V>, S: KeyHasher<K> + Copy> T
 
 impl<N: Eq + Hash, K: Eq + Hash, V, L: Budgeted<K, V>, S: KeyHasher<K> + Copy> TenantPool<N, K, V, L, S> {
     /// Opens a tenant with an empty map and its own share of the limit.
-    ///
-    /// ```text
-    /// assert_eq!(rt; pool.open(1, 0), Err(TenantError::AlreadyOpen));
-    /// assert_eq!(rt; (pool.open(3, 2), pool.open(3, 1)), (Err(TenantError::OverTotal), Ok(())));
-    /// ```
     ///
     /// Cost: `O(1)` expected, amortised over the tenants.
     ///
@@ -107,12 +86,6 @@ impl<N: Eq + Hash, K: Eq + Hash, V, L: Budgeted<K, V>, S: KeyHasher<K> + Copy> T
     /// limit, evicts the oldest entry of the tenant furthest above its share. The new entry may be evicted, too. If
     /// several tenants are furthest above, any of them may lose an entry.
     ///
-    /// ```text
-    /// assert_eq!(rt; (pool.put(&2, 8, 3), pool.put(&1, 9, 1)), (Ok(true), Ok(true)));
-    /// assert_eq!(rt; (pool.cost(&1), pool.cost(&2)), (Ok(3), Ok(0)));
-    /// assert_eq!(rt; (pool.put(&2, 8, 6), pool.put(&2, 8, 3)), (Ok(false), Ok(false)));
-    /// ```
-    ///
     /// Cost: as `LruMap::insert`, and `O(1)` for each tenant at each eviction.
     ///
     /// # Errors
@@ -137,10 +110,6 @@ impl<N: Eq + Hash, K: Eq + Hash, V, L: Budgeted<K, V>, S: KeyHasher<K> + Copy> T
     }
 
     /// Closes a tenant, drops its entries and frees its share. Returns how many entries there were.
-    ///
-    /// ```text
-    /// assert_eq!(rt; (pool.len(), pool.close(&1), pool.len()), (2, Ok(1), 1));
-    /// ```
     ///
     /// Cost: `O(buckets)` of its table.
     ///

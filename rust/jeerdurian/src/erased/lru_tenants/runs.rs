@@ -16,14 +16,6 @@ use crate::rattle_std::hash::Hash;
 /// The answers to a tenant's calls depend only on these calls, with two exceptions: memory may run out, and `open` may
 /// return `OverTotal` if the cache has a total limit.
 ///
-/// ```text
-/// let mut cache: TenantCache<u64, u64, u64> = TenantCache::new(alloc, [1, 2, 3, 4]);
-/// let calls = vec![in alloc; TenantCall::Open(1, 3), TenantCall::Put(1, 7, 1), TenantCall::Get(2, 7)]?;
-/// let answers = run_tenants(alloc, &mut cache, calls)?;
-/// assert!(rt; answers.get(1) == Some(&TenantAnswer::Put(Ok(true))));
-/// assert!(rt; answers.get(2) == Some(&TenantAnswer::Got(Err(TenantError::NotOpen))));
-/// ```
-///
 /// Cost: the costs of the calls, and one allocation for the answers.
 ///
 /// # Errors

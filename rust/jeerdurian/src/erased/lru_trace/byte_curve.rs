@@ -36,16 +36,6 @@ impl From<AllocError> for SizeError {
 /// A reference needs the size of its key, plus the sizes of the other keys that were referenced since the last
 /// reference to its key. A reference misses if it is the first to its key, or if it needs more than the limit. The
 /// first reference to a key says its size. The memory is in proportion to the number of keys and of limits.
-///
-/// ```text
-/// let mut curve = ByteCurve::new(alloc, vec![in alloc; 10, 30]?)?;
-/// for (key, bytes) in [("a", 10), ("b", 20), ("a", 10), ("a", 10)] {
-///     if curve.references() < u64::MAX && curve.refer(key, bytes).is_err() {
-///         break;
-///     }
-/// }
-/// assert_eq!(rt; (curve.misses(10), curve.misses(30), curve.misses(20)), (Some(3), Some(2), None));
-/// ```
 
 pub struct ByteCurve {
     numbers: HashMap<String, usize>,

@@ -13,16 +13,6 @@ use crate::rattle_std::collections::HashMap;
 ///
 /// A reference misses in a cache of n places if it is the first reference to its key, or if its reuse distance is at
 /// least n. If the curve does not keep the references, its memory is in proportion to the number of keys.
-///
-/// ```text
-/// let mut curve = Curve::new(alloc)?;
-/// for key in ["a", "b", "a", "c", "a"] {
-///     if curve.references() < u64::MAX {
-///         curve.refer(key)?;
-///     }
-/// }
-/// assert_eq!(rt; (curve.misses(0), curve.misses(1), curve.misses(2)), (5, 5, 3));
-/// ```
 
 pub struct Curve {
     numbers: HashMap<String, usize>,
@@ -41,19 +31,6 @@ impl Curve {
     }
 
     /// Makes a curve that also keeps the references, for `best`. Each reference takes 8 bytes.
-    ///
-    /// ```text
-    /// let mut curve = Curve::keeping_references(alloc)?;
-    /// for key in ["a", "b", "c", "a", "b", "c"] {
-    ///     if curve.references() < u64::MAX {
-    ///         curve.refer(key)?;
-    ///     }
-    /// }
-    /// if let Some(best) = curve.best()? {
-    ///     let misses = (best.min_misses(2)?, best.bypass_misses(2)?);
-    ///     assert!(rt; misses == (4, 4) && curve.misses(2) == 6);
-    /// }
-    /// ```
     pub fn keeping_references(alloc: Global) -> Result<Self, AllocError> {
         Curve::make(alloc, Some(Vec::new(alloc)))
     }
@@ -125,18 +102,6 @@ impl Curve {
     /// # Errors
     ///
     /// Out of memory. The key was not referenced.
-    ///
-    /// ```text
-    /// let mut curve = Curve::new(alloc)?;
-    /// curve.warm_up("a")?;
-    /// curve.warm_up("b")?;
-    /// for key in ["a", "c", "b"] {
-    ///     if curve.references() < u64::MAX {
-    ///         curve.refer(key)?;
-    ///     }
-    /// }
-    /// assert_eq!(rt; (curve.references(), curve.misses(2), curve.misses(3)), (3, 2, 1));
-    /// ```
     pub fn warm_up(&mut self, key: &str) -> Result<(), AllocError> {
         let number = self.number_of(key)?;
         self.make_count()?;

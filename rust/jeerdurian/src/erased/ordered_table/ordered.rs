@@ -19,19 +19,6 @@ mod promoted;
 ///
 /// A contract sees a table as its `slots`, the `order` of its full buckets, and its `insertions`. Only `move_to`
 /// computes hashes. The keys fit the table (`KeysFit`) if each entry was inserted with the hash of its key.
-///
-/// ```text
-/// let hasher = RandomState::default();
-/// let mut table: OrderedTable<u64, u64, u32> = OrderedTable::new(alloc);
-/// table.move_to(4, &hasher)?;
-/// for key in [1u64, 2, 3] {
-///     let _ = table.try_place(hasher.hash_one(&key), (key, 10 * key));
-/// }
-/// if let Some(b) = table.find(hasher.hash_one(&1u64), &1u64) {
-///     table.promote(b);
-/// }
-/// assert!(rt; table.iter().next() == Some((&1, &10)));
-/// ```
 pub struct OrderedTable<K, V, N: LinkType> {
     linked: LinkedTable<K, V, N>,
     // The bucket of the pending promotion: a promotion that is not yet written into the links. The next call that

@@ -11,11 +11,6 @@ use crate::rattle_std::iter::FusedIterator;
 pub(crate) mod keys;
 
 /// A double-ended iterator over the entries of a table or a map, newest first.
-///
-/// ```text
-/// let mut walk = map.iter();
-/// assert!(rt; walk.next_back() == Some((&1, &10)) && walk.len() == 2);
-/// ```
 
 pub struct Walk<'a, K, V, N: LinkType> {
     entries: &'a OrderedTable<K, V, N>,

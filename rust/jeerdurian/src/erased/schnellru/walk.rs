@@ -17,24 +17,11 @@ mod positions;
 
 /// The iterator that `LruMap::iter` returns.
 ///
-/// ```text
-/// let mut walk = map.iter();
-/// assert!(rt; walk.next_back() == Some((&1, &10)) && walk.len() == 2);
-/// ```
-///
 /// Follows schnellru's `Iter`.
 pub type Iter<'a, K, V, L> = Walk<'a, K, V, <L as Limiter<K, V>>::LinkType>;
 
 impl<K: Eq + Hash, V, L: Limiter<K, V>, S: KeyHasher<K>> LruMap<K, V, L, S> {
     /// Returns an iterator over the entries, newest first.
-    ///
-    /// ```text
-    /// let mut total = 0u64;
-    /// for (key, value) in map.iter() {
-    ///     total = total.wrapping_add(key.wrapping_mul(*value));
-    /// }
-    /// assert_eq!(rt; total, 140);
-    /// ```
     ///
     /// Cost: `O(1)`, and `O(1)` for each step from either end.
     ///
@@ -45,10 +32,6 @@ impl<K: Eq + Hash, V, L: Limiter<K, V>, S: KeyHasher<K>> LruMap<K, V, L, S> {
 
     /// Returns an iterator over the keys, newest first.
     ///
-    /// ```text
-    /// assert!(rt; map.keys().next() == Some(&3) && map.keys().next_back() == Some(&1));
-    /// ```
-    ///
     /// Cost: as `iter`.
     ///
     /// Follows std's `HashMap::keys`.
@@ -57,10 +40,6 @@ impl<K: Eq + Hash, V, L: Limiter<K, V>, S: KeyHasher<K>> LruMap<K, V, L, S> {
     }
 
     /// Returns an iterator over the values, newest first.
-    ///
-    /// ```text
-    /// assert!(rt; map.values().next() == Some(&30) && map.values().len() == 3);
-    /// ```
     ///
     /// Cost: as `iter`.
     ///
@@ -71,10 +50,6 @@ impl<K: Eq + Hash, V, L: Limiter<K, V>, S: KeyHasher<K>> LruMap<K, V, L, S> {
 
     /// Returns the entry at this index in the order of use. The newest entry has index 0.
     ///
-    /// ```text
-    /// assert!(rt; map.get_index(0) == Some((&3, &30)) && map.get_index(3).is_none());
-    /// ```
-    ///
     /// Cost: `O(index)`, and `O(1)` if there is no such entry.
     ///
     /// Follows `get_index` of the crate `indexmap`.
@@ -83,10 +58,6 @@ impl<K: Eq + Hash, V, L: Limiter<K, V>, S: KeyHasher<K>> LruMap<K, V, L, S> {
     }
 
     /// Returns the index of a key in the order of use. The newest key has index 0.
-    ///
-    /// ```text
-    /// assert_eq!(rt; (map.get_index_of(&1), map.get_index_of(&9)), (Some(2), None));
-    /// ```
     ///
     /// Cost: `O(1)` expected to find the key, and `O(index)` to count the entries that are newer.
     ///
@@ -99,10 +70,6 @@ impl<K: Eq + Hash, V, L: Limiter<K, V>, S: KeyHasher<K>> LruMap<K, V, L, S> {
     /// Returns the entry one step older than the entry of a key. Returns `None` if the key is not there, or if its entry
     /// is the oldest. So a walk needs no iterator.
     ///
-    /// ```text
-    /// assert!(rt; map.peek_older(&2) == Some((&1, &10)) && map.peek_older(&1).is_none());
-    /// ```
-    ///
     /// Cost: `O(1)` expected.
     pub fn peek_older<Q: LookupKey<K>>(&self, key: &Q) -> Option<(&K, &V)> {
         let b = self.find(key)?;
@@ -114,10 +81,6 @@ impl<K: Eq + Hash, V, L: Limiter<K, V>, S: KeyHasher<K>> LruMap<K, V, L, S> {
 
     /// Returns the entry one step newer than the entry of a key. Returns `None` if the key is not there, or if its entry
     /// is the newest.
-    ///
-    /// ```text
-    /// assert!(rt; map.peek_newer(&2) == Some((&3, &30)) && map.peek_newer(&3).is_none());
-    /// ```
     ///
     /// Cost: `O(1)` expected.
     pub fn peek_newer<Q: LookupKey<K>>(&self, key: &Q) -> Option<(&K, &V)> {

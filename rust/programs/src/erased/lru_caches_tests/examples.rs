@@ -315,7 +315,12 @@ fn of_memo_loader() {
         let empty = Loader::with_hasher(alloc, ByLength::new(9), seeded, |n: &u64| n.checked_add(1).ok_or(*n));
         let held = held & all!(empty.is_empty());
         let mut texts = Loader::new(alloc, ByLength::new(9), |n: &usize| vec![in alloc; 7u8; *n].map_err(|_| *n));
-        let held = held & all!((texts.load_with(3, |text| text.len()), texts.len()) == (Ok(3), 1));
+        let held = held
+            & all!(
+                (texts.load_with(3, |text| text.len()), texts.len()) == (Ok(3), 1),
+                blocks.load(1) == Ok(11) && blocks.remove(&1) && !blocks.remove(&1)
+            );
+        blocks.clear();
         check!(rt; held);
     };
     run(HostRuntime).passes();

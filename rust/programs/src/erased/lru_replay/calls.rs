@@ -18,10 +18,6 @@ use crate::rattle_std::alloc::{AllocError, Global};
 use crate::rattle_std::hash::Hash;
 
 /// A call of a run. Most calls do what the map's call of the same name does; `docs/RUNS.md` lists the others.
-///
-/// ```text
-/// let calls = vec![in alloc; Call::Insert(1, 10), Call::Get(1), Call::Peek(2)]?;
-/// ```
 #[derive(Debug)]
 pub enum Call<K, V, L> {
     Insert(K, V),
@@ -63,10 +59,6 @@ pub enum Call<K, V, L> {
 }
 
 /// The answer to a call.
-///
-/// ```text
-/// let gives = answers.get(1) == Some(&Answer::Value(Some(10)));
-/// ```
 #[derive(Debug, PartialEq)]
 pub enum Answer<K, V> {
     /// For `Insert`, `Write`, `Contains`, `Promote` and `Demote`: whether the key is in the map now.
@@ -106,14 +98,6 @@ pub enum Answer<K, V> {
 }
 
 /// Carries out the calls on the map, one after another, and returns their answers.
-///
-/// ```text
-/// let mut map: LruMap<u64, u64> = LruMap::new(alloc, ByLength::new(3), [1, 2, 3, 4], 16);
-/// let calls = vec![in alloc; Call::Insert(1, 10), Call::Get(1), Call::Peek(2)]?;
-/// let answers = run_calls(alloc, &mut map, calls)?;
-/// let gives = answers.get(1) == Some(&Answer::Value(Some(10)));
-/// assert!(rt; gives && answers.get(2) == Some(&Answer::Value(None)));
-/// ```
 ///
 /// Cost: the cost of the calls, and one request for memory for the answers. `InsertWith`, `List` and `Drain` each make
 /// one more request.

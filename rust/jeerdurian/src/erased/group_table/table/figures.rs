@@ -16,11 +16,6 @@ impl<T> Table<T> {
     }
 
     /// Returns whether the table has bucket b. The table must have buckets.
-    ///
-    /// ```text
-    /// let table: Table<u64> = Table::with_buckets(alloc, 8)?;
-    /// assert!(rt; table.has_bucket(7) && !table.has_bucket(8));
-    /// ```
     #[inline]
     pub fn has_bucket(&self, b: usize) -> bool {
         self.control.has_bucket(b)
@@ -46,12 +41,6 @@ impl<T> Table<T> {
     }
 
     /// Returns how many entries `place` and `try_place` have inserted. The count stops at `u64::MAX`.
-    ///
-    /// ```text
-    /// let mut table = Table::with_buckets(alloc, 8)?;
-    /// let _ = table.try_place(7, "a");
-    /// assert_eq!(rt; (table.placed(), table.insertion_count()), (1, 1));
-    /// ```
     #[inline]
     pub fn placed(&self) -> u64 {
         self.placed

@@ -16,14 +16,6 @@ use crate::rattle_std::io::{Read, Seek, Write};
 /// damaged block, or a block with another number, unless the hashes happen to be equal.
 ///
 /// [`FileDevice`]: crate::FileDevice
-///
-/// ```text
-/// let file = Cursor::new([0u8; 48]);
-/// let mut hashed: HashedFileDevice<_, 16> = HashedFileDevice::new(file, 3);
-/// assert_eq!(rt; hashed.write(1, b"uno.....checksum"), Ok(()));
-/// assert!(rt; hashed.read(1)?.starts_with(b"uno....."));
-/// assert_eq!(rt; hashed.read(2), Err(FileError::Damaged));
-/// ```
 
 pub struct HashedFileDevice<F, const N: usize> {
     file: RecordedFile<F>,
@@ -34,20 +26,12 @@ pub struct HashedFileDevice<F, const N: usize> {
 impl<F: Read + Write + Seek, const N: usize> HashedFileDevice<F, N> {
     /// Makes a device of the first `count` blocks of a file, which may be shorter (see `FileDevice::new`).
     ///
-    /// ```text
-    /// let mut hashed: HashedFileDevice<_, 16> = HashedFileDevice::new(file, 3);
-    /// ```
-    ///
     /// Cost: `O(1)`, and no call on the file.
     pub fn new(file: F, count: u64) -> Self {
         HashedFileDevice { file: RecordedFile::new(file), count, is_usable: true }
     }
 
     /// Makes a device of all whole blocks of the file, as `FileDevice::open` does.
-    ///
-    /// ```text
-    /// assert_eq!(rt; HashedFileDevice::<_, 16>::open(Cursor::new([0u8; 48]))?.len(), 3);
-    /// ```
     ///
     /// Cost and `# Errors`: as `FileDevice::open`.
     pub fn open(mut file: F) -> Result<Self, FileError>
@@ -59,19 +43,11 @@ where {
     /// Returns the number of blocks.
     ///
     /// Cost: `O(1)`.
-    ///
-    /// ```text
-    /// assert_eq!(rt; hashed.len(), 3);
-    /// ```
     pub fn len(&self) -> u64 {
         self.count
     }
 
     /// Lends the file.
-    ///
-    /// ```text
-    /// assert_eq!(rt; hashed.file().position(), 48);
-    /// ```
     ///
     /// Cost: `O(1)`.
     pub fn file(&self) -> &F {
@@ -79,11 +55,6 @@ where {
     }
 
     /// Returns the file. Call `sync` first.
-    ///
-    /// ```text
-    /// let bytes = hashed.into_file().into_inner();
-    /// assert!(rt; bytes[16..].starts_with(b"uno....."));
-    /// ```
     ///
     /// Cost: `O(1)`.
     pub fn into_file(self) -> F {

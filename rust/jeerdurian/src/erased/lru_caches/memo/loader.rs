@@ -2,18 +2,11 @@
 #[allow(unused_imports)]
 use crate::rattle_std::prelude::*;
 
-use crate::erased::schnellru::{Insertion, KeyHasher, LruMap, RandomState, laws};
+use crate::erased::schnellru::{Insertion, KeyHasher, LookupKey, LruMap, RandomState, laws};
 use crate::rattle_std::alloc::Global;
 use crate::rattle_std::hash::Hash;
 
 /// A memo of a function that may fail, such as a read of a file. It stores no failures.
-///
-/// ```text
-/// let disk = [10, 11, 12];
-/// let mut blocks = Loader::new(alloc, ByLength::new(9), |n: &usize| disk.get(*n).copied().ok_or(*n));
-/// assert_eq!(rt; (blocks.load(1), blocks.len()), (Ok(11), 1));
-/// assert_eq!(rt; (blocks.load(3), blocks.len()), (Err(3), 1));
-/// ```
 
 pub struct Loader<K: Eq + Hash, V, F, L: Insertion<K, V, K>, S: KeyHasher<K> = RandomState> {
     map: LruMap<K, V, L, S>,
@@ -24,10 +17,6 @@ impl<K: Eq + Hash, V, E, F: Fn(&K) -> Result<V, E>, L: Insertion<K, V, K>> Loade
     /// Makes a loader of a function, with no values yet.
     ///
     /// If strangers choose the keys, call `with_hasher`. Cost: `O(1)`, and no memory.
-    ///
-    /// ```text
-    /// let mut blocks = Loader::new(alloc, ByLength::new(9), |n: &usize| disk.get(*n).copied().ok_or(*n));
-    /// ```
     pub fn new(alloc: Global, limiter: L, function: F) -> Self {
         Loader { map: LruMap::with_limiter(alloc, limiter), function }
     }
@@ -35,12 +24,6 @@ impl<K: Eq + Hash, V, E, F: Fn(&K) -> Result<V, E>, L: Insertion<K, V, K>> Loade
 
 impl<K: Eq + Hash, V, E, F: Fn(&K) -> Result<V, E>, L: Insertion<K, V, K>, S: KeyHasher<K>> Loader<K, V, F, L, S> {
     /// Makes a loader of a function, with a hasher of keys.
-    ///
-    /// ```text
-    /// let seeded = RandomState::with_seeds([5, 6, 7, 8]);
-    /// let empty = Loader::with_hasher(alloc, ByLength::new(9), seeded, |n: &u64| n.checked_add(1).ok_or(*n));
-    /// assert!(rt; empty.is_empty());
-    /// ```
     ///
     /// Cost: `O(1)`, and no memory.
     pub fn with_hasher(alloc: Global, limiter: L, hasher: S, function: F) -> Self {
@@ -50,10 +33,6 @@ impl<K: Eq + Hash, V, E, F: Fn(&K) -> Result<V, E>, L: Insertion<K, V, K>, S: Ke
     /// Returns how many values are stored.
     ///
     /// Cost: `O(1)`.
-    ///
-    /// ```text
-    /// assert_eq!(rt; (blocks.load(3), blocks.len()), (Err(3), 1));
-    /// ```
     pub fn len(&self) -> usize {
         self.map.len()
     }
@@ -61,12 +40,6 @@ impl<K: Eq + Hash, V, E, F: Fn(&K) -> Result<V, E>, L: Insertion<K, V, K>, S: Ke
     /// Returns whether no value is stored.
     ///
     /// Cost: `O(1)`.
-    ///
-    /// ```text
-    /// let seeded = RandomState::with_seeds([5, 6, 7, 8]);
-    /// let empty = Loader::with_hasher(alloc, ByLength::new(9), seeded, |n: &u64| n.checked_add(1).ok_or(*n));
-    /// assert!(rt; empty.is_empty());
-    /// ```
     pub fn is_empty(&self) -> bool {
         self.map.is_empty()
     }
@@ -78,10 +51,6 @@ impl<K: Eq + Hash, V: Copy, E, F: Fn(&K) -> Result<V, E>, L: Insertion<K, V, K>,
     /// Returns the value of a key. If no value is stored, calls the function, and stores its value.
     ///
     /// Returns the value even if memory runs out, or if a limit prevents storing it.
-    ///
-    /// ```text
-    /// assert_eq!(rt; (blocks.load(1), blocks.len()), (Ok(11), 1));
-    /// ```
     ///
     /// Cost: a get, and if no value is stored, a call of the function and an insert.
     ///
@@ -96,11 +65,6 @@ impl<K: Eq + Hash, V: Copy, E, F: Fn(&K) -> Result<V, E>, L: Insertion<K, V, K>,
 impl<K: Eq + Hash, V, E, F: Fn(&K) -> Result<V, E>, L: Insertion<K, V, K>, S: KeyHasher<K>> Loader<K, V, F, L, S> {
     /// Lends a closure the value that `load` would return, and returns what the closure returns. The values need not be
     /// `Copy`.
-    ///
-    /// ```text
-    /// let mut texts = Loader::new(alloc, ByLength::new(9), |n: &usize| vec![in alloc; 7u8; *n].map_err(|_| *n));
-    /// assert_eq!(rt; (texts.load_with(3, |text| text.len()), texts.len()), (Ok(3), 1));
-    /// ```
     ///
     /// Cost: as `load`, plus a call of the closure.
     ///
@@ -120,5 +84,20 @@ impl<K: Eq + Hash, V, E, F: Fn(&K) -> Result<V, E>, L: Insertion<K, V, K>, S: Ke
             }
             Err(error) => Err(error),
         }
+    }
+
+    /// Removes the stored value of a key, and returns whether there was one. The next `load` of the key calls the
+    /// function.
+    ///
+    /// Cost: `O(1)` expected.
+    pub fn remove<Q: LookupKey<K>>(&mut self, key: &Q) -> bool {
+        self.map.remove(key).is_some()
+    }
+
+    /// Drops all stored values.
+    ///
+    /// Cost: as `LruMap::clear`.
+    pub fn clear(&mut self) {
+        self.map.clear();
     }
 }

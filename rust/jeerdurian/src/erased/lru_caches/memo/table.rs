@@ -9,26 +9,11 @@ use crate::rattle_std::alloc::Global;
 use crate::rattle_std::hash::Hash;
 
 /// Defines which values are answers at a key of a [`MemoTable`].
-///
-/// ```text
-/// #[derive(Drop)]
-/// struct Squares;
-///
-/// impl Question<u64, u64> for Squares {
-///     ghost answers = { λ n value. value ≡ n * n };
-/// }
-/// ```
 pub trait Question<K, V> {}
 
 /// A table of the newest answers to a question, up to a limit. A function that calls itself can store its results here.
 ///
 /// `get` returns only answers, because the caller of `store` proves that the value is an answer.
-///
-/// ```text
-/// let mut squares = MemoTable::new(alloc, ByLength::new(9), Squares);
-/// squares.store(3, 9);
-/// assert_eq!(rt; (squares.get(&3), squares.get(&4), squares.len()), (Some(9), None, 1));
-/// ```
 
 pub struct MemoTable<K: Eq + Hash, V, Q: Question<K, V>, L: Insertion<K, V, K>, S: KeyHasher<K> = RandomState> {
     map: LruMap<K, V, L, S>,
@@ -39,10 +24,6 @@ impl<K: Eq + Hash, V, Q: Question<K, V>, L: Insertion<K, V, K>> MemoTable<K, V, 
     /// Makes an empty table.
     ///
     /// If strangers choose the keys, call `with_hasher`. Cost: `O(1)`, and no memory.
-    ///
-    /// ```text
-    /// let mut squares = MemoTable::new(alloc, ByLength::new(9), Squares);
-    /// ```
     pub fn new(alloc: Global, limiter: L, question: Q) -> Self {
         MemoTable { map: LruMap::with_limiter(alloc, limiter), question }
     }
@@ -50,12 +31,6 @@ impl<K: Eq + Hash, V, Q: Question<K, V>, L: Insertion<K, V, K>> MemoTable<K, V, 
 
 impl<K: Eq + Hash, V, Q: Question<K, V>, L: Insertion<K, V, K>, S: KeyHasher<K>> MemoTable<K, V, Q, L, S> {
     /// Makes an empty table, with a hasher of keys.
-    ///
-    /// ```text
-    /// let seeded = RandomState::with_seeds([5, 6, 7, 8]);
-    /// let empty = MemoTable::with_hasher(alloc, ByLength::new(9), seeded, Squares);
-    /// assert!(rt; empty.is_empty());
-    /// ```
     ///
     /// Cost: `O(1)`, and no memory.
     pub fn with_hasher(alloc: Global, limiter: L, hasher: S, question: Q) -> Self {
@@ -65,10 +40,6 @@ impl<K: Eq + Hash, V, Q: Question<K, V>, L: Insertion<K, V, K>, S: KeyHasher<K>>
     /// Returns how many answers are stored.
     ///
     /// Cost: `O(1)`.
-    ///
-    /// ```text
-    /// assert_eq!(rt; (squares.get(&3), squares.get(&4), squares.len()), (Some(9), None, 1));
-    /// ```
     pub fn len(&self) -> usize {
         self.map.len()
     }
@@ -76,12 +47,6 @@ impl<K: Eq + Hash, V, Q: Question<K, V>, L: Insertion<K, V, K>, S: KeyHasher<K>>
     /// Returns whether no answer is stored.
     ///
     /// Cost: `O(1)`.
-    ///
-    /// ```text
-    /// let seeded = RandomState::with_seeds([5, 6, 7, 8]);
-    /// let empty = MemoTable::with_hasher(alloc, ByLength::new(9), seeded, Squares);
-    /// assert!(rt; empty.is_empty());
-    /// ```
     pub fn is_empty(&self) -> bool {
         self.map.is_empty()
     }
@@ -89,10 +54,6 @@ impl<K: Eq + Hash, V, Q: Question<K, V>, L: Insertion<K, V, K>, S: KeyHasher<K>>
 
 impl<K: Eq + Hash, V, Q: Question<K, V>, L: Insertion<K, V, K>, S: KeyHasher<K>> MemoTable<K, V, Q, L, S> {
     /// Returns the stored answer for a key or an equal key, and makes the answer the newest.
-    ///
-    /// ```text
-    /// assert_eq!(rt; (squares.get(&3), squares.get(&4), squares.len()), (Some(9), None, 1));
-    /// ```
     ///
     /// Cost: `O(1)` expected.
     pub fn get(&mut self, key: &K) -> Option<V>
@@ -105,10 +66,6 @@ impl<K: Eq + Hash, V, Q: Question<K, V>, L: Insertion<K, V, K>, S: KeyHasher<K>>
     /// Does what `get` does, but lends the answer to a closure, and returns the closure's result. The answers need not
     /// be `Copy`.
     ///
-    /// ```text
-    /// assert_eq!(rt; squares.get_with(&3, |square| square.wrapping_add(1)), Some(10));
-    /// ```
-    ///
     /// Cost: as `get`, plus a call of the closure.
     pub fn get_with<R, U: FnOnce(&V) -> R>(&mut self, key: &K, read: U) -> Option<R> {
         let value = self.map.get(key)?;
@@ -117,10 +74,6 @@ impl<K: Eq + Hash, V, Q: Question<K, V>, L: Insertion<K, V, K>, S: KeyHasher<K>>
 
     /// Stores an answer at a key as the newest, and returns true. If memory runs out, or a limit prevents storing the
     /// answer, returns false, and no answer is stored at the key.
-    ///
-    /// ```text
-    /// squares.store(3, 9);
-    /// ```
     ///
     /// Cost: an insert.
     pub fn store(&mut self, key: K, value: V) -> bool {

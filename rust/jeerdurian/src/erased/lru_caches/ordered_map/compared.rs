@@ -9,10 +9,6 @@ use crate::rattle_std::hash::Hash;
 
 /// Maps are equal if they have equal entries in the same order.
 ///
-/// ```text
-/// assert!(rt; map == map && map != OrderedMap::new(alloc));
-/// ```
-///
 /// Cost: `O(1)` if the lengths differ, else `O(n)` for n entries.
 ///
 /// Follows std's `Vec`. Maps of indexmap are equal if they have the same entries in any order.
@@ -23,10 +19,6 @@ impl<K: Eq + Hash, V: PartialEq, S: KeyHasher<K>> PartialEq for OrderedMap<K, V,
 }
 
 /// Shows the entries, oldest first, as `{1: 11, 2: 20}`.
-///
-/// ```text
-/// assert_eq!(rt; format!(in alloc; "{map:?}")?.as_str(), "{1: 11, 2: 20}");
-/// ```
 ///
 /// Follows std's `HashMap`.
 impl<K: Eq + Hash + fmt::Debug, V: fmt::Debug, S: KeyHasher<K>> fmt::Debug for OrderedMap<K, V, S> {

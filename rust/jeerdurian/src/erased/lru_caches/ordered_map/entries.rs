@@ -8,14 +8,6 @@ use crate::rattle_std::hash::Hash;
 use crate::rattle_std::iter::FusedIterator;
 
 /// A double-ended iterator over the entries of an ordered map, oldest first.
-///
-/// ```text
-/// let mut entries = map.iter();
-/// assert_eq!(rt;
-///     (entries.len(), entries.next(), entries.next_back()),
-///     (2, Some((&1, &11)), Some((&2, &20)))
-/// );
-/// ```
 
 pub struct Entries<'a, K, V> {
     newest_first: Walk<'a, K, V, usize>,

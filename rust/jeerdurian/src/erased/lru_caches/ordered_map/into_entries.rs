@@ -9,11 +9,6 @@ use crate::rattle_std::iter::FusedIterator;
 
 /// A double-ended iterator that takes out the entries of an ordered map, oldest first. Dropping the iterator drops the
 /// remaining entries.
-///
-/// ```text
-/// let mut entries = map.into_iter();
-/// assert_eq!(rt; (entries.len(), entries.next(), entries.next_back()), (2, Some((1, 11)), Some((2, 20))));
-/// ```
 
 pub struct IntoEntries<K, V, S> {
     map: OrderedMap<K, V, S>,

@@ -6,10 +6,6 @@ use crate::erased::lru_caches::ordered_map::entries::Entries;
 use crate::rattle_std::iter::FusedIterator;
 
 /// A double-ended iterator over the keys of an ordered map, oldest first.
-///
-/// ```text
-/// assert!(rt; map.keys().next() == Some(&1) && map.values().next_back() == Some(&20));
-/// ```
 
 pub struct Keys<'a, K, V> {
     entries: Entries<'a, K, V>,
@@ -54,10 +50,6 @@ impl<'a, K, V> ExactSizeIterator for Keys<'a, K, V> {
 impl<'a, K, V> FusedIterator for Keys<'a, K, V> {}
 
 /// A double-ended iterator over the values of an ordered map, oldest first.
-///
-/// ```text
-/// assert!(rt; map.keys().next() == Some(&1) && map.values().next_back() == Some(&20));
-/// ```
 
 pub struct Values<'a, K, V> {
     entries: Entries<'a, K, V>,

@@ -10,10 +10,6 @@ use crate::rattle_std::hash::Hash;
 impl<K: Eq + Hash, V, S: KeyHasher<K>> OrderedMap<K, V, S> {
     /// Returns the entry of a key, with the stored key.
     ///
-    /// ```text
-    /// assert!(rt; map.get_key_value(&1) == Some((&1, &11)) && map.get_key_value(&9).is_none());
-    /// ```
-    ///
     /// Cost: `O(1)` expected.
     pub fn get_key_value<Q: LookupKey<K>>(&self, key: &Q) -> Option<(&K, &V)> {
         distinct(&self.map);
@@ -21,11 +17,6 @@ impl<K: Eq + Hash, V, S: KeyHasher<K>> OrderedMap<K, V, S> {
     }
 
     /// Makes the entry of a key the newest, and returns whether the key is there.
-    ///
-    /// ```text
-    /// assert!(rt; map.move_to_back(&1) && !map.move_to_back(&9));
-    /// assert!(rt; map.last() == Some((&1, &11)));
-    /// ```
     ///
     /// Cost: `O(1)` expected.
     ///
@@ -37,10 +28,6 @@ impl<K: Eq + Hash, V, S: KeyHasher<K>> OrderedMap<K, V, S> {
 
     /// Reserves memory for n more entries.
     ///
-    /// ```text
-    /// assert_eq!(rt; map.try_reserve(100), Ok(()));
-    /// ```
-    ///
     /// Cost: `O(1)` if there is enough growth left, else `O(buckets)` of both tables.
     ///
     /// # Errors
@@ -51,11 +38,6 @@ impl<K: Eq + Hash, V, S: KeyHasher<K>> OrderedMap<K, V, S> {
     }
 
     /// Shrinks the table to the smallest that can hold the entries. Returns whether the table was larger.
-    ///
-    /// ```text
-    /// assert_eq!(rt; map.try_reserve(100), Ok(()));
-    /// assert_eq!(rt; (map.shrink_to_fit(), map.shrink_to_fit()), (Ok(true), Ok(false)));
-    /// ```
     ///
     /// Cost: `O(1)` if the table stays, else `O(buckets)`.
     ///

@@ -28,10 +28,6 @@ impl<B: Copy, D: BlockDevice<B>, S: KeyHasher<u64>> PageCache<B, D, S> {
     /// is dirty, writes it to the device first. A pinned page may not be evicted. If the cache
     /// [keeps dirty pages](Self::set_keeps_dirty), a dirty page may not be evicted either.
     ///
-    /// ```text
-    /// assert_eq!(rt; (cache.read(1), cache.len()), (Ok(20), 1));
-    /// ```
-    ///
     /// Cost: `O(1)` expected, amortised over the growth of the table, and at most one read and one write of the device.
     /// An eviction also takes `O(k)` for k older pages that may not be evicted.
     ///
@@ -45,10 +41,6 @@ impl<B: Copy, D: BlockDevice<B>, S: KeyHasher<u64>> PageCache<B, D, S> {
 
     /// Lends a closure the block that `read` would return, and returns what the closure returns.
     ///
-    /// ```text
-    /// assert_eq!(rt; cache.read_with(1, |block| *block / 2), Ok(10));
-    /// ```
-    ///
     /// Cost: as `read`, plus a call of the closure.
     ///
     /// # Errors
@@ -60,10 +52,6 @@ impl<B: Copy, D: BlockDevice<B>, S: KeyHasher<u64>> PageCache<B, D, S> {
     }
 
     /// Calls `read` for each number of the range, in order.
-    ///
-    /// ```text
-    /// assert!(rt; cache.prefetch(2..4) == Ok(()) && cache.contains(2) && cache.contains(3));
-    /// ```
     ///
     /// Cost: as a `read` of each block.
     ///
@@ -80,10 +68,6 @@ impl<B: Copy, D: BlockDevice<B>, S: KeyHasher<u64>> PageCache<B, D, S> {
     /// Replaces a block in the cache, and makes its page the newest. The device gets the block later.
     ///
     /// If the page is not cached and the cache is full, evicts a page (see `read`). A pin stays.
-    ///
-    /// ```text
-    /// assert_eq!(rt; cache.write(1, 20), Ok(()));
-    /// ```
     ///
     /// Cost: as `read`, without the read of the device.
     ///
@@ -106,10 +90,6 @@ impl<B: Copy, D: BlockDevice<B>, S: KeyHasher<u64>> PageCache<B, D, S> {
     /// the newest.
     ///
     /// If the page is not cached, reads the block first. A pin stays.
-    ///
-    /// ```text
-    /// assert_eq!(rt; (cache.write_with(1, |block| *block = 21), cache.read(1)), (Ok(()), Ok(21)));
-    /// ```
     ///
     /// Cost: as `read`, plus a call of the closure.
     ///

@@ -89,11 +89,6 @@ impl<B: Copy, D: BlockDevice<B>, S: KeyHasher<u64>> PageCache<B, D, S> {
     /// `flush_page` does not call `sync`. Until a `flush` returns `Ok`, a crash may leave the old block or a torn
     /// block.
     ///
-    /// ```text
-    /// assert_eq!(rt; (cache.dirty_len(), cache.flush_page(1), cache.dirty_len()), (1, Ok(()), 0));
-    /// assert_eq!(rt; cache.device().blocks, [10, 20, 12, 13]);
-    /// ```
-    ///
     /// Cost: `O(1)` expected, and at most one write of the device.
     ///
     /// # Errors
@@ -109,10 +104,6 @@ impl<B: Copy, D: BlockDevice<B>, S: KeyHasher<u64>> PageCache<B, D, S> {
     }
 
     /// Returns how many pages are dirty.
-    ///
-    /// ```text
-    /// assert_eq!(rt; cache.dirty_len(), 1);
-    /// ```
     ///
     /// Cost: `O(len)`.
     pub fn dirty_len(&self) -> usize {

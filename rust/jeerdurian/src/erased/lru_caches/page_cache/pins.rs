@@ -13,11 +13,6 @@ impl<B: Copy, D: BlockDevice<B>, S: KeyHasher<u64>> PageCache<B, D, S> {
     ///
     /// One `unpin` ends any number of pins of a page. A flush also writes dirty pages that are pinned.
     ///
-    /// ```text
-    /// assert_eq!(rt; (cache.pin(0), cache.pin(1), cache.read(2)), (Ok(()), Ok(()), Err(PageError::Full)));
-    /// assert!(rt; cache.is_pinned(0) && cache.unpin(0) && !cache.is_pinned(0));
-    /// ```
-    ///
     /// Cost and `# Errors`: as `read`.
     pub fn pin(&mut self, n: u64) -> Result<(), PageError<D::Error>> {
         self.bring(n)?;
@@ -27,20 +22,12 @@ impl<B: Copy, D: BlockDevice<B>, S: KeyHasher<u64>> PageCache<B, D, S> {
 
     /// Ends the pin of a page, and returns whether there was a pin. Does not change the order of use.
     ///
-    /// ```text
-    /// assert!(rt; cache.is_pinned(0) && cache.unpin(0) && !cache.is_pinned(0));
-    /// ```
-    ///
     /// Cost: `O(1)` expected.
     pub fn unpin(&mut self, n: u64) -> bool {
         unpin_page(&mut self.map, n)
     }
 
     /// Returns whether a page is pinned.
-    ///
-    /// ```text
-    /// assert!(rt; cache.is_pinned(0) && cache.unpin(0) && !cache.is_pinned(0));
-    /// ```
     ///
     /// Cost: `O(1)` expected.
     pub fn is_pinned(&self, n: u64) -> bool {
@@ -49,10 +36,6 @@ impl<B: Copy, D: BlockDevice<B>, S: KeyHasher<u64>> PageCache<B, D, S> {
 
     /// Returns whether the cache keeps dirty pages until a flush. A new cache does not keep dirty pages.
     ///
-    /// ```text
-    /// assert_eq!(rt; (cache.keeps_dirty(), cache.write(0, 10), cache.read(2)), (true, Ok(()), Err(PageError::Full)));
-    /// ```
-    ///
     /// Cost: `O(1)`.
     pub fn keeps_dirty(&self) -> bool {
         self.keeps_dirty
@@ -60,11 +43,6 @@ impl<B: Copy, D: BlockDevice<B>, S: KeyHasher<u64>> PageCache<B, D, S> {
 
     /// Sets whether the cache keeps dirty pages until a flush. No read, write or pin writes to the device while the
     /// cache keeps dirty pages.
-    ///
-    /// ```text
-    /// cache.set_keeps_dirty(true);
-    /// assert_eq!(rt; (cache.keeps_dirty(), cache.write(0, 10), cache.read(2)), (true, Ok(()), Err(PageError::Full)));
-    /// ```
     ///
     /// Cost: `O(1)`.
     pub fn set_keeps_dirty(&mut self, keeps_dirty: bool) {

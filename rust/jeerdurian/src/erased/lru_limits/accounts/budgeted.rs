@@ -5,12 +5,6 @@ use crate::rattle_std::prelude::*;
 use crate::erased::lru_limits::accounts::Summing;
 
 /// A limiter with a running total and a budget. A map is over the limit if and only if the total is above the budget.
-///
-/// ```text
-/// let mut limiter = <ByCost as Budgeted<u64, u64>>::with_budget(3);
-/// Budgeted::<u64, u64>::set_budget(&mut limiter, 5);
-/// assert_eq!(rt; Budgeted::<u64, u64>::budget(&limiter), 5);
-/// ```
 pub trait Budgeted<K, V>: Summing<K, V> {
     /// Makes a limiter with a budget, and a running total of 0.
     fn with_budget(budget: u64) -> Self;

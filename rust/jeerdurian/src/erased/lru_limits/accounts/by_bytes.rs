@@ -17,15 +17,6 @@ use crate::erased::lru_limits::limiter::Limiter;
 /// `shrink_to_fit` does not notify the limiter. `map.set_limiter(map.limiter().with_table(map.memory_usage() as u64))`
 /// makes the limiter count the smaller table.
 ///
-/// ```text
-/// let mut limiter = ByBytes::new(200);
-/// assert!(rt; Limiter::<u64, Vec<u8>>::on_grow(&mut limiter, 152));
-/// let block: Vec<u8> = Vec::with_capacity(alloc, 17)?;
-/// assert!(rt; limiter.admit(0, &1u64, &block));
-/// assert!(rt; !Limiter::<u64, Vec<u8>>::on_grow(&mut limiter, 153));
-/// assert_eq!(rt; (limiter.owned(), limiter.table()), (48, 152));
-/// ```
-///
 /// Cost: each callback reads the owned bytes of its keys and values at most twice, and takes no memory.
 #[derive(Clone, Copy, Debug)]
 pub struct ByBytes {
@@ -36,55 +27,31 @@ pub struct ByBytes {
 
 impl ByBytes {
     /// Makes a limiter for an empty map without a table.
-    ///
-    /// ```text
-    /// let mut limiter = ByBytes::new(200);
-    /// ```
     pub const fn new(limit: u64) -> ByBytes {
         ByBytes { limit, owned: 0, table: 0 }
     }
 
     /// Returns the same limiter with another limit.
-    ///
-    /// ```text
-    /// assert_eq!(rt; limiter.with_limit(300).limit(), 300);
-    /// ```
     pub const fn with_limit(&self, limit: u64) -> ByBytes {
         ByBytes { limit, owned: self.owned, table: self.table }
     }
 
     /// Returns the same limiter with another number of bytes for the table.
-    ///
-    /// ```text
-    /// assert_eq!(rt; limiter.with_table(0).table(), 0);
-    /// ```
     pub const fn with_table(&self, table: u64) -> ByBytes {
         ByBytes { limit: self.limit, owned: self.owned, table }
     }
 
     /// Returns the limit.
-    ///
-    /// ```text
-    /// assert_eq!(rt; limiter.limit(), 200);
-    /// ```
     pub const fn limit(&self) -> u64 {
         self.limit
     }
 
     /// Returns the bytes that the entries own.
-    ///
-    /// ```text
-    /// assert_eq!(rt; limiter.owned(), 48);
-    /// ```
     pub const fn owned(&self) -> u64 {
         self.owned
     }
 
     /// Returns the bytes of the table that the limiter permitted last.
-    ///
-    /// ```text
-    /// assert_eq!(rt; limiter.table(), 152);
-    /// ```
     pub const fn table(&self) -> u64 {
         self.table
     }

@@ -12,12 +12,6 @@ use crate::erased::lru_limits::limiter::Limiter;
 /// `u64::MAX`. After `ByCost` accepts an entry, the map evicts its oldest entries until the sum of the costs is within
 /// the limit.
 ///
-/// ```text
-/// let mut limiter = ByCost::new(3);
-/// assert!(rt; limiter.admit(0, &1u64, &2u64) && !limiter.admit(1, &2u64, &4u64));
-/// assert_eq!(rt; limiter.cost(), 2);
-/// ```
-///
 /// Cost: each callback reads the cost of each of its values once, and takes no memory.
 #[derive(Clone, Copy, Debug)]
 pub struct ByCost {
@@ -27,10 +21,6 @@ pub struct ByCost {
 
 impl ByCost {
     /// Makes a limiter with this limit.
-    ///
-    /// ```text
-    /// let mut limiter = ByCost::new(3);
-    /// ```
     pub const fn new(limit: u64) -> ByCost {
         ByCost { limit, cost: 0 }
     }
@@ -38,29 +28,16 @@ impl ByCost {
     /// Returns the same limiter with another limit. The sum stays.
     ///
     /// `map.set_limiter(map.limiter().with_limit(n))` sets the limit of a map.
-    ///
-    /// ```text
-    /// let lower = limiter.with_limit(1);
-    /// assert_eq!(rt; (lower.limit(), lower.cost()), (1, 2));
-    /// ```
     pub const fn with_limit(&self, limit: u64) -> ByCost {
         ByCost { limit, cost: self.cost }
     }
 
     /// Returns the limit.
-    ///
-    /// ```text
-    /// assert_eq!(rt; limiter.limit(), 3);
-    /// ```
     pub const fn limit(&self) -> u64 {
         self.limit
     }
 
     /// Returns the sum of the costs.
-    ///
-    /// ```text
-    /// assert_eq!(rt; limiter.cost(), 2);
-    /// ```
     pub const fn cost(&self) -> u64 {
         self.cost
     }

@@ -12,12 +12,6 @@ use crate::erased::lru_limits::limiter::Limiter;
 /// `ByWeight` rejects an entry, or its new value, if the entry alone costs more than the limit, or if the sum would
 /// pass `u64::MAX`.
 ///
-/// ```text
-/// let mut limiter: ByWeight<16> = ByWeight::new(100);
-/// assert!(rt; limiter.admit(0, &1u64, &2u64) && !limiter.admit(1, &80u64, &5u64));
-/// assert_eq!(rt; limiter.cost(), 19);
-/// ```
-///
 /// Cost: each callback reads the cost of its keys and values at most twice, and takes no memory.
 #[derive(Clone, Copy, Debug)]
 pub struct ByWeight<const OVERHEAD: u64> {
@@ -27,38 +21,21 @@ pub struct ByWeight<const OVERHEAD: u64> {
 
 impl<const OVERHEAD: u64> ByWeight<OVERHEAD> {
     /// Makes a limiter with this limit.
-    ///
-    /// ```text
-    /// let mut limiter: ByWeight<16> = ByWeight::new(100);
-    /// ```
     pub const fn new(limit: u64) -> ByWeight<OVERHEAD> {
         ByWeight { limit, cost: 0 }
     }
 
     /// Returns the same limiter with another limit. The sum stays.
-    ///
-    /// ```text
-    /// let lower = limiter.with_limit(10);
-    /// assert_eq!(rt; (lower.limit(), lower.cost()), (10, 19));
-    /// ```
     pub const fn with_limit(&self, limit: u64) -> ByWeight<OVERHEAD> {
         ByWeight { limit, cost: self.cost }
     }
 
     /// Returns the limit.
-    ///
-    /// ```text
-    /// assert_eq!(rt; limiter.limit(), 100);
-    /// ```
     pub const fn limit(&self) -> u64 {
         self.limit
     }
 
     /// Returns the sum of the costs.
-    ///
-    /// ```text
-    /// assert_eq!(rt; limiter.cost(), 19);
-    /// ```
     pub const fn cost(&self) -> u64 {
         self.cost
     }

@@ -9,11 +9,6 @@ use crate::erased::group_table::Table;
 ///
 /// A block counts as its bytes rounded up to a multiple of 16, plus 16 for the allocator. The GNU allocator takes at
 /// most this number, except for very large blocks, which it maps page by page.
-///
-/// ```text
-/// let block: Vec<u8> = Vec::with_capacity(alloc, 17)?;
-/// assert_eq!(rt; (block.owned_bytes(), 7u64.owned_bytes()), (48, 0));
-/// ```
 pub trait OwnedBytes {
     /// Returns the bytes that the value owns.
     fn owned_bytes(&self) -> u64;

@@ -16,13 +16,6 @@ use crate::erased::lru_limits::limiter::Limiter;
 /// Put a limiter by cost first, because `Both` uses the link type and the running total of the first limiter.
 /// `map.limiter().0` is the first limiter.
 ///
-/// ```text
-/// let mut limiter = Both(ByCost::new(9), ByLength::new(3));
-/// assert!(rt; Limiter::<u64, u64>::is_over_the_limit(&limiter, 4));
-/// assert!(rt; !limiter.admit(0, &1u64, &10u64) && limiter.0.cost() == 0);
-/// assert!(rt; limiter.admit(0, &1u64, &8u64) && limiter.0.cost() == 8);
-/// ```
-///
 /// Cost: each callback calls at most two callbacks of each limiter, and takes no memory itself.
 #[derive(Clone, Copy, Debug)]
 pub struct Both<A, B>(pub A, pub B);

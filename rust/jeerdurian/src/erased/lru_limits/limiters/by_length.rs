@@ -11,12 +11,6 @@ use crate::erased::lru_limits::limiter::Limiter;
 /// `limiter_mut`, the map may have more entries until a `trim`, or until `ByLength` accepts an insert or an update.
 /// `ByLength` rejects an entry only if `max_length` is 0.
 ///
-/// ```text
-/// let limiter = ByLength::new(3);
-/// assert!(rt; !Limiter::<u64, u64>::is_over_the_limit(&limiter, 3));
-/// assert!(rt; Limiter::<u64, u64>::is_over_the_limit(&limiter, 4));
-/// ```
-///
 /// Cost: `O(1)` for each callback, and no memory.
 #[derive(Clone, Copy, Debug)]
 #[repr(transparent)]
@@ -26,20 +20,11 @@ pub struct ByLength {
 
 impl ByLength {
     /// Makes a limiter with a limit of `max_length` entries.
-    ///
-    /// ```text
-    /// let limiter = ByLength::new(3);
-    /// ```
     pub const fn new(max_length: u32) -> ByLength {
         ByLength { max_length }
     }
 
     /// Returns the limit.
-    ///
-    /// ```text
-    /// let limiter = ByLength::new(3);
-    /// assert_eq!(rt; limiter.max_length(), 3);
-    /// ```
     pub const fn max_length(&self) -> u32 {
         self.max_length
     }

@@ -11,12 +11,6 @@ use crate::erased::lru_limits::limiter::Limiter;
 /// insert evicts the oldest entries. The limiter counts neither the old table, which exists during a growth, nor what
 /// keys and values own.
 ///
-/// ```text
-/// let mut limiter = ByMemoryUsage::new(152);
-/// assert!(rt; Limiter::<u64, u64>::on_grow(&mut limiter, 152));
-/// assert!(rt; !Limiter::<u64, u64>::on_grow(&mut limiter, 153));
-/// ```
-///
 /// Cost: `O(1)` for each callback, and no memory.
 #[derive(Clone, Copy, Debug)]
 #[repr(transparent)]
@@ -26,19 +20,11 @@ pub struct ByMemoryUsage {
 
 impl ByMemoryUsage {
     /// Makes a limiter that permits tables of at most `max_bytes` bytes.
-    ///
-    /// ```text
-    /// let mut limiter = ByMemoryUsage::new(152);
-    /// ```
     pub const fn new(max_bytes: usize) -> ByMemoryUsage {
         ByMemoryUsage { max_bytes }
     }
 
     /// Returns the limit.
-    ///
-    /// ```text
-    /// assert_eq!(rt; limiter.max_memory_usage(), 152);
-    /// ```
     pub const fn max_memory_usage(&self) -> usize {
         self.max_bytes
     }

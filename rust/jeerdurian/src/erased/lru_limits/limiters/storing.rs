@@ -9,11 +9,6 @@ use crate::erased::lru_limits::limiter::Limiter;
 ///
 /// Put your [`Limiter`] into a map as `Storing(limiter)`, which implements [`Admission`]. `map.limiter().0` is your
 /// limiter.
-///
-/// ```text
-/// let limiter = Storing(ByLength::new(3));
-/// assert!(rt; Limiter::<u64, u64>::is_over_the_limit(&limiter, 4));
-/// ```
 #[derive(Clone, Copy, Debug, Default)]
 pub struct Storing<L>(pub L);
 

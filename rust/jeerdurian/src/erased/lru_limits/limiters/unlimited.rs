@@ -6,10 +6,6 @@ use crate::erased::lru_limits::admission::Admission;
 use crate::erased::lru_limits::limiter::Limiter;
 
 /// Limits nothing. A map under `Unlimited` is an ordered hash map.
-///
-/// ```text
-/// assert!(rt; !Limiter::<u64, u64>::is_over_the_limit(&Unlimited, usize::MAX));
-/// ```
 #[derive(Clone, Copy, Debug, Default)]
 pub struct Unlimited;
 

@@ -7,10 +7,6 @@ use crate::erased::lru_limits::limiter::Limiter;
 
 /// Sets no limit, but its links of 32 bits permit at most 1,879,048,192 entries. Buckets are smaller than under
 /// `Unlimited`.
-///
-/// ```text
-/// assert!(rt; !Limiter::<u64, u64>::is_over_the_limit(&UnlimitedCompact, usize::MAX));
-/// ```
 #[derive(Clone, Copy, Debug, Default)]
 pub struct UnlimitedCompact;
 

@@ -14,20 +14,12 @@ impl<N: Eq + Hash + OwnedBytes, K: Eq + Hash + OwnedBytes, V: OwnedBytes, S: Key
 {
     /// Returns how many tenants are open.
     ///
-    /// ```text
-    /// assert_eq!(rt; bytes.len(), 1);
-    /// ```
-    ///
     /// Cost: `O(1)`.
     pub fn len(&self) -> usize {
         self.tenants.len()
     }
 
     /// Returns the limit of all bytes.
-    ///
-    /// ```text
-    /// assert_eq!(rt; bytes.limit(), 4000);
-    /// ```
     ///
     /// Cost: `O(1)`.
     pub fn limit(&self) -> u64 {
@@ -37,10 +29,6 @@ impl<N: Eq + Hash + OwnedBytes, K: Eq + Hash + OwnedBytes, V: OwnedBytes, S: Key
     /// Returns how many bytes are left for the limit and the name of one more tenant, if the table of tenants does not
     /// grow.
     ///
-    /// ```text
-    /// assert!(rt; bytes.left() < 3500);
-    /// ```
-    ///
     /// Cost: `O(1)`.
     pub fn left(&self) -> u64 {
         let table = self.tenants.memory_usage() as u64;
@@ -49,10 +37,6 @@ impl<N: Eq + Hash + OwnedBytes, K: Eq + Hash + OwnedBytes, V: OwnedBytes, S: Key
     }
 
     /// Returns a tenant's value of a key. The order stays.
-    ///
-    /// ```text
-    /// assert_eq!(rt; bytes.peek(&1, &7), Ok(Some(&2)));
-    /// ```
     ///
     /// Cost: `O(1)` expected.
     ///
@@ -71,10 +55,6 @@ impl<N: Eq + Hash + OwnedBytes, K: Eq + Hash + OwnedBytes, V: OwnedBytes, S: Key
     ByteTenants<N, K, V, S>
 {
     /// Returns a tenant's value of a key, and makes its entry the tenant's newest.
-    ///
-    /// ```text
-    /// assert_eq!(rt; bytes.get(&1, &7), Ok(Some(&2)));
-    /// ```
     ///
     /// Cost: `O(1)` expected.
     ///

@@ -18,10 +18,6 @@ use crate::rattle_std::hash::Hash;
 impl<N: Eq + Hash, K: Eq + Hash, V, L: Budgeted<K, V>, S: KeyHasher<K> + Copy> TenantCache<N, K, V, Counting<L>, S> {
     /// Returns the counts of a tenant since it was opened, or since its last `take_counts`.
     ///
-    /// ```text
-    /// assert_eq!(rt; counted.counts(&1)?.insertions, 1);
-    /// ```
-    ///
     /// Cost: `O(1)` expected.
     ///
     /// # Errors
@@ -38,12 +34,6 @@ impl<N: Eq + Hash, K: Eq + Hash, V, L: Budgeted<K, V>, S: KeyHasher<K> + Copy> T
     ///
     /// So you can count other calls, with the calls of [`Counts`].
     ///
-    /// ```text
-    /// let mut counts = counted.counts(&1)?;
-    /// counts.count_look_up(false);
-    /// assert_eq!(rt; (counted.set_counts(&1, counts), counted.counts(&1)), (Ok(()), Ok(counts)));
-    /// ```
-    ///
     /// Cost: `O(1)` expected.
     ///
     /// # Errors
@@ -58,11 +48,6 @@ impl<N: Eq + Hash, K: Eq + Hash, V, L: Budgeted<K, V>, S: KeyHasher<K> + Copy> T
     }
 
     /// Returns the counts of a tenant, and sets them to zeros.
-    ///
-    /// ```text
-    /// assert_eq!(rt; counted.take_counts(&1)?.insertions, 1);
-    /// assert_eq!(rt; counted.counts(&1), Ok(Counts::default()));
-    /// ```
     ///
     /// Cost: `O(1)` expected.
     ///
@@ -79,11 +64,6 @@ impl<N: Eq + Hash, K: Eq + Hash, V, L: Budgeted<K, V>, S: KeyHasher<K> + Copy> T
     }
 
     /// Does what `get` does, and counts a hit or a miss.
-    ///
-    /// ```text
-    /// assert_eq!(rt; counted.get_counted(&1, &7), Ok(Some(&2)));
-    /// assert_eq!(rt; counted.counts(&1)?.hits, 1);
-    /// ```
     ///
     /// Cost: `O(1)` expected.
     ///
@@ -108,12 +88,6 @@ impl<N: Eq + Hash, K: Eq + Hash, V, L: Budgeted<K, V>, S: KeyHasher<K> + Copy> T
 impl<N: Eq + Hash, K: Eq + Hash, V, L: Budgeted<K, V>, S: KeyHasher<K> + Copy> TenantCache<N, K, V, Counting<L>, S> {
     /// Does what `put` does, and counts an insertion or a rejection, and the evictions.
     ///
-    /// ```text
-    /// assert_eq!(rt; (counted.put_counted(&1, 8, 2), counted.put_counted(&1, 9, 4)), (Ok(true), Ok(false)));
-    /// let counts = counted.counts(&1)?;
-    /// assert_eq!(rt; (counts.insertions, counts.rejections, counts.evictions), (2, 1, 1));
-    /// ```
-    ///
     /// Cost: as `put`, plus a search.
     ///
     /// # Errors
@@ -127,13 +101,6 @@ impl<N: Eq + Hash, K: Eq + Hash, V, L: Budgeted<K, V>, S: KeyHasher<K> + Copy> T
     }
 
     /// Does what `get_or_put` does, and counts a hit, or a miss and then what `put_counted` counts.
-    ///
-    /// ```text
-    /// assert_eq!(rt; counted.get_or_put_counted(&1, 7, || 3), Ok(Some(&2)));
-    /// assert_eq!(rt; counted.get_or_put_counted(&1, 8, || 2), Ok(Some(&2)));
-    /// let counts = counted.counts(&1)?;
-    /// assert_eq!(rt; (counts.hits, counts.misses, counts.insertions, counts.evictions), (1, 1, 2, 1));
-    /// ```
     ///
     /// Cost: as `get` if the key is there, else as `put`, plus a search.
     ///

@@ -15,11 +15,6 @@ impl<N: Eq + Hash, K: Eq + Hash, V, L: Budgeted<K, V>, S: KeyHasher<K> + Copy> T
     ///
     /// `None` means that the tenant does not keep the new entry.
     ///
-    /// ```text
-    /// assert_eq!(rt; cache.get_or_put(&1, 7, || 3), Ok(Some(&2)));
-    /// assert_eq!(rt; cache.get_or_put(&1, 8, || 1), Ok(Some(&1)));
-    /// ```
-    ///
     /// Cost: as `get` if the key is there, else as `put`.
     ///
     /// # Errors

@@ -14,12 +14,6 @@ use crate::rattle_std::hash::Hash;
 impl<N: Eq + Hash, K: Eq + Hash, V, L: Budgeted<K, V>, S: KeyHasher<K> + Copy> TenantCache<N, K, V, L, S> {
     /// Does what `put` does, and passes the same entries to the callback as `LruMap::insert_with` does.
     ///
-    /// ```text
-    /// let mut left = 0u64;
-    /// assert_eq!(rt; cache.put_with(&1, 8, 3, &mut |key, _| left = key), Ok(true));
-    /// assert_eq!(rt; left, 7);
-    /// ```
-    ///
     /// Cost: as `put`, plus the calls of the callback.
     ///
     /// # Errors
@@ -45,13 +39,6 @@ impl<N: Eq + Hash, K: Eq + Hash, V, L: Budgeted<K, V>, S: KeyHasher<K> + Copy> T
     /// If the key was there and is not kept, the callback got its entry: with the old value if the limiter rejected the
     /// new value, and otherwise with the new value.
     ///
-    /// ```text
-    /// let replaced = cache.put_full(&1, 7, 3, &mut |_, _| {})?;
-    /// assert_eq!(rt; (replaced.kept, replaced.unkept), (true, Some(2)));
-    /// let rejected = cache.put_full(&1, 8, 9, &mut |_, _| {})?;
-    /// assert_eq!(rt; (rejected.kept, rejected.unkept), (false, Some(9)));
-    /// ```
-    ///
     /// Cost: as `put_with`.
     ///
     /// # Errors
@@ -72,12 +59,6 @@ impl<N: Eq + Hash, K: Eq + Hash, V, L: Budgeted<K, V>, S: KeyHasher<K> + Copy> T
     }
 
     /// Does what `set_budget` does, and passes each evicted entry to the callback, oldest first.
-    ///
-    /// ```text
-    /// let mut evicted = 0u64;
-    /// assert_eq!(rt; cache.set_budget_with(&1, 1, &mut |key, _| evicted = key), Ok(()));
-    /// assert_eq!(rt; evicted, 7);
-    /// ```
     ///
     /// Cost: as `set_budget`, plus the calls of the callback.
     ///
@@ -104,12 +85,6 @@ impl<N: Eq + Hash, K: Eq + Hash, V, L: Budgeted<K, V>, S: KeyHasher<K> + Copy> T
     }
 
     /// Does what `close` does, and passes each entry to the callback, oldest first.
-    ///
-    /// ```text
-    /// let mut last = 0u64;
-    /// assert_eq!(rt; cache.close_with(&1, &mut |key, _| last = key), Ok(1));
-    /// assert_eq!(rt; last, 7);
-    /// ```
     ///
     /// Cost: `O(1)` for each entry, with one call of the callback.
     ///

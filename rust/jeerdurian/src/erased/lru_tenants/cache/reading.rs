@@ -13,10 +13,6 @@ impl<N: Eq + Hash, K: Eq + Hash, V, L: Budgeted<K, V>, S: KeyHasher<K> + Copy> T
     ///
     /// The value is lent only for reading, so its cost does not change.
     ///
-    /// ```text
-    /// assert_eq!(rt; cache.get(&1, &7), Ok(Some(&2)));
-    /// ```
-    ///
     /// Cost: `O(1)` expected.
     ///
     /// # Errors
@@ -34,10 +30,6 @@ impl<N: Eq + Hash, K: Eq + Hash, V, L: Budgeted<K, V>, S: KeyHasher<K> + Copy> T
 
     /// Returns a tenant's value of a key. The order stays.
     ///
-    /// ```text
-    /// assert_eq!(rt; cache.peek(&1, &7), Ok(Some(&2)));
-    /// ```
-    ///
     /// Cost: `O(1)` expected.
     ///
     /// # Errors
@@ -51,10 +43,6 @@ impl<N: Eq + Hash, K: Eq + Hash, V, L: Budgeted<K, V>, S: KeyHasher<K> + Copy> T
     }
 
     /// Returns whether a tenant has an entry of a key.
-    ///
-    /// ```text
-    /// assert_eq!(rt; cache.contains(&1, &7), Ok(true));
-    /// ```
     ///
     /// Cost: `O(1)` expected.
     ///
@@ -70,10 +58,6 @@ impl<N: Eq + Hash, K: Eq + Hash, V, L: Budgeted<K, V>, S: KeyHasher<K> + Copy> T
 
     /// Returns an iterator over a tenant's entries, newest first.
     ///
-    /// ```text
-    /// assert!(rt; cache.iter(&1)?.next() == Some((&7, &2)));
-    /// ```
-    ///
     /// Cost: `O(1)` expected, and `O(1)` for each step from either end.
     ///
     /// # Errors
@@ -87,10 +71,6 @@ impl<N: Eq + Hash, K: Eq + Hash, V, L: Budgeted<K, V>, S: KeyHasher<K> + Copy> T
     }
 
     /// Returns how many entries a tenant has.
-    ///
-    /// ```text
-    /// assert_eq!(rt; cache.entries(&1), Ok(1));
-    /// ```
     ///
     /// Cost: `O(1)` expected.
     ///
@@ -106,10 +86,6 @@ impl<N: Eq + Hash, K: Eq + Hash, V, L: Budgeted<K, V>, S: KeyHasher<K> + Copy> T
 
     /// Returns the budget of a tenant.
     ///
-    /// ```text
-    /// assert_eq!(rt; cache.budget(&1), Ok(3));
-    /// ```
-    ///
     /// Cost: `O(1)` expected.
     ///
     /// # Errors
@@ -124,10 +100,6 @@ impl<N: Eq + Hash, K: Eq + Hash, V, L: Budgeted<K, V>, S: KeyHasher<K> + Copy> T
 
     /// Returns the sum of the costs of a tenant's entries.
     ///
-    /// ```text
-    /// assert_eq!(rt; cache.cost(&1), Ok(2));
-    /// ```
-    ///
     /// Cost: `O(1)` expected.
     ///
     /// # Errors
@@ -141,10 +113,6 @@ impl<N: Eq + Hash, K: Eq + Hash, V, L: Budgeted<K, V>, S: KeyHasher<K> + Copy> T
     }
 
     /// Returns the names of the open tenants, in no particular order.
-    ///
-    /// ```text
-    /// assert_eq!(rt; cache.names().next(), Some(&1));
-    /// ```
     ///
     /// Cost: `O(1)`, and `O(1)` for each name.
     pub fn names(&self) -> Keys<'_, N, LruMap<K, V, L, S>, usize> {

@@ -12,10 +12,6 @@ use crate::rattle_std::hash::Hash;
 impl<N: Eq + Hash, K: Eq + Hash, V, L: Budgeted<K, V>, S: KeyHasher<K> + Copy> TenantCache<N, K, V, L, S> {
     /// Removes a key of a tenant. Returns its value.
     ///
-    /// ```text
-    /// assert_eq!(rt; (cache.remove(&1, &7), cache.remove(&1, &7)), (Ok(Some(2)), Ok(None)));
-    /// ```
-    ///
     /// Cost: `O(1)` expected.
     ///
     /// # Errors
@@ -31,11 +27,6 @@ impl<N: Eq + Hash, K: Eq + Hash, V, L: Budgeted<K, V>, S: KeyHasher<K> + Copy> T
     /// Removes a tenant's entries for which the closure returns false. The closure is called with each entry, oldest
     /// first.
     ///
-    /// ```text
-    /// assert_eq!(rt; (cache.put(&1, 8, 1), cache.retain(&1, |key, _| *key == 8)), (Ok(true), Ok(())));
-    /// assert_eq!(rt; (cache.contains(&1, &7), cache.cost(&1)), (Ok(false), Ok(1)));
-    /// ```
-    ///
     /// Cost: `O(n)` for n entries of the tenant.
     ///
     /// # Errors
@@ -50,10 +41,6 @@ impl<N: Eq + Hash, K: Eq + Hash, V, L: Budgeted<K, V>, S: KeyHasher<K> + Copy> T
     }
 
     /// Drops the entries of a tenant, which stays open.
-    ///
-    /// ```text
-    /// assert_eq!(rt; (cache.clear(&1), cache.entries(&1), cache.cost(&1)), (Ok(()), Ok(0), Ok(0)));
-    /// ```
     ///
     /// Cost: as `LruMap::clear`.
     ///

@@ -11,11 +11,6 @@ use crate::rattle_std::hash::Hash;
 impl<N: Eq + Hash, K: Eq + Hash, V, L: Budgeted<K, V>, S: KeyHasher<K> + Copy> TenantCache<N, K, V, L, S> {
     /// Limits the sum of all tenants' budgets. `None` lifts the limit.
     ///
-    /// ```text
-    /// assert_eq!(rt; cache.set_total_limit(Some(5)), Ok(()));
-    /// assert_eq!(rt; cache.open(2, 3), Err(TenantError::OverTotal));
-    /// ```
-    ///
     /// Cost: `O(1)`.
     ///
     /// # Errors
@@ -31,11 +26,6 @@ impl<N: Eq + Hash, K: Eq + Hash, V, L: Budgeted<K, V>, S: KeyHasher<K> + Copy> T
 
     /// Returns the limit of the sum of all tenants' budgets, if there is one.
     ///
-    /// ```text
-    /// assert_eq!(rt; cache.set_total_limit(Some(5)), Ok(()));
-    /// assert_eq!(rt; cache.total_limit(), Some(5));
-    /// ```
-    ///
     /// Cost: `O(1)`.
     pub fn total_limit(&self) -> Option<u64> {
         self.total_limit
@@ -43,20 +33,12 @@ impl<N: Eq + Hash, K: Eq + Hash, V, L: Budgeted<K, V>, S: KeyHasher<K> + Copy> T
 
     /// Returns the sum of the budgets of all tenants.
     ///
-    /// ```text
-    /// assert_eq!(rt; (cache.total_cost(), cache.total_budget()), (2, 3));
-    /// ```
-    ///
     /// Cost: `O(1)`.
     pub fn total_budget(&self) -> u128 {
         self.budgets
     }
 
     /// Returns the sum of the costs of all entries.
-    ///
-    /// ```text
-    /// assert_eq!(rt; (cache.total_cost(), cache.total_budget()), (2, 3));
-    /// ```
     ///
     /// Cost: `O(1)` for each tenant.
     pub fn total_cost(&self) -> u128 {

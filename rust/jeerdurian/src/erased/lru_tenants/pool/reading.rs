@@ -13,20 +13,12 @@ use crate::rattle_std::hash::Hash;
 impl<N: Eq + Hash, K: Eq + Hash, V, L: Budgeted<K, V>, S: KeyHasher<K> + Copy> TenantPool<N, K, V, L, S> {
     /// Returns how many tenants are open.
     ///
-    /// ```text
-    /// assert_eq!(rt; pool.len(), 2);
-    /// ```
-    ///
     /// Cost: `O(1)`.
     pub fn len(&self) -> usize {
         self.tenants.len()
     }
 
     /// Returns whether no tenant is open.
-    ///
-    /// ```text
-    /// assert!(rt; !pool.is_empty());
-    /// ```
     ///
     /// Cost: `O(1)`.
     pub fn is_empty(&self) -> bool {
@@ -35,10 +27,6 @@ impl<N: Eq + Hash, K: Eq + Hash, V, L: Budgeted<K, V>, S: KeyHasher<K> + Copy> T
 
     /// Returns the limit of the total cost.
     ///
-    /// ```text
-    /// assert_eq!(rt; pool.limit(), 5);
-    /// ```
-    ///
     /// Cost: `O(1)`.
     pub fn limit(&self) -> u64 {
         self.limit
@@ -46,20 +34,12 @@ impl<N: Eq + Hash, K: Eq + Hash, V, L: Budgeted<K, V>, S: KeyHasher<K> + Copy> T
 
     /// Returns the sum of the costs of all entries.
     ///
-    /// ```text
-    /// assert_eq!(rt; pool.total_cost(), 2);
-    /// ```
-    ///
     /// Cost: `O(1)`.
     pub fn total_cost(&self) -> u128 {
         self.total
     }
 
     /// Returns the sum of the costs of a tenant's entries.
-    ///
-    /// ```text
-    /// assert_eq!(rt; (pool.cost(&1), pool.cost(&9)), (Ok(2), Err(TenantError::NotOpen)));
-    /// ```
     ///
     /// Cost: `O(1)` expected.
     ///
@@ -75,10 +55,6 @@ impl<N: Eq + Hash, K: Eq + Hash, V, L: Budgeted<K, V>, S: KeyHasher<K> + Copy> T
 
     /// Returns the share of a tenant.
     ///
-    /// ```text
-    /// assert_eq!(rt; pool.share(&1), Ok(3));
-    /// ```
-    ///
     /// Cost: `O(1)` expected.
     ///
     /// # Errors
@@ -92,10 +68,6 @@ impl<N: Eq + Hash, K: Eq + Hash, V, L: Budgeted<K, V>, S: KeyHasher<K> + Copy> T
     }
 
     /// Returns whether a tenant has an entry of a key.
-    ///
-    /// ```text
-    /// assert_eq!(rt; pool.contains(&1, &7), Ok(true));
-    /// ```
     ///
     /// Cost: `O(1)` expected.
     ///
@@ -111,10 +83,6 @@ impl<N: Eq + Hash, K: Eq + Hash, V, L: Budgeted<K, V>, S: KeyHasher<K> + Copy> T
 
     /// Returns a tenant's value of a key. The order stays.
     ///
-    /// ```text
-    /// assert_eq!(rt; pool.peek(&1, &7), Ok(Some(&2)));
-    /// ```
-    ///
     /// Cost: `O(1)` expected.
     ///
     /// # Errors
@@ -128,10 +96,6 @@ impl<N: Eq + Hash, K: Eq + Hash, V, L: Budgeted<K, V>, S: KeyHasher<K> + Copy> T
     }
 
     /// Returns a tenant's value of a key, and makes its entry the tenant's newest.
-    ///
-    /// ```text
-    /// assert_eq!(rt; pool.get(&1, &7), Ok(Some(&2)));
-    /// ```
     ///
     /// Cost: `O(1)` expected.
     ///
@@ -152,10 +116,6 @@ impl<N: Eq + Hash, K: Eq + Hash, V, L: Budgeted<K, V>, S: KeyHasher<K> + Copy> T
 
 impl<N: Eq + Hash, K: Eq + Hash, V, L: Budgeted<K, V>, S: KeyHasher<K> + Copy> TenantPool<N, K, V, L, S> {
     /// Removes a key of a tenant. Returns its value.
-    ///
-    /// ```text
-    /// assert_eq!(rt; (pool.remove(&1, &7), pool.remove(&1, &7)), (Ok(Some(2)), Ok(None)));
-    /// ```
     ///
     /// Cost: `O(1)` expected.
     ///

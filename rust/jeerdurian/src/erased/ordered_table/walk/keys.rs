@@ -9,10 +9,6 @@ use crate::rattle_std::alloc::AllocError;
 use crate::rattle_std::iter::FusedIterator;
 
 /// A double-ended iterator over the keys of a table or a map, newest first.
-///
-/// ```text
-/// assert!(rt; map.keys().next() == Some(&3) && map.keys().next_back() == Some(&1));
-/// ```
 
 pub struct Keys<'a, K, V, N: LinkType> {
     walk: Walk<'a, K, V, N>,
@@ -59,10 +55,6 @@ impl<'a, K, V, N: LinkType> Clone for Keys<'a, K, V, N> {
 }
 
 /// A double-ended iterator over the values of a table or a map, newest first.
-///
-/// ```text
-/// assert!(rt; map.values().next() == Some(&30) && map.values().len() == 3);
-/// ```
 
 pub struct Values<'a, K, V, N: LinkType> {
     walk: Walk<'a, K, V, N>,

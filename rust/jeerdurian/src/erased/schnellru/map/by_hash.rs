@@ -18,12 +18,6 @@ impl<K: Eq + Hash, V, L: Limiter<K, V>, S: KeyHasher<K>> LruMap<K, V, L, S> {
     ///
     /// Cost: `O(1)` expected, including the calls of `is_eq`.
     ///
-    /// ```text
-    /// let hash = RandomState::default().hash_one(&1u64);
-    /// assert_eq!(rt; map.get_by_hash(hash, |key, _| *key == 1).copied(), Some(10));
-    /// assert!(rt; map.peek_newest() == Some((&1, &10)));
-    /// ```
-    ///
     /// Follows schnellru's `LruMap::get_by_hash`.
     #[inline]
     pub fn get_by_hash<F: FnMut(&K, &V) -> bool>(&mut self, hash: u64, is_eq: F) -> Option<&mut V> {
@@ -33,11 +27,6 @@ impl<K: Eq + Hash, V, L: Limiter<K, V>, S: KeyHasher<K>> LruMap<K, V, L, S> {
     }
 
     /// Searches as `get_by_hash` does, and returns the value. The order stays.
-    ///
-    /// ```text
-    /// let hash = RandomState::default().hash_one(&1u64);
-    /// assert_eq!(rt; map.peek_by_hash(hash, |_, value| *value == 10).copied(), Some(10));
-    /// ```
     ///
     /// Cost: as `get_by_hash`.
     ///
@@ -49,14 +38,6 @@ impl<K: Eq + Hash, V, L: Limiter<K, V>, S: KeyHasher<K>> LruMap<K, V, L, S> {
     }
 
     /// Searches as `get_by_hash` does, and lends the value for writing. The order stays.
-    ///
-    /// ```text
-    /// let hash = RandomState::default().hash_one(&1u64);
-    /// if let Some(value) = map.peek_by_hash_mut(hash, |key, _| *key == 1) {
-    ///     *value = 100;
-    /// }
-    /// assert_eq!(rt; map.peek(&1), Some(&100));
-    /// ```
     ///
     /// Cost: as `get_by_hash`.
     ///

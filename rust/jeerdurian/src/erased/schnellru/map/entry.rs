@@ -10,14 +10,6 @@ use crate::rattle_std::hash::Hash;
 
 /// A handle on an entry of a map, which `LruMap::find_entry` has found. No call on the handle searches again.
 ///
-/// ```text
-/// if let Some(mut entry) = map.find_entry(&1) {
-///     *entry.get_mut() = 100;
-///     entry.promote();
-/// }
-/// assert!(rt; map.peek_newest() == Some((&1, &100)));
-/// ```
-///
 /// Follows `OccupiedEntry` of std's `HashMap`.
 
 pub struct OccupiedEntry<'a, K, V, L: Limiter<K, V>, S> {
@@ -27,15 +19,6 @@ pub struct OccupiedEntry<'a, K, V, L: Limiter<K, V>, S> {
 
 impl<K: Eq + Hash, V, L: Limiter<K, V>, S: KeyHasher<K>> LruMap<K, V, L, S> {
     /// Searches for a key, and returns a handle on its entry. The order stays.
-    ///
-    /// ```text
-    /// if let Some(entry) = map.find_entry(&1) {
-    ///     if *entry.get() == 10 {
-    ///         entry.remove_entry();
-    ///     }
-    /// }
-    /// assert!(rt; !map.contains(&1) && map.find_entry(&9).is_none());
-    /// ```
     ///
     /// Cost: `O(1)` expected.
     ///
@@ -47,14 +30,6 @@ impl<K: Eq + Hash, V, L: Limiter<K, V>, S: KeyHasher<K>> LruMap<K, V, L, S> {
     }
 
     /// Searches as `get_by_hash` does, and returns a handle on the entry. The order stays.
-    ///
-    /// ```text
-    /// let hash = RandomState::default().hash_one(&1u64);
-    /// if let Some(mut entry) = map.find_entry_by_hash(hash, |key, _| *key == 1) {
-    ///     entry.promote();
-    /// }
-    /// assert!(rt; map.peek_newest() == Some((&1, &10)));
-    /// ```
     ///
     /// Cost: as `get_by_hash`.
     ///
@@ -73,10 +48,6 @@ impl<K: Eq + Hash, V, L: Limiter<K, V>, S: KeyHasher<K>> LruMap<K, V, L, S> {
 impl<'a, K: Eq + Hash, V, L: Limiter<K, V>, S: KeyHasher<K>> OccupiedEntry<'a, K, V, L, S> {
     /// Returns the stored key, not the equal key that was looked up.
     ///
-    /// ```text
-    /// assert!(rt; map.find_entry(&1).is_some_and(|entry| *entry.key() == 1));
-    /// ```
-    ///
     /// Cost: `O(1)`.
     #[inline]
     pub fn key(&self) -> &K {
@@ -85,10 +56,6 @@ impl<'a, K: Eq + Hash, V, L: Limiter<K, V>, S: KeyHasher<K>> OccupiedEntry<'a, K
 
     /// Returns the value.
     ///
-    /// ```text
-    /// assert!(rt; map.find_entry(&1).is_some_and(|entry| *entry.get() == 10));
-    /// ```
-    ///
     /// Cost: `O(1)`.
     #[inline]
     pub fn get(&self) -> &V {
@@ -96,13 +63,6 @@ impl<'a, K: Eq + Hash, V, L: Limiter<K, V>, S: KeyHasher<K>> OccupiedEntry<'a, K
     }
 
     /// Lends the value for writing. The order stays.
-    ///
-    /// ```text
-    /// if let Some(mut entry) = map.find_entry(&1) {
-    ///     *entry.get_mut() = 100;
-    /// }
-    /// assert!(rt; map.peek_oldest() == Some((&1, &100)));
-    /// ```
     ///
     /// Cost: `O(1)`.
     #[inline]
@@ -113,14 +73,6 @@ impl<'a, K: Eq + Hash, V, L: Limiter<K, V>, S: KeyHasher<K>> OccupiedEntry<'a, K
 
     /// Lends the value for writing, until the loan of the map ends. The order stays.
     ///
-    /// ```text
-    /// if let Some(entry) = map.find_entry(&1) {
-    ///     let value = entry.into_mut();
-    ///     *value = 100;
-    /// }
-    /// assert!(rt; map.peek_oldest() == Some((&1, &100)));
-    /// ```
-    ///
     /// Cost: `O(1)`.
     #[inline]
     pub fn into_mut(self) -> &'a mut V {
@@ -130,13 +82,6 @@ impl<'a, K: Eq + Hash, V, L: Limiter<K, V>, S: KeyHasher<K>> OccupiedEntry<'a, K
 
     /// Makes the entry the newest.
     ///
-    /// ```text
-    /// if let Some(mut entry) = map.find_entry(&1) {
-    ///     entry.promote();
-    /// }
-    /// assert!(rt; map.peek_newest() == Some((&1, &10)));
-    /// ```
-    ///
     /// Cost: `O(1)`.
     #[inline]
     pub fn promote(&mut self) {
@@ -145,24 +90,12 @@ impl<'a, K: Eq + Hash, V, L: Limiter<K, V>, S: KeyHasher<K>> OccupiedEntry<'a, K
 
     /// Makes the entry the oldest.
     ///
-    /// ```text
-    /// if let Some(mut entry) = map.find_entry(&3) {
-    ///     entry.demote();
-    /// }
-    /// assert!(rt; map.peek_oldest() == Some((&3, &30)));
-    /// ```
-    ///
     /// Cost: `O(1)`.
     pub fn demote(&mut self) {
         self.map.demote_at(self.bucket);
     }
 
     /// Removes the entry. Returns the stored key and its value.
-    ///
-    /// ```text
-    /// let removed = map.find_entry(&1).map(|entry| entry.remove_entry());
-    /// assert!(rt; removed == Some((1, 10)) && !map.contains(&1));
-    /// ```
     ///
     /// Cost: `O(1)`.
     // In the contract, `self.exit.0` is the reference to the map.

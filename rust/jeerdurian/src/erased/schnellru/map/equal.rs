@@ -8,11 +8,6 @@ use crate::rattle_std::hash::Hash;
 
 /// Maps are equal if they have equal entries in the same order of use. The limiters, hashers and tables may differ.
 ///
-/// ```text
-/// let other = map.clone()?;
-/// assert!(rt; map == other);
-/// ```
-///
 /// Cost: `O(1)` if the lengths differ, else `O(n)` for n entries.
 ///
 /// Follows `LinkedHashMap` of the crate `hashlink`. A `get` may make equal maps unequal.

@@ -10,11 +10,6 @@ use crate::rattle_std::hash::Hash;
 impl<K: Eq + Hash, V, L: Insertion<K, V, K>, S: KeyHasher<K>> LruMap<K, V, L, S> {
     /// Inserts entries one after another, as `insert` does.
     ///
-    /// ```text
-    /// map.try_extend([(4, 40), (5, 50)])?;
-    /// assert!(rt; map.peek_newest() == Some((&5, &50)));
-    /// ```
-    ///
     /// Cost: as `insert`, for each entry.
     ///
     /// # Errors

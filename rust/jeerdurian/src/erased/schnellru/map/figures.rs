@@ -14,10 +14,6 @@ use crate::rattle_std::hash::Hash;
 impl<K: Eq + Hash, V, L: Limiter<K, V>, S: KeyHasher<K>> LruMap<K, V, L, S> {
     /// Returns the number of entries. Cost: `O(1)`.
     ///
-    /// ```text
-    /// assert_eq!(rt; map.len(), 3);
-    /// ```
-    ///
     /// Follows schnellru's `LruMap::len`.
     #[inline]
     pub fn len(&self) -> usize {
@@ -32,11 +28,6 @@ impl<K: Eq + Hash, V, L: Limiter<K, V>, S: KeyHasher<K>> LruMap<K, V, L, S> {
 
     /// Returns whether the map is empty. Cost: `O(1)`.
     ///
-    /// ```text
-    /// let map: LruMap<u64, u32> = LruMap::with_hasher(alloc, ByLength::new(3), RandomState::default(), 24);
-    /// assert!(rt; map.is_empty() && map.memory_usage() == 0);
-    /// ```
-    ///
     /// Follows schnellru's `LruMap::is_empty`.
     #[inline]
     pub fn is_empty(&self) -> bool {
@@ -47,12 +38,6 @@ impl<K: Eq + Hash, V, L: Limiter<K, V>, S: KeyHasher<K>> LruMap<K, V, L, S> {
     ///
     /// This capacity may fall when an entry is removed from a table of more than 16 buckets. Cost: `O(1)`.
     ///
-    /// ```text
-    /// let mut map: LruMap<u64, u64, UnlimitedCompact> = LruMap::default(alloc);
-    /// assert_eq!(rt; map.try_reserve(7), Ok(()));
-    /// assert_eq!(rt; (map.guaranteed_capacity(), map.len()), (7, 0));
-    /// ```
-    ///
     /// Follows schnellru's `LruMap::guaranteed_capacity`.
     pub fn guaranteed_capacity(&self) -> usize {
         self.entries.len() + self.entries.growth_left()
@@ -62,14 +47,6 @@ impl<K: Eq + Hash, V, L: Limiter<K, V>, S: KeyHasher<K>> LruMap<K, V, L, S> {
     /// `n * entry_bytes` rounded up to a multiple of 16, plus n, plus 16.
     ///
     /// Cost: `O(1)`.
-    ///
-    /// ```text
-    /// let mut map: LruMap<u32, u32, ByMemoryUsage> = LruMap::with_memory_budget(alloc, 84, [1, 2, 3, 4], 16);
-    /// for n in 1..=4 {
-    ///     map.insert(n, n)?;
-    /// }
-    /// assert!(rt; map.len() == 3 && map.memory_usage() == 84 && map.peek(&1).is_none());
-    /// ```
     ///
     /// Follows schnellru's `LruMap::memory_usage`.
     pub fn memory_usage(&self) -> usize {
@@ -82,11 +59,6 @@ impl<K: Eq + Hash, V, L: Limiter<K, V>, S: KeyHasher<K>> LruMap<K, V, L, S> {
 
     /// Returns the greatest `memory_usage` within a budget, for `entry_bytes` bytes per entry, or 0 if no table fits.
     ///
-    /// ```text
-    /// let usage = LruMap::<u32, u32, UnlimitedCompact>::memory_usage_for_memory_budget(512, 16);
-    /// assert_eq!(rt; usage, 288);
-    /// ```
-    ///
     /// Cost: at most 62 steps.
     ///
     /// Follows schnellru's `LruMap::memory_usage_for_memory_budget`.
@@ -96,23 +68,12 @@ impl<K: Eq + Hash, V, L: Limiter<K, V>, S: KeyHasher<K>> LruMap<K, V, L, S> {
 
     /// Returns the limiter. Cost: `O(1)`.
     ///
-    /// ```text
-    /// map.set_limiter(ByLength::new(1));
-    /// assert_eq!(rt; map.limiter().max_length(), 1);
-    /// ```
-    ///
     /// Follows schnellru's `LruMap::limiter`.
     pub fn limiter(&self) -> &L {
         &self.limiter
     }
 
     /// Returns the hasher of the map. `map.hasher().hash_named(&key)` returns the hash of a key. Cost: `O(1)`.
-    ///
-    /// ```text
-    /// let hash = map.hasher().hash_named(&5);
-    /// let inserted = map.insert_hashed(hash, 5, 50, &mut |_, _| {})?;
-    /// assert!(rt; inserted.kept);
-    /// ```
     ///
     /// Follows std's `HashMap::hasher`.
     pub fn hasher(&self) -> &S {
@@ -124,13 +85,6 @@ impl<K: Eq + Hash, V, L: Limiter<K, V>, S: KeyHasher<K>> LruMap<K, V, L, S> {
     ///
     /// Do not write a limiter with another running total. `*map.limiter_mut() = ByCost::new(n)` would count the stored
     /// entries as 0. To change the limit, call `set_limiter` with `map.limiter().with_limit(n)`.
-    ///
-    /// ```text
-    /// *map.limiter_mut() = ByLength::new(1);
-    /// assert_eq!(rt; map.len(), 3);
-    /// map.insert(4, 40)?;
-    /// assert_eq!(rt; map.len(), 1);
-    /// ```
     ///
     /// Cost: `O(1)`.
     ///

@@ -38,14 +38,6 @@ impl<K: Eq + Hash, V, L: Limiter<K, V>, S: KeyHasher<K>> LruMap<K, V, L, S> {
     ///
     /// If the result is true, `newest_mut` lends the value.
     ///
-    /// ```text
-    /// if map.ensure_newest(1, || 0)? {
-    ///     if let Some(count) = map.newest_mut() {
-    ///         *count = count.saturating_add(1);
-    ///     }
-    /// }
-    /// ```
-    ///
     /// Cost: as `get` if the key is there, else as `insert`.
     ///
     /// # Errors
@@ -104,11 +96,6 @@ impl<K: Eq + Hash, V, L: Limiter<K, V>, S: KeyHasher<K>> LruMap<K, V, L, S> {
     /// map afterwards, the result is `None`. A caller's proof cannot use the clause `writes_back`, so proved code calls
     /// `ensure_newest` and `newest_mut` instead.
     ///
-    /// ```text
-    /// assert_eq!(rt; map.get_or_insert(1, || 10)?.copied(), Some(10));
-    /// assert_eq!(rt; map.get_or_insert(1, || 20)?.copied(), Some(10));
-    /// ```
-    ///
     /// Cost: as `get` if the key is there, else as `insert`.
     ///
     /// # Errors
@@ -129,13 +116,6 @@ impl<K: Eq + Hash, V, L: Limiter<K, V>, S: KeyHasher<K>> LruMap<K, V, L, S> {
     }
 
     /// Does what `ensure_newest` does, with a closure that may fail. Cost: as `ensure_newest`.
-    ///
-    /// ```text
-    /// assert!(rt; map.ensure_newest_fallible(4, || Err(7u8)).is_err());
-    /// assert!(rt; map.peek(&4).is_none());
-    /// assert!(rt; map.ensure_newest_fallible(4, || Ok::<u64, u8>(40))?);
-    /// assert!(rt; map.peek_newest() == Some((&4, &40)));
-    /// ```
     ///
     /// # Errors
     ///
@@ -195,12 +175,6 @@ impl<K: Eq + Hash, V, L: Limiter<K, V>, S: KeyHasher<K>> LruMap<K, V, L, S> {
     }
 
     /// Does what `get_or_insert` does, with a closure that may fail. Cost: as `get_or_insert`.
-    ///
-    /// ```text
-    /// assert!(rt; map.get_or_insert_fallible(5, || Err(7u8)).is_err());
-    /// assert!(rt; map.peek(&5).is_none());
-    /// assert_eq!(rt; map.get_or_insert_fallible(5, || Ok::<u64, u8>(50))?.copied(), Some(50));
-    /// ```
     ///
     /// # Errors
     ///

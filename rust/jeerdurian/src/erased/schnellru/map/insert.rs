@@ -24,12 +24,6 @@ impl<K: Eq + Hash, V, L: Limiter<K, V>, S: KeyHasher<K>> LruMap<K, V, L, S> {
     /// At the end, if the key is in the map, the oldest entries are evicted while the limiter is over its limit. A
     /// replaced value is dropped before anything is evicted.
     ///
-    /// ```text
-    /// assert!(rt; map.insert(1, 10)?);
-    /// assert!(rt; map.insert(1, 20)?);
-    /// assert_eq!(rt; map.peek(&1), Some(&20));
-    /// ```
-    ///
     /// Cost: `O(1)` expected, amortised over the inserts. An insert that grows or rehashes the table moves all entries.
     /// All inserts together move at most two entries for each new entry, plus one for each entry that a shrink
     /// rehashed.
@@ -59,12 +53,6 @@ impl<K: Eq + Hash, V, L: Limiter<K, V>, S: KeyHasher<K>> LruMap<K, V, L, S> {
     ///
     /// The callback gets each such entry once, even if the result is an `Err`. Only tests show that the callback gets
     /// an entry before the limiter is called again. The callback does not get a replaced value.
-    ///
-    /// ```text
-    /// let mut left = None;
-    /// map.insert_with(4, 40, &mut |key, value| left = Some((key, value)))?;
-    /// assert_eq!(rt; left, Some((1, 10)));
-    /// ```
     ///
     /// Cost: as `insert`, plus the calls of the callback.
     ///
@@ -122,11 +110,6 @@ impl<K: Eq + Hash, V, L: Limiter<K, V>, S: KeyHasher<K>> LruMap<K, V, L, S> {
     /// If the key is there, the limiter consumes the offered key. If `on_insert` rejects the entry or runs out of
     /// memory, the limiter consumes the key and the value.
     ///
-    /// ```text
-    /// let inserted = map.insert_full(1, 11, &mut |_, _| {})?;
-    /// assert_eq!(rt; (inserted.kept, inserted.unkept), (true, Some(10)));
-    /// ```
-    ///
     /// Cost: as `insert_with`.
     ///
     /// # Errors
@@ -151,12 +134,6 @@ impl<K: Eq + Hash, V, L: Limiter<K, V>, S: KeyHasher<K>> LruMap<K, V, L, S> {
     /// Does what `insert_full` does, but gets the hash of the key from the caller.
     ///
     /// The hash must be the result of `map.hasher().hash_named(&key)`. The prover checks this.
-    ///
-    /// ```text
-    /// let hash = map.hasher().hash_named(&5);
-    /// let inserted = map.insert_hashed(hash, 5, 50, &mut |_, _| {})?;
-    /// assert!(rt; inserted.kept);
-    /// ```
     ///
     /// Cost: as `insert_full`, without hashing.
     ///
@@ -186,14 +163,6 @@ impl<K: Eq + Hash, V, L: Limiter<K, V>, S: KeyHasher<K>> LruMap<K, V, L, S> {
     /// `insert` returns. The callback gets what `insert_with` passes.
     ///
     /// The prover checks that the key is absent. Rust does not, so a map may contain a key twice.
-    ///
-    /// ```text
-    /// let hash = map.hasher().hash_named(&5);
-    /// if map.peek_key_value(&5).is_none() {
-    ///     map.insert_absent(hash, 5, 50, &mut |_, _| {})?;
-    /// }
-    /// assert!(rt; map.peek_newest() == Some((&5, &50)));
-    /// ```
     ///
     /// Cost: as `insert_hashed`, without the search.
     ///

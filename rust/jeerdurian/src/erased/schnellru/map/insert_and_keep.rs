@@ -11,11 +11,6 @@ use crate::rattle_std::hash::Hash;
 impl<K: Eq + Hash, V, L: Limiter<K, V>, S: KeyHasher<K>> LruMap<K, V, L, S> {
     /// Returns the result of `insert_with`, and the entries that it passes to its callback.
     ///
-    /// ```text
-    /// let (done, left) = map.insert_and_keep(4, 40)?;
-    /// assert!(rt; done == Ok(true) && left.as_slice() == [(1, 10)].as_slice());
-    /// ```
-    ///
     /// Cost: as `insert`, and memory for n + 1 entries if the map contains n, even if nothing is evicted. If the map is
     /// large, call `insert_with`.
     ///

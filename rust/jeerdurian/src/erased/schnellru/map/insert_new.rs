@@ -68,7 +68,8 @@ impl<K: Eq + Hash, V, L: Limiter<K, V>, S: KeyHasher<K>> LruMap<K, V, L, S> {
 
     fn insert_pair<F: FnMut(K, V)>(&mut self, hash: u64, pair: (K, V), sink: &mut F) -> Result<bool, AllocError> {
         self.settle();
-        self.make_room(sink);
+        let mut pair = pair;
+        self.holding(&mut pair, |map| map.make_room(sink));
         // `insert_without_growth` takes a key and a value. If it took a pair, each insert would first clear memory for
         // it.
         let (key, value) = pair;

@@ -11,13 +11,6 @@ impl<K: Eq + Hash, V, L: Limiter<K, V>, S: KeyHasher<K>> LruMap<K, V, L, S> {
     ///
     /// A `&str` looks up a `String` key: `map.get(&"a")`.
     ///
-    /// ```text
-    /// if let Some(value) = map.get(&1) {
-    ///     *value = 100;
-    /// }
-    /// assert!(rt; map.peek_newest() == Some((&1, &100)));
-    /// ```
-    ///
     /// Cost: `O(1)` expected.
     ///
     /// Follows schnellru's `LruMap::get`.
@@ -32,11 +25,6 @@ impl<K: Eq + Hash, V, L: Limiter<K, V>, S: KeyHasher<K>> LruMap<K, V, L, S> {
     ///
     /// The returned key is the stored key.
     ///
-    /// ```text
-    /// assert!(rt; map.get_key_value(&1) == Some((&1, &10)));
-    /// assert!(rt; map.peek_newest() == Some((&1, &10)));
-    /// ```
-    ///
     /// Cost: `O(1)` expected.
     ///
     /// Follows `get_key_value` of the crate `lru`.
@@ -48,11 +36,6 @@ impl<K: Eq + Hash, V, L: Limiter<K, V>, S: KeyHasher<K>> LruMap<K, V, L, S> {
     }
 
     /// Makes the entry of a key the newest, and returns whether the key is there.
-    ///
-    /// ```text
-    /// assert!(rt; map.promote(&1) && !map.promote(&9));
-    /// assert!(rt; map.peek_newest() == Some((&1, &10)));
-    /// ```
     ///
     /// Cost: `O(1)` expected.
     ///
@@ -70,11 +53,6 @@ impl<K: Eq + Hash, V, L: Limiter<K, V>, S: KeyHasher<K>> LruMap<K, V, L, S> {
 
     /// Makes the entry of a key the oldest, and returns whether the key is there.
     ///
-    /// ```text
-    /// assert!(rt; map.demote(&3) && !map.demote(&9));
-    /// assert!(rt; map.peek_oldest() == Some((&3, &30)));
-    /// ```
-    ///
     /// Cost: `O(1)` expected.
     ///
     /// Follows `demote` of the crate `lru`.
@@ -91,12 +69,6 @@ impl<K: Eq + Hash, V, L: Limiter<K, V>, S: KeyHasher<K>> LruMap<K, V, L, S> {
     /// Lends the value of the newest entry for writing.
     ///
     /// If `ensure_newest` has just returned true, this is the value of its key. Cost: `O(1)`.
-    ///
-    /// ```text
-    /// if let Some(count) = map.newest_mut() {
-    ///     *count = count.saturating_add(1);
-    /// }
-    /// ```
     #[inline]
     pub fn newest_mut(&mut self) -> Option<&mut V> {
         if self.is_empty() {
@@ -114,10 +86,6 @@ impl<K: Eq + Hash, V, L: Limiter<K, V>, S: KeyHasher<K>> LruMap<K, V, L, S> {
 
     /// Returns whether a key is in the map.
     ///
-    /// ```text
-    /// assert!(rt; map.contains(&1) && !map.contains(&9));
-    /// ```
-    ///
     /// Cost: `O(1)` expected.
     ///
     /// Follows `contains` of the crate `lru`.
@@ -130,10 +98,6 @@ impl<K: Eq + Hash, V, L: Limiter<K, V>, S: KeyHasher<K>> LruMap<K, V, L, S> {
     ///
     /// Cost: `O(1)` expected.
     ///
-    /// ```text
-    /// assert_eq!(rt; map.peek(&1), Some(&10));
-    /// ```
-    ///
     /// Follows schnellru's `LruMap::peek`.
     #[inline]
     pub fn peek<Q: LookupKey<K>>(&self, key: &Q) -> Option<&V> {
@@ -142,10 +106,6 @@ impl<K: Eq + Hash, V, L: Limiter<K, V>, S: KeyHasher<K>> LruMap<K, V, L, S> {
     }
 
     /// Returns the entry of a key.
-    ///
-    /// ```text
-    /// assert!(rt; map.peek_key_value(&1) == Some((&1, &10)));
-    /// ```
     ///
     /// Cost: `O(1)` expected.
     ///
@@ -158,13 +118,6 @@ impl<K: Eq + Hash, V, L: Limiter<K, V>, S: KeyHasher<K>> LruMap<K, V, L, S> {
 
     /// Lends the value of a key for writing. The order stays.
     ///
-    /// ```text
-    /// if let Some(value) = map.peek_mut(&1) {
-    ///     *value = 100;
-    /// }
-    /// assert!(rt; map.peek_oldest() == Some((&1, &100)));
-    /// ```
-    ///
     /// Cost: `O(1)` expected.
     ///
     /// Follows schnellru's `LruMap::peek_mut`.
@@ -175,10 +128,6 @@ impl<K: Eq + Hash, V, L: Limiter<K, V>, S: KeyHasher<K>> LruMap<K, V, L, S> {
     }
 
     /// Returns the oldest entry.
-    ///
-    /// ```text
-    /// assert!(rt; map.peek_oldest() == Some((&1, &10)));
-    /// ```
     ///
     /// Cost: `O(1)`.
     ///
@@ -191,10 +140,6 @@ impl<K: Eq + Hash, V, L: Limiter<K, V>, S: KeyHasher<K>> LruMap<K, V, L, S> {
     }
 
     /// Returns the newest entry.
-    ///
-    /// ```text
-    /// assert!(rt; map.peek_newest() == Some((&3, &30)));
-    /// ```
     ///
     /// Cost: `O(1)`.
     ///

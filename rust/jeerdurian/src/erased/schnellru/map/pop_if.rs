@@ -13,11 +13,6 @@ impl<K: Eq + Hash, V, L: Limiter<K, V>, S: KeyHasher<K>> LruMap<K, V, L, S> {
     /// If each use writes the time into the value, `while map.pop_oldest_if(..).is_some() {}` removes the entries that
     /// were not used since a given time.
     ///
-    /// ```text
-    /// assert_eq!(rt; map.pop_oldest_if(|key, _| *key == 9), None);
-    /// assert_eq!(rt; map.pop_oldest_if(|key, _| *key == 1), Some((1, 10)));
-    /// ```
-    ///
     /// Cost: `O(1)`, and one call of the closure.
     ///
     /// Follows std's `Vec::pop_if`.
@@ -31,11 +26,6 @@ impl<K: Eq + Hash, V, L: Limiter<K, V>, S: KeyHasher<K>> LruMap<K, V, L, S> {
     }
 
     /// Removes and returns the oldest entry if the closure succeeds for it. Returns `Ok(None)` if the map is empty.
-    ///
-    /// ```text
-    /// assert_eq!(rt; map.try_pop_oldest(|_, _| Err(7u8)), Err(7));
-    /// assert_eq!(rt; map.try_pop_oldest(|_, _| -> Result<(), u8> { Ok(()) }), Ok(Some((1, 10))));
-    /// ```
     ///
     /// Cost: `O(1)`, and one call of the closure.
     ///

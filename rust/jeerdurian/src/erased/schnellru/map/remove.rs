@@ -12,10 +12,6 @@ use crate::rattle_std::hash::Hash;
 impl<K: Eq + Hash, V, L: Limiter<K, V>, S: KeyHasher<K>> LruMap<K, V, L, S> {
     /// Removes and returns the oldest entry, if there is one.
     ///
-    /// ```text
-    /// assert_eq!(rt; map.pop_oldest(), Some((1, 10)));
-    /// ```
-    ///
     /// Cost: `O(1)`.
     ///
     /// Follows schnellru's `LruMap::pop_oldest`.
@@ -30,10 +26,6 @@ impl<K: Eq + Hash, V, L: Limiter<K, V>, S: KeyHasher<K>> LruMap<K, V, L, S> {
 
     /// Removes and returns the newest entry, if there is one.
     ///
-    /// ```text
-    /// assert_eq!(rt; map.pop_newest(), Some((3, 30)));
-    /// ```
-    ///
     /// Cost: `O(1)`.
     ///
     /// Follows schnellru's `LruMap::pop_newest`.
@@ -47,11 +39,6 @@ impl<K: Eq + Hash, V, L: Limiter<K, V>, S: KeyHasher<K>> LruMap<K, V, L, S> {
 
     /// Removes a key. Returns the stored key and its value.
     ///
-    /// ```text
-    /// assert_eq!(rt; map.remove_entry(&1), Some((1, 10)));
-    /// assert_eq!(rt; map.remove_entry(&1), None);
-    /// ```
-    ///
     /// Cost: `O(1)` expected.
     ///
     /// Follows std's `HashMap::remove_entry`.
@@ -64,11 +51,6 @@ impl<K: Eq + Hash, V, L: Limiter<K, V>, S: KeyHasher<K>> LruMap<K, V, L, S> {
 
 impl<K: Eq + Hash, V, L: Limiter<K, V>, S: KeyHasher<K>> LruMap<K, V, L, S> {
     /// Removes a key. Returns its value. The other entries keep their order.
-    ///
-    /// ```text
-    /// assert_eq!(rt; map.remove(&1), Some(10));
-    /// assert_eq!(rt; map.remove(&1), None);
-    /// ```
     ///
     /// Cost: `O(1)` expected.
     ///
@@ -84,18 +66,18 @@ impl<K: Eq + Hash, V, L: Limiter<K, V>, S: KeyHasher<K>> LruMap<K, V, L, S> {
     /// Drops all entries. Notifies the limiter of the clear, even if the map is empty, but not of each entry. The table
     /// keeps its buckets.
     ///
-    /// ```text
-    /// map.clear();
-    /// assert_eq!(rt; (map.len(), map.guaranteed_capacity()), (0, 3));
-    /// ```
-    ///
     /// Cost: `O(buckets)`, even if there are few entries; `O(1)` if every bucket is empty.
     ///
     /// Follows schnellru's `LruMap::clear`.
     pub fn clear(&mut self) {
-        let alloc = self.alloc;
-        if_unwound(&mut self.entries, |entries| leak(entries, OrderedTable::new(alloc)), |entries| entries.clear());
+        if_unwound(self, Self::abandon, |map| map.entries.clear());
         self.limiter.on_cleared();
+    }
+    // Leaks the entries and the table, and notifies the limiter that both are gone.
+    pub(super) fn abandon(&mut self) {
+        leak(&mut self.entries, OrderedTable::new(self.alloc));
+        self.limiter.on_cleared();
+        self.limiter.on_grow(0);
     }
 }
 

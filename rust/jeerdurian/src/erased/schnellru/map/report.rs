@@ -12,12 +12,6 @@ impl<K: Eq + Hash, V, L: Limiter<K, V>, S: KeyHasher<K>> LruMap<K, V, L, S> {
     /// rehashed. Each count stops at `u64::MAX`.
     ///
     /// `moved` is at most twice `placed`, plus `shrunk`. Cost: `O(1)`.
-    ///
-    /// ```text
-    /// let mut map: LruMap<u64, u64> = LruMap::with_limiter(alloc, ByLength::new(3));
-    /// assert!(rt; map.insert(1, 10)?);
-    /// assert_eq!(rt; map.move_report(), MoveReport { moved: 0, placed: 1, shrunk: 0 });
-    /// ```
     pub fn move_report(&self) -> MoveReport {
         self.show_map();
         MoveReport { moved: self.moved, placed: self.entries.placed(), shrunk: self.shrunk }

@@ -15,12 +15,6 @@ impl<K: Eq + Hash, V, L: Limiter<K, V>, S: KeyHasher<K>> LruMap<K, V, L, S> {
     /// `len` + n is at most half of the entries that the table may hold, the table is rehashed at its size. If `len` +
     /// n is more than half, the limiter is queried for a larger table.
     ///
-    /// ```text
-    /// let mut map: LruMap<u64, u64, UnlimitedCompact> = LruMap::default(alloc);
-    /// assert_eq!(rt; map.try_reserve(7), Ok(()));
-    /// assert_eq!(rt; (map.guaranteed_capacity(), map.len()), (7, 0));
-    /// ```
-    ///
     /// Cost: `O(1)` if there is enough growth left, else `O(old buckets + new buckets)`.
     ///
     /// # Errors

@@ -19,14 +19,7 @@ impl<K: Eq + Hash, V, L: Limiter<K, V>, S: KeyHasher<K>> LruMap<K, V, L, S> {
     }
 
     pub(super) fn move_to(&mut self, count: usize) -> Result<(), AllocError> {
-        if_unwound(
-            self,
-            |map| {
-                leak(&mut map.entries, crate::erased::ordered_table::OrderedTable::new(map.alloc));
-                map.limiter.on_cleared();
-            },
-            |map| map.entries.move_to(count, &map.hasher),
-        )?;
+        if_unwound(self, Self::abandon, |map| map.entries.move_to(count, &map.hasher))?;
         Ok(())
     }
 

@@ -12,11 +12,6 @@ impl<K: Eq + Hash, V, L: Limiter<K, V>, S: KeyHasher<K>> LruMap<K, V, L, S> {
     ///
     /// The closure is called with each entry, oldest first. The limiter is notified of each removal.
     ///
-    /// ```text
-    /// map.retain(|_, value| *value > 10);
-    /// assert!(rt; map.len() == 2 && !map.contains(&1));
-    /// ```
-    ///
     /// Cost: `O(n)` for n entries.
     ///
     /// Follows std's `HashMap::retain`, whose closure may write the value.
@@ -27,12 +22,6 @@ impl<K: Eq + Hash, V, L: Limiter<K, V>, S: KeyHasher<K>> LruMap<K, V, L, S> {
 
 impl<K: Eq + Hash, V, L: Limiter<K, V>, S: KeyHasher<K>> LruMap<K, V, L, S> {
     /// Does what `retain` does, and passes each removed entry to the callback, oldest first.
-    ///
-    /// ```text
-    /// let mut removed = 0u64;
-    /// map.retain_with(|key, _| *key != 2, &mut |key, _| removed = removed.wrapping_add(key));
-    /// assert_eq!(rt; removed, 2);
-    /// ```
     ///
     /// Cost: as `retain`, plus the calls of the callback.
     pub fn retain_with<F: FnMut(&K, &V) -> bool, G: FnMut(K, V)>(&mut self, mut keep: F, sink: &mut G) {

@@ -13,15 +13,6 @@ impl<K: Eq + Hash, V, L: Limiter<K, V>, S: KeyHasher<K>> LruMap<K, V, L, S> {
     ///
     /// The entries and their order stay. The limiter is not called. An empty map frees its table.
     ///
-    /// ```text
-    /// let mut map: LruMap<u64, u64, UnlimitedCompact> = LruMap::default(alloc);
-    /// assert_eq!(rt; map.try_reserve(7), Ok(()));
-    /// assert_eq!(rt; map.get_or_insert(1, || 10)?.copied(), Some(10));
-    /// assert_eq!(rt; map.shrink_to_fit(), Ok(true));
-    /// assert_eq!(rt; (map.len(), map.guaranteed_capacity()), (1, 3));
-    /// assert_eq!(rt; map.shrink_to_fit(), Ok(false));
-    /// ```
-    ///
     /// Cost: `O(1)` if the table stays, else `O(buckets)` and three allocations. An empty map allocates nothing.
     ///
     /// # Errors
@@ -36,14 +27,7 @@ impl<K: Eq + Hash, V, L: Limiter<K, V>, S: KeyHasher<K>> LruMap<K, V, L, S> {
         if self.entries.buckets() <= count {
             return Ok(false);
         }
-        if_unwound(
-            self,
-            |map| {
-                leak(&mut map.entries, crate::erased::ordered_table::OrderedTable::new(map.alloc));
-                map.limiter.on_cleared();
-            },
-            |map| map.entries.move_to(count, &map.hasher),
-        )?;
+        if_unwound(self, Self::abandon, |map| map.entries.move_to(count, &map.hasher))?;
         self.shrunk = self.shrunk.saturating_add(len as u64);
         Ok(true)
     }

@@ -43,9 +43,10 @@ impl<K: Eq + Hash, V, L: Limiter<K, V>, S: KeyHasher<K>> LruMap<K, V, L, S> {
         pair: (K, V),
         sink: &mut F,
     ) -> Result<bool, AllocError> {
+        let mut pair = pair;
         match self.next_table(1) {
             Some((count, bytes)) => {
-                if self.limiter.on_grow(bytes) {
+                if self.holding(&mut pair, |map| map.limiter.on_grow(bytes)) {
                     self.store_after_move(count, hash, pair, sink)
                 } else {
                     self.store_without_growth(hash, pair, sink)
@@ -77,8 +78,10 @@ impl<K: Eq + Hash, V, L: Limiter<K, V>, S: KeyHasher<K>> LruMap<K, V, L, S> {
         let buckets = self.bucket_count();
         let half = full_capacity(buckets) / 2;
         'evictions: loop {
-            let (key, value) = self.take_oldest();
-            sink(key, value);
+            self.holding(&mut pair, |map| {
+                let (key, value) = map.take_oldest();
+                sink(key, value);
+            });
             if self.len() < half {
                 return self.store_after_move(buckets, hash, pair, sink);
             }
@@ -113,5 +116,11 @@ impl<K: Eq + Hash, V, L: Limiter<K, V>, S: KeyHasher<K>> LruMap<K, V, L, S> {
     fn pass_unstored<F: FnMut(K, V)>(&mut self, pair: (K, V), sink: &mut F) {
         let (key, value) = notify(&mut self.limiter, pair);
         sink(key, value);
+    }
+    // Calls `f`. If `f` unwinds, notifies the limiter that an accepted pair is not stored.
+    #[inline(always)]
+    pub(super) fn holding<R>(&mut self, pair: &mut (K, V), f: impl FnOnce(&mut Self) -> R) -> R {
+        let mend = |(map, pair): &mut (&mut Self, &mut (K, V))| map.limiter.on_removed(&mut pair.0, &mut pair.1);
+        if_unwound(&mut (self, pair), mend, |(map, _)| f(map))
     }
 }

@@ -13,12 +13,6 @@ impl<K: Eq + Hash, V, L: Limiter<K, V>, S: KeyHasher<K>> LruMap<K, V, L, S> {
     ///
     /// Evicts nothing under `ByMemoryUsage`, which is never over its limit.
     ///
-    /// ```text
-    /// *map.limiter_mut() = ByLength::new(1);
-    /// map.trim();
-    /// assert!(rt; map.len() == 1 && map.contains(&3));
-    /// ```
-    ///
     /// Cost: `O(1)` for each entry that is evicted.
     ///
     /// Follows Guava's `Cache::cleanUp`.
@@ -32,11 +26,6 @@ impl<K: Eq + Hash, V, L: Limiter<K, V>, S: KeyHasher<K>> LruMap<K, V, L, S> {
     /// A new limiter with a running total, such as `ByCost`, must begin with the sum of the costs of the stored
     /// entries, because it is not notified of them. `map.limiter().with_limit(n)` begins with the right sum.
     ///
-    /// ```text
-    /// let old = map.set_limiter(ByLength::new(1));
-    /// assert!(rt; old.max_length() == 3 && map.len() == 1);
-    /// ```
-    ///
     /// Cost: `O(1)` for each entry that is evicted.
     ///
     /// Follows `resize` of the crate `lru`.
@@ -48,13 +37,6 @@ impl<K: Eq + Hash, V, L: Limiter<K, V>, S: KeyHasher<K>> LruMap<K, V, L, S> {
 impl<K: Eq + Hash, V, L: Limiter<K, V>, S: KeyHasher<K>> LruMap<K, V, L, S> {
     /// Does what `trim` does, and passes each evicted entry to the callback, oldest first.
     ///
-    /// ```text
-    /// let mut evicted = 0u64;
-    /// *map.limiter_mut() = ByLength::new(1);
-    /// map.trim_with(&mut |key, _| evicted = evicted.wrapping_add(key));
-    /// assert_eq!(rt; evicted, 3);
-    /// ```
-    ///
     /// Cost: as `trim`, plus the calls of the callback.
     pub fn trim_with<F: FnMut(K, V)>(&mut self, sink: &mut F) {
         if !self.is_empty() {
@@ -64,12 +46,6 @@ impl<K: Eq + Hash, V, L: Limiter<K, V>, S: KeyHasher<K>> LruMap<K, V, L, S> {
     }
 
     /// Does what `set_limiter` does, and passes each evicted entry to the callback, oldest first.
-    ///
-    /// ```text
-    /// let mut evicted = 0u64;
-    /// map.set_limiter_with(ByLength::new(1), &mut |key, _| evicted = evicted.wrapping_add(key));
-    /// assert_eq!(rt; evicted, 3);
-    /// ```
     ///
     /// Cost: as `set_limiter`, plus the calls of the callback.
     pub fn set_limiter_with<F: FnMut(K, V)>(&mut self, limiter: L, sink: &mut F) -> L {

@@ -13,12 +13,6 @@ impl<K: Eq + Hash, V, L: Admission<K, V> + Copy, S: KeyHasher<K>> LruMap<K, V, L
     /// If no growth is left, `try_insert` reserves growth instead of filling a deleted bucket. So if the limiter
     /// refuses a larger table, `try_insert` may return an entry that `insert` would store without an eviction.
     ///
-    /// ```text
-    /// assert_eq!(rt; map.try_insert(4, 40), Err((4, 40)));
-    /// map.pop_oldest();
-    /// assert_eq!(rt; (map.try_insert(4, 40), map.try_insert(4, 41)), (Ok(()), Err((4, 41))));
-    /// ```
-    ///
     /// Cost: `O(1)` expected, amortised over the inserts, with one search for the key. If no growth is left, add the
     /// cost of `try_reserve(1)`. `move_report` does not count the entries that the reservation moves.
     ///
@@ -42,13 +36,6 @@ impl<K: Eq + Hash, V, L: Admission<K, V> + Copy, S: KeyHasher<K>> LruMap<K, V, L
     }
 
     /// Does what `try_insert` does, but gets the hash of the key from the caller, as `insert_hashed` does.
-    ///
-    /// ```text
-    /// let hash = map.hasher().hash_named(&4);
-    /// assert_eq!(rt; map.try_insert_hashed(hash, 4, 40), Err((4, 40)));
-    /// map.pop_oldest();
-    /// assert_eq!(rt; map.try_insert_hashed(hash, 4, 40), Ok(()));
-    /// ```
     ///
     /// Cost: as `try_insert`, without hashing.
     ///

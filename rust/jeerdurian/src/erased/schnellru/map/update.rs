@@ -15,11 +15,6 @@ impl<K: Eq + Hash, V, L: Limiter<K, V>, S: KeyHasher<K>> LruMap<K, V, L, S> {
     /// updated entry may be evicted, too. If the limiter rejects the value, the entry is removed. If the key is not
     /// there, nothing changes.
     ///
-    /// ```text
-    /// assert_eq!(rt; map.update(1, 11), Updated::Replaced(10));
-    /// assert!(rt; map.peek_oldest() == Some((&1, &11)) && map.update(9, 90) == Updated::Absent(90));
-    /// ```
-    ///
     /// Cost: `O(1)` expected, and `O(1)` for each entry that is evicted.
     ///
     /// Follows `LinkedHashMap::replace` of the crate `hashlink`.
@@ -34,12 +29,6 @@ impl<K: Eq + Hash, V, L: Limiter<K, V>, S: KeyHasher<K>> LruMap<K, V, L, S> {
 impl<K: Eq + Hash, V, L: Limiter<K, V>, S: KeyHasher<K>> LruMap<K, V, L, S> {
     /// Does what `update` does, and passes entries to the callback: the evicted entries, oldest first, or the entry
     /// that is removed because its new value is rejected.
-    ///
-    /// ```text
-    /// let mut left = None;
-    /// map.update_with(2, 21, &mut |key, value| left = Some((key, value)));
-    /// assert!(rt; left.is_none() && map.peek(&2) == Some(&21));
-    /// ```
     ///
     /// Cost: as `update`, plus the calls of the callback.
     pub fn update_with<I: LookupKey<K>, F: FnMut(K, V)>(&mut self, key: I, value: V, sink: &mut F) -> Updated<V>

@@ -10,13 +10,6 @@ use crate::rattle_std::iter::FusedIterator;
 /// An iterator that takes the entries out of a map, from both ends. Dropping the iterator clears the map. `mem::forget`
 /// of the iterator leaves the remaining entries in the map.
 ///
-/// ```text
-/// let mut sum = 0u64;
-/// for (key, value) in map.drain() {
-///     sum = sum.wrapping_add(key.wrapping_mul(value));
-/// }
-/// ```
-///
 /// Follows schnellru's `Drain`.
 pub struct Drain<'a, K: Eq + Hash, V, L: Limiter<K, V>, S: KeyHasher<K>> {
     map: &'a mut LruMap<K, V, L, S>,
@@ -68,14 +61,6 @@ impl<'a, K: Eq + Hash, V, L: Limiter<K, V>, S: KeyHasher<K>> FusedIterator for D
 
 impl<K: Eq + Hash, V, L: Limiter<K, V>, S: KeyHasher<K>> LruMap<K, V, L, S> {
     /// Returns an iterator that takes out the entries, newest first. Dropping the iterator clears the map.
-    ///
-    /// ```text
-    /// let mut sum = 0u64;
-    /// for (key, value) in map.drain() {
-    ///     sum = sum.wrapping_add(key.wrapping_mul(value));
-    /// }
-    /// assert!(rt; map.is_empty());
-    /// ```
     ///
     /// Cost: `O(1)`, and `O(1)` for each entry that is taken. The drop of the iterator costs as much as `clear`.
     ///

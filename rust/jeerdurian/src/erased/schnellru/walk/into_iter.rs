@@ -10,10 +10,6 @@ use crate::rattle_std::iter::FusedIterator;
 /// An iterator that owns a map, and takes its entries out from both ends. `next` takes the newest entry.
 ///
 /// Dropping the iterator drops the remaining entries without notifying the limiter.
-///
-/// ```text
-/// assert_eq!(rt; map.into_iter().next_back(), Some((1, 10)));
-/// ```
 
 pub struct IntoIter<K, V, L: Limiter<K, V>, S> {
     map: LruMap<K, V, L, S>,

@@ -8,13 +8,6 @@ use crate::rattle_std::hash::Hash;
 
 /// An iterator over the entries of a map, from both ends.
 ///
-/// ```text
-/// let mut walk = map.iter_mut();
-/// if let Some((_, value)) = walk.next() {
-///     *value = 300;
-/// }
-/// ```
-///
 /// Follows schnellru's `IterMut`.
 
 pub struct IterMut<'a, K, V, L: Limiter<K, V>, S> {
@@ -29,10 +22,6 @@ pub struct IterMut<'a, K, V, L: Limiter<K, V>, S> {
 
 impl<'a, K: Eq + Hash, V, L: Limiter<K, V>, S: KeyHasher<K>> IterMut<'a, K, V, L, S> {
     /// Returns how many entries are left.
-    ///
-    /// ```text
-    /// assert_eq!(rt; walk.len(), 1);
-    /// ```
     pub fn len(&self) -> usize {
         self.end.saturating_sub(self.start)
     }
@@ -40,12 +29,6 @@ impl<'a, K: Eq + Hash, V, L: Limiter<K, V>, S: KeyHasher<K>> IterMut<'a, K, V, L
     /// Lends the newest entry that is left, with its value for writing, until the next call of the iterator.
     ///
     /// A caller's proof cannot use the clause `writes_back`, so proved code tests `len`, and then calls `lend_next`.
-    ///
-    /// ```text
-    /// if let Some((_, value)) = walk.next() {
-    ///     *value = 300;
-    /// }
-    /// ```
     ///
     /// Cost: `O(1)`.
     pub fn next(&mut self) -> Option<(&K, &mut V)> {
@@ -57,12 +40,6 @@ impl<'a, K: Eq + Hash, V, L: Limiter<K, V>, S: KeyHasher<K>> IterMut<'a, K, V, L
 
     /// Does what `next` does, but lends the oldest entry that is left.
     ///
-    /// ```text
-    /// if let Some((_, value)) = walk.next_back() {
-    ///     *value = 100;
-    /// }
-    /// ```
-    ///
     /// Cost: `O(1)`.
     pub fn next_back(&mut self) -> Option<(&K, &mut V)> {
         if self.start < self.end {
@@ -72,14 +49,6 @@ impl<'a, K: Eq + Hash, V, L: Limiter<K, V>, S: KeyHasher<K>> IterMut<'a, K, V, L
     }
 
     /// Does what `next` does. At least one entry must be left.
-    ///
-    /// ```text
-    /// let mut walk = map.iter_mut();
-    /// if walk.len() > 0 {
-    ///     let (_, value) = walk.lend_next();
-    ///     *value = 200;
-    /// }
-    /// ```
     ///
     /// Cost: `O(1)`.
     pub fn lend_next(&mut self) -> (&K, &mut V) {
@@ -95,14 +64,6 @@ impl<'a, K: Eq + Hash, V, L: Limiter<K, V>, S: KeyHasher<K>> IterMut<'a, K, V, L
     }
 
     /// Does what `next_back` does. At least one entry must be left.
-    ///
-    /// ```text
-    /// let mut walk = map.iter_mut();
-    /// if walk.len() > 0 {
-    ///     let (_, value) = walk.lend_next_back();
-    ///     *value = 100;
-    /// }
-    /// ```
     ///
     /// Cost: `O(1)`.
 
@@ -125,17 +86,6 @@ impl<K: Eq + Hash, V, L: Limiter<K, V>, S: KeyHasher<K>> LruMap<K, V, L, S> {
     /// `IterMut` is no `Iterator`, so it cannot be in a `for` loop. Write `while let Some((key, value)) = walk.next()`,
     /// or call `for_each_mut`.
     ///
-    /// ```text
-    /// let mut walk = map.iter_mut();
-    /// if let Some((_, value)) = walk.next() {
-    ///     *value = 300;
-    /// }
-    /// if let Some((_, value)) = walk.next_back() {
-    ///     *value = 100;
-    /// }
-    /// assert_eq!(rt; walk.len(), 1);
-    /// ```
-    ///
     /// Cost: `O(1)`.
     ///
     /// Follows schnellru's `LruMap::iter_mut`.
@@ -146,11 +96,6 @@ impl<K: Eq + Hash, V, L: Limiter<K, V>, S: KeyHasher<K>> LruMap<K, V, L, S> {
     }
 
     /// Calls the closure with each key and its value, newest first. The order stays.
-    ///
-    /// ```text
-    /// map.for_each_mut(|_, value| *value = value.saturating_add(1));
-    /// assert_eq!(rt; map.peek(&1), Some(&11));
-    /// ```
     ///
     /// Cost: `O(n)` for n entries.
     ///

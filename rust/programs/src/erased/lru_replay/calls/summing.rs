@@ -14,14 +14,6 @@ use crate::rattle_std::hash::Hash;
 /// If a write would change the cost of its entry, or if a call would set a limiter with another total, the answer is
 /// `CostDiffers`, and nothing changes. So a total that was the sum of the costs is still this sum after the calls.
 ///
-/// ```text
-/// let mut costs: LruMap<u64, u64, ByCost> = LruMap::new(alloc, ByCost::new(10), [1, 2, 3, 4], 16);
-/// let calls = vec![in alloc; Call::Insert(1, 2), Call::Write(1, 3), Call::Peek(1)]?;
-/// let answers = run_summing(alloc, &mut costs, calls)?;
-/// let refuses = answers.get(1) == Some(&Answer::CostDiffers);
-/// assert!(rt; refuses && answers.get(2) == Some(&Answer::Value(Some(2))));
-/// ```
-///
 /// Cost: as `run_calls`, plus one more look-up for each `Write`.
 ///
 /// # Errors

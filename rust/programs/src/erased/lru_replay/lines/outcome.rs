@@ -5,10 +5,6 @@
 use crate::rattle_std::prelude::*;
 
 /// How a replay ends if it does not fail.
-///
-/// ```text
-/// assert_eq!(rt; status(&Ok(ReplayEnd::NoLimiter)), 1);
-/// ```
 #[derive(Clone, Copy, Debug, PartialEq, Eq)]
 pub enum ReplayEnd {
     /// All lines were carried out.
@@ -18,13 +14,6 @@ pub enum ReplayEnd {
 }
 
 /// Why a replay fails.
-///
-/// ```text
-/// let (read, write) = (ReplayError::Read, ReplayError::Write);
-/// let text = format!(in alloc; "{read}, {write}")?;
-/// assert_eq!(rt; text.as_str(), "read failed, write failed");
-/// assert_eq!(rt; (read as u8, write as u8), (1, 2));
-/// ```
 #[derive(Clone, Copy, Debug, PartialEq, Eq)]
 pub enum ReplayError {
     /// A read failed, or there was no end after `u64::MAX` reads or lines.
@@ -44,10 +33,6 @@ impl ::core::fmt::Display for ReplayError {
 
 /// Returns the exit status: 0 if the lines were carried out, 1 if the first line names no limiter, and 2 if a read, a
 /// write or the flush failed.
-///
-/// ```text
-/// assert_eq!(rt; status(&Ok(ReplayEnd::NoLimiter)), 1);
-/// ```
 pub fn status(end: &Result<ReplayEnd, ReplayError>) -> u8 {
     match end {
         Ok(ReplayEnd::Done) => 0,

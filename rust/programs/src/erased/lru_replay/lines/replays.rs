@@ -117,13 +117,6 @@ fn answer_all<R: BufRead, W: Write>(alloc: Global, reader: &mut R, writer: &mut 
 /// has no answer; docs/REPLAY.md lists the lines and their answers. If no write fails, the output is flushed once, at
 /// the end.
 ///
-/// ```text
-/// let mut reader = b"length 1\ninsert 1 10\n".as_slice();
-/// let mut writer = Vec::new(alloc);
-/// assert_eq!(rt; replay(alloc, &mut reader, &mut writer), Ok(ReplayEnd::Done));
-/// assert_eq!(rt; writer.as_slice(), b"true\n".as_slice());
-/// ```
-///
 /// The contract is about the whole streams of bytes, however reads and writes cut them. If the type of a reader or a
 /// writer says nothing about its bytes, the contract says nothing about them.
 ///

@@ -1,0 +1,76 @@
+//! The traits of Rust's library that an ordered map implements.
+
+use super::OrderedMap;
+use core::hash::{BuildHasher, Hash};
+
+#[cfg(feature = "runtime-rng")]
+impl<K: Eq + Hash, V> Default for OrderedMap<K, V> {
+    fn default() -> Self {
+        Self::new()
+    }
+}
+
+/// Maps are equal if they have equal entries in the same order. Their hashers and tables may differ.
+impl<K: Eq + Hash, V: PartialEq, S: BuildHasher> PartialEq for OrderedMap<K, V, S> {
+    fn eq(&self, other: &Self) -> bool {
+        self.map == other.map
+    }
+}
+
+impl<K: Eq + Hash, V: Eq, S: BuildHasher> Eq for OrderedMap<K, V, S> {}
+
+/// Shows the entries, oldest first, as `{1: 11, 2: 20}`.
+impl<K: Eq + Hash + core::fmt::Debug, V: core::fmt::Debug, S: BuildHasher> core::fmt::Debug for OrderedMap<K, V, S> {
+    fn fmt(&self, f: &mut core::fmt::Formatter<'_>) -> core::fmt::Result {
+        self.map.fmt(f)
+    }
+}
+
+#[cold]
+fn out_of_memory<K, V>() -> ! {
+    alloc::alloc::handle_alloc_error(core::alloc::Layout::new::<(K, V)>())
+}
+
+impl<K: Eq + Hash + Clone, V: Clone, S: BuildHasher + Clone> Clone for OrderedMap<K, V, S> {
+    /// Clones the entries, in their order. Without memory the program ends as `handle_alloc_error` says.
+    ///
+    /// ```
+    /// # use jeerdurian::caches::OrderedMap;
+    /// let map: OrderedMap<u64, u64> = [(1, 11), (2, 20)].into_iter().collect();
+    /// assert_eq!(map.clone(), map);
+    /// ```
+    fn clone(&self) -> Self {
+        OrderedMap { map: self.map.try_clone().unwrap_or_else(|_| out_of_memory::<K, V>()) }
+    }
+}
+
+impl<K: Eq + Hash, V, S: BuildHasher> Extend<(K, V)> for OrderedMap<K, V, S> {
+    /// Inserts each entry. Without memory the program ends as `handle_alloc_error` says.
+    ///
+    /// ```
+    /// # use jeerdurian::caches::OrderedMap;
+    /// let mut map: OrderedMap<u64, u64> = OrderedMap::new();
+    /// map.extend([(1, 10), (2, 20), (1, 11)]);
+    /// assert!(map.iter().eq([(&1, &11), (&2, &20)]));
+    /// ```
+    fn extend<I: IntoIterator<Item = (K, V)>>(&mut self, entries: I) {
+        for (key, value) in entries {
+            self.insert(key, value).unwrap_or_else(|_| out_of_memory::<K, V>());
+        }
+    }
+}
+
+impl<K: Eq + Hash, V, S: BuildHasher + Default> FromIterator<(K, V)> for OrderedMap<K, V, S> {
+    /// Makes a map of these entries, as [`extend`](OrderedMap::extend) does.
+    ///
+    /// ```
+    /// # use jeerdurian::caches::OrderedMap;
+    /// let map: OrderedMap<u64, u64> = [(1, 11), (2, 20)].into_iter().collect();
+    /// assert!(map.keys().eq([&1, &2]));
+    /// ```
+    fn from_iter<I: IntoIterator<Item = (K, V)>>(entries: I) -> Self {
+        let mut map = Self::with_hasher(S::default());
+        map.extend(entries);
+        map
+    }
+}

@@ -1,0 +1,79 @@
+//! The traits of Rust's library that `schnellru`'s `LruMap` lacks.
+
+use crate::limiter::Limiter;
+use crate::map::LruMap;
+use core::hash::{BuildHasher, Hash};
+
+impl<K, V, L, S> PartialEq for LruMap<K, V, L, S>
+where
+    K: Hash + PartialEq,
+    V: PartialEq,
+    L: Limiter<K, V>,
+    S: BuildHasher,
+{
+    /// Returns whether both maps have the same entries in the same order, whatever their limiters and hashers. Proved:
+    /// true exactly then.
+    ///
+    /// ```
+    /// use jeerdurian::{LruMap, More, Unlimited};
+    ///
+    /// let mut map: LruMap<u64, u64, Unlimited> = [(1, 10), (2, 20)].into_iter().collect();
+    /// let copy = map.clone();
+    /// assert!(map == copy);
+    /// map.promote(&1);
+    /// assert!(map != copy);
+    /// ```
+    fn eq(&self, other: &Self) -> bool {
+        self.map == other.map
+    }
+}
+
+impl<K, V, L, S> Eq for LruMap<K, V, L, S>
+where
+    K: Hash + Eq,
+    V: Eq,
+    L: Limiter<K, V>,
+    S: BuildHasher,
+{
+}
+
+impl<K, V, L, S> Extend<(K, V)> for LruMap<K, V, L, S>
+where
+    K: Hash + PartialEq,
+    L: for<'a> Limiter<K, V, KeyToInsert<'a> = K>,
+    S: BuildHasher,
+{
+    /// Inserts each entry as [`insert`](LruMap::insert) does. What the limiter rejects, or memory cannot hold, is dropped.
+    ///
+    /// ```
+    /// use jeerdurian::{ByLength, LruMap};
+    ///
+    /// let mut map = LruMap::new(ByLength::new(2));
+    /// map.extend([(1, 10), (2, 20), (3, 30)]);
+    /// assert!(map.iter().eq([(&3, &30), (&2, &20)]));
+    /// ```
+    fn extend<I: IntoIterator<Item = (K, V)>>(&mut self, entries: I) {
+        entries.into_iter().for_each(|(key, value)| _ = self.insert(key, value));
+    }
+}
+
+impl<K, V, L, S> FromIterator<(K, V)> for LruMap<K, V, L, S>
+where
+    K: Hash + PartialEq,
+    L: for<'a> Limiter<K, V, KeyToInsert<'a> = K> + Default,
+    S: BuildHasher + Default,
+{
+    /// Makes a map of these entries, with the default limiter, as [`extend`](LruMap::extend) does. The last is the newest.
+    ///
+    /// ```
+    /// use jeerdurian::{LruMap, Unlimited};
+    ///
+    /// let map: LruMap<u64, u64, Unlimited> = [(1, 10), (2, 20), (1, 11)].into_iter().collect();
+    /// assert!(map.iter().eq([(&1, &11), (&2, &20)]));
+    /// ```
+    fn from_iter<I: IntoIterator<Item = (K, V)>>(entries: I) -> Self {
+        let mut map = Self::default();
+        map.extend(entries);
+        map
+    }
+}
