@@ -33,6 +33,7 @@ impl<K: Eq + Hash, V, L: Limiter<K, V>, S: KeyHasher<K>> LruMap<K, V, L, S> {
             L.LinkType.LinkType S.KeyHasher S.Hasher.Hasher self.entry
             (Q.names key.now) (promoted (Q.names key.now) self.old) result) }
         ensures value { option_copied_mut result ≡ lookup (Q.names key.now) self.old.pairs }
+        ensures before { IsMap K.eq self.old }
         ensures map { (last : V) → IsMap K.eq (written (Q.names key.now) last (promoted (Q.names key.now) self.old)) }
     {
         let b = self.find(key)?;

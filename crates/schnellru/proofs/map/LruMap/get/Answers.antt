@@ -13,6 +13,7 @@ returns-in_err-b g c = let names = g.Q.LookupKey.names c.args.key.now in
       record {
         writes_back = tt;
         value = sym (no_named_value names c.args.self.now.pairs c.in_err-b.ensures.none);
+        before = c.find.ensures.map;
         map = λ last. written_is_map _ names last
             (promoted_is_map g.met.Q.LookupKey.laws c.args.key.now _ c.find.ensures.map);
       },
@@ -33,6 +34,7 @@ returns g c =
       record {
         writes_back = tt;
         value = sym (named_value names old.pairs (key, value) found);
+        before = c.find.ensures.map;
         map = λ last. written_is_map _ names last
             (promoted_is_map g.met.Q.LookupKey.laws c.args.key.now _ c.find.ensures.map);
       },
