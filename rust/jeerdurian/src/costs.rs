@@ -1,4 +1,4 @@
-//! What more values cost, and which bytes they own.
+//! Impls of `Costed` and `OwnedBytes` for types that the erased crates do not cover.
 
 use crate::erased::lru_limits::{Costed, OwnedBytes};
 use alloc::boxed::Box;
@@ -7,7 +7,7 @@ use alloc::sync::Arc;
 use alloc::vec::Vec;
 
 impl Costed for str {
-    /// The number of bytes.
+    /// Returns the number of bytes.
     #[inline]
     fn cost(&self) -> u64 {
         self.len() as u64
@@ -15,7 +15,7 @@ impl Costed for str {
 }
 
 impl<T> Costed for [T] {
-    /// The number of items.
+    /// Returns the number of items.
     #[inline]
     fn cost(&self) -> u64 {
         self.len() as u64
@@ -23,7 +23,7 @@ impl<T> Costed for [T] {
 }
 
 impl<T> Costed for Vec<T> {
-    /// The number of items.
+    /// Returns the number of items.
     #[inline]
     fn cost(&self) -> u64 {
         self.len() as u64
@@ -33,7 +33,7 @@ impl<T> Costed for Vec<T> {
 macro_rules! costs_as_its_target {
     ($($pointer:ty)*) => {$(
         impl<T: Costed + ?Sized> Costed for $pointer {
-            /// The cost of the value behind the pointer.
+            /// Returns the cost of the value behind the pointer.
             #[inline]
             fn cost(&self) -> u64 {
                 (**self).cost()
@@ -47,7 +47,7 @@ costs_as_its_target!(&T Box<T> Rc<T> Arc<T>);
 macro_rules! owns_nothing {
     ($($type:ty)*) => {$(
         impl OwnedBytes for $type {
-            /// Nothing.
+            /// Returns 0.
             #[inline]
             fn owned_bytes(&self) -> u64 {
                 0
@@ -58,7 +58,7 @@ macro_rules! owns_nothing {
 
 owns_nothing!(() i8 i16 i128 isize f32 f64);
 
-/// The bytes of a block, rounded as the docs of `OwnedBytes` say.
+/// Returns the bytes of a block, rounded as the docs of `OwnedBytes` say.
 #[inline]
 fn block_bytes<T>(items: usize) -> u64 {
     match items.saturating_mul(size_of::<T>()) as u64 {
@@ -72,14 +72,14 @@ fn items_own<T: OwnedBytes>(items: &[T]) -> u64 {
 }
 
 impl<T: OwnedBytes> OwnedBytes for Vec<T> {
-    /// Its block, however much of it is in use, and what its items own.
+    /// Returns the bytes of the vector's block (its whole capacity), plus the bytes that its items own.
     fn owned_bytes(&self) -> u64 {
         block_bytes::<T>(self.capacity()).saturating_add(items_own(self))
     }
 }
 
 impl<T: OwnedBytes, const N: usize> OwnedBytes for [T; N] {
-    /// What its items own.
+    /// Returns the bytes that its items own.
     #[inline]
     fn owned_bytes(&self) -> u64 {
         items_own(self)
@@ -87,14 +87,14 @@ impl<T: OwnedBytes, const N: usize> OwnedBytes for [T; N] {
 }
 
 impl<T: OwnedBytes> OwnedBytes for Box<[T]> {
-    /// Its block, and what its items own.
+    /// Returns the bytes of its block, plus the bytes that its items own.
     fn owned_bytes(&self) -> u64 {
         block_bytes::<T>(self.len()).saturating_add(items_own(self))
     }
 }
 
 impl OwnedBytes for Box<str> {
-    /// Its block.
+    /// Returns the bytes of its block.
     #[inline]
     fn owned_bytes(&self) -> u64 {
         block_bytes::<u8>(self.len())

@@ -71,15 +71,15 @@ pub trait Limiter<K, V> {
         new_value: &mut V,
     ) -> bool;
 
-    /// Called after an entry was removed from the map, or accepted and then not stored, because no table holds it or a
-    /// callback panicked.
+    /// Called after an entry was evicted or removed. Also called if an accepted entry was not stored, because no table
+    /// can hold it or a callback panicked.
     fn on_removed(&mut self, key: &mut K, value: &mut V);
 
     /// Called after the map was cleared.
     fn on_cleared(&mut self);
 
-    /// Called before the table grows to `new_memory_usage` bytes. `false` refuses that. Called with 0 after a panic has
-    /// left the map without a table; then the map ignores the answer.
+    /// Called before the table grows to `new_memory_usage` bytes; `false` refuses the growth. Also called with 0 after
+    /// a panic has left the map without a table; the map ignores what this call returns.
     fn on_grow(&mut self, new_memory_usage: usize) -> bool;
 }
 

@@ -158,7 +158,7 @@ where
         L::KeyToInsert<'a>: Hash + PartialEq<K>;
 
     /// Updates as [`update`](Self::update) does, and passes each entry that the map evicts or removes to a callback.
-    /// Proved: as of `update`, and the callback gets each of these entries once, in their order.
+    /// Proved: what is proved of `update`, and that the callback gets each of these entries once, in order.
     ///
     /// ```
     /// use jeerdurian::{ByCost, LruMap, More, Updated};
@@ -177,8 +177,8 @@ where
     /// empty, and only the oldest entries are gone.
     fn trim(&mut self);
 
-    /// Trims as [`trim`](Self::trim) does, and passes each evicted entry to a callback, the oldest first. Proved: as of
-    /// `trim`, and the callback gets each evicted entry once.
+    /// Trims as [`trim`](Self::trim) does, and passes each evicted entry to a callback, the oldest first. Proved: what
+    /// is proved of `trim`, and that the callback gets each evicted entry once.
     ///
     /// ```
     /// use jeerdurian::{ByLength, LruMap, More};
@@ -197,7 +197,7 @@ where
     fn set_limiter(&mut self, limiter: L) -> L;
 
     /// Sets the limiter as [`set_limiter`](Self::set_limiter) does, and passes each evicted entry to a callback, the
-    /// oldest first. Proved: as of `trim_with`, under the new limiter.
+    /// oldest first. Proved: what is proved of `trim_with`, under the new limiter.
     ///
     /// ```
     /// use jeerdurian::{ByLength, LruMap, More};
@@ -231,11 +231,12 @@ where
     /// Proved: `moved` is at most twice `placed` plus `shrunk`.
     fn move_report(&self) -> MoveReport;
 
-    /// Clones the map as `clone` does. Proved: the entries and their order are those of the map.
+    /// Clones the map as `clone` does. Proved: the clone has the map's entries, in the same order.
     ///
     /// # Errors
     ///
-    /// Out of memory for the table. A `Clone` of a key or a value does not return then.
+    /// Out of memory for the table. If a `Clone` of a key or a value runs out of memory, it cannot return an error: a
+    /// `Clone` of std ends the program.
     ///
     /// ```
     /// use jeerdurian::{ByLength, LruMap, More};

@@ -1,4 +1,4 @@
-//! The traits of Rust's library that `schnellru`'s `LruMap` lacks.
+//! Impls of std's traits that `schnellru`'s `LruMap` lacks.
 
 use crate::limiter::Limiter;
 use crate::map::LruMap;
@@ -11,8 +11,8 @@ where
     L: Limiter<K, V>,
     S: BuildHasher,
 {
-    /// Returns whether both maps have the same entries in the same order, whatever their limiters and hashers. Proved:
-    /// true exactly then.
+    /// Returns whether both maps have equal entries in the same order. Their limiters and hashers may differ. Proved:
+    /// returns true exactly then.
     ///
     /// ```
     /// use jeerdurian::{LruMap, More, Unlimited};
@@ -43,7 +43,8 @@ where
     L: for<'a> Limiter<K, V, KeyToInsert<'a> = K>,
     S: BuildHasher,
 {
-    /// Inserts each entry as [`insert`](LruMap::insert) does. What the limiter rejects, or memory cannot hold, is dropped.
+    /// Inserts each entry as [`insert`](LruMap::insert) does. Drops each entry that the limiter rejects or that memory
+    /// cannot hold.
     ///
     /// ```
     /// use jeerdurian::{ByLength, LruMap};
@@ -63,7 +64,8 @@ where
     L: for<'a> Limiter<K, V, KeyToInsert<'a> = K> + Default,
     S: BuildHasher + Default,
 {
-    /// Makes a map of these entries, with the default limiter, as [`extend`](LruMap::extend) does. The last is the newest.
+    /// Makes a map with the default limiter, and inserts the entries as [`extend`](LruMap::extend) does. The last entry
+    /// is the newest.
     ///
     /// ```
     /// use jeerdurian::{LruMap, Unlimited};

@@ -1,4 +1,4 @@
-//! The limiters and the results of calls, which callers get as they were proved, with an example of each.
+//! Re-exports limiters, traits of costs and results of calls from the erased crates, with an example of each.
 
 pub use crate::erased::lru_limits::DefaultHasher;
 
@@ -44,7 +44,7 @@ pub use crate::erased::lru_limits::Unlimited;
 /// ```
 pub use crate::erased::lru_limits::UnlimitedCompact;
 
-/// A limiter by the sum of what the values cost.
+/// A limiter by the sum of the costs of the values.
 ///
 /// ```
 /// use jeerdurian::{ByCost, LruMap};
@@ -56,7 +56,7 @@ pub use crate::erased::lru_limits::UnlimitedCompact;
 /// ```
 pub use crate::erased::lru_limits::ByCost;
 
-/// A limiter by the sum of what the keys and the values cost, and of a constant for each entry.
+/// A limiter by the sum of the costs of the keys and values, plus a constant for each entry.
 ///
 /// ```
 /// use jeerdurian::{ByWeight, LruMap};
@@ -67,7 +67,7 @@ pub use crate::erased::lru_limits::ByCost;
 /// ```
 pub use crate::erased::lru_limits::ByWeight;
 
-/// A limiter by all bytes: of the table, and of what the keys and the values own.
+/// A limiter by the bytes of the table plus the bytes that keys and values own.
 ///
 /// ```
 /// use jeerdurian::{ByBytes, LruMap};
@@ -79,7 +79,7 @@ pub use crate::erased::lru_limits::ByWeight;
 /// ```
 pub use crate::erased::lru_limits::ByBytes;
 
-/// Two limiters of this crate, which both limit.
+/// Two limiters of this crate, which both apply.
 ///
 /// ```
 /// use jeerdurian::{Both, ByCost, ByLength, LruMap};
@@ -133,7 +133,7 @@ pub use crate::erased::lru_limits::Costed;
 /// ```
 pub use crate::erased::lru_limits::OwnedBytes;
 
-/// What [`More::insert_full`](crate::More::insert_full) did.
+/// The result of [`More::insert_full`](crate::More::insert_full).
 ///
 /// ```
 /// use jeerdurian::{ByLength, Inserted, LruMap, More};
@@ -144,7 +144,7 @@ pub use crate::erased::lru_limits::OwnedBytes;
 /// ```
 pub use crate::erased::lru_model::Inserted;
 
-/// What [`More::update`](crate::More::update) did.
+/// The result of [`More::update`](crate::More::update).
 ///
 /// ```
 /// use jeerdurian::{ByLength, LruMap, More, Updated};
@@ -155,7 +155,7 @@ pub use crate::erased::lru_model::Inserted;
 /// ```
 pub use crate::erased::lru_model::Updated;
 
-/// How many entries were moved and stored, as [`More::move_report`](crate::More::move_report) returns it.
+/// How many entries were moved and stored: the result of [`More::move_report`](crate::More::move_report).
 ///
 /// ```
 /// use jeerdurian::{LruMap, More, Unlimited};
