@@ -18,3 +18,6 @@ pub mod SizedSteps
 pub mod SizedKeys
 pub mod SizedRecency
 pub mod SizedTotals
+pub mod Marks
+pub mod PlaceSteps
+pub mod DeleteSteps
