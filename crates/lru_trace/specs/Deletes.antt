@@ -1,6 +1,6 @@
 -- The miss-ratio curve of a trace with deletes. A call references or removes a key.
 use Rattle.std.specs.Prelude.{◌≡◌, ℕ, ◌+◌, ◌≤◌, ◌<◌, List, [], ◌∷◌, length, take, sum, set, get_or, nat_eq, true, String}
-use Rattle.std.specs.Prelude.{Option, Some, None, IfSome, if◌then◌else◌}
+use Rattle.std.specs.Prelude.{Option, Some, None, IfSome, ◌==◌, if◌then◌else◌, map}
 use Rattle.std.specs.Global.{Global}
 use Rattle.std.specs.Option.{option_map}
 use Rattle.std.specs.Str.{bytes_eq}
@@ -8,6 +8,13 @@ use Rattle.lru_theory.specs.Inclusion.{KeyCall, refers, promotes, removes, clear
 use Rattle.lru_theory.specs.Places.{keys_in, place_of, vacated, place_calls, call_faults}
 use Rattle.lru_theory.specs.Traces.{is_in}
 use Rattle.lru_trace.specs.Counted.{number_in}
+
+-- the call of a line: with the size 0 the line deletes the key
+abbrev pub call_of : List ℕ × ℕ → KeyCall (List ℕ)
+call_of reference = if reference.1 == 0 then removes reference.0 else refers reference.0
+
+abbrev pub calls_of : List (List ℕ × ℕ) → List (KeyCall (List ℕ))
+calls_of references = map call_of references
 
 -- how many of the calls are references
 abbrev pub referred : List (KeyCall (List ℕ)) → ℕ
