@@ -3,6 +3,7 @@ pub mod NodeSums
 pub mod Numbered
 pub mod CurveSteps
 pub mod AnyCurves
+pub mod WarmUps
 pub mod ReadLines
 pub mod Powers
 pub mod Cells
@@ -20,4 +21,5 @@ pub mod SizedRecency
 pub mod SizedTotals
 pub mod Marks
 pub mod PlaceSteps
+pub mod PlaceNumbers
 pub mod DeleteSteps

@@ -5,7 +5,8 @@ use Rattle.std.specs.Str.{bytes_eq}
 use Rattle.lru_theory.specs.Places.{freed}
 use Rattle.lru_trace.specs.Counted.{number_in}
 use Rattle.lru_trace.specs.Deletes.{AreNumbers, IsDeleteOf, places_of}
-use Rattle.lru_trace.proofs.DeleteSteps.{of_removed, of_warm_removed, removed_numbers, removed_within, removed_apart, absent_freed, freed_long}
+use Rattle.lru_trace.proofs.DeleteSteps.{of_removed, of_warm_removed}
+use Rattle.lru_trace.proofs.PlaceNumbers.{removed_numbers, removed_within, removed_apart, absent_freed, freed_long}
 use Rattle.lru_trace.proofs.delete_curve.DeleteCurve.delete.Goals.{In_default, In-Some, After-remove}
 use Rattle.lru_trace.proofs.delete_curve.DeleteCurve.delete.Goals as goal
 

@@ -3,7 +3,7 @@ use Rattle.std.specs.Prelude.{IfSome}
 use Rattle.lru_theory.specs.Places.{keys_in}
 use Rattle.lru_theory.specs.Traces.{is_in}
 use Rattle.lru_trace.specs.Counted.{number_in}
-use Rattle.lru_trace.proofs.DeleteSteps.{stored_there}
+use Rattle.lru_trace.proofs.PlaceNumbers.{stored_there}
 use Rattle.lru_trace.proofs.delete_curve.DeleteCurve.number_of.Goals as goal
 
 pub returns-clause-there : goal.returns-clause-there

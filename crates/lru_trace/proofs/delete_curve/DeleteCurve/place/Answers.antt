@@ -10,8 +10,8 @@ use Rattle.lru_theory.specs.Traces.{is_in}
 use Rattle.lru_trace.specs.Counted.{number_in}
 use Rattle.lru_trace.specs.Deletes.{AreNumbers}
 use Rattle.lru_trace.proofs.CurveSteps.{always_err}
-use Rattle.lru_trace.proofs.DeleteSteps.{reordered, referred_numbers, referred_within, referred_apart, referred_long}
-use Rattle.lru_trace.proofs.DeleteSteps.{found_at, within_at}
+use Rattle.lru_trace.proofs.PlaceNumbers.{reordered, referred_numbers, referred_within, referred_apart, referred_long}
+use Rattle.lru_trace.proofs.PlaceNumbers.{found_at, within_at}
 use Rattle.lru_trace.proofs.delete_curve.DeleteCurve.place.Goals.{In_ok-reserve, In-Ok}
 use Rattle.lru_trace.proofs.delete_curve.DeleteCurve.place.Goals as goal
 

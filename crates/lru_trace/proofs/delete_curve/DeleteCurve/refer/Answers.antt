@@ -2,7 +2,8 @@ use Rattle.std.proofs.Common.{◌≡◌, ◌+◌, ◌++◌, ◌∷◌, [], sym, 
 use Rattle.lru_theory.specs.Inclusion.{refers}
 use Rattle.lru_trace.specs.Deletes.{IsDeleteOf, counted_at, places_of}
 use Rattle.lru_trace.proofs.CurveSteps.{always_err}
-use Rattle.lru_trace.proofs.DeleteSteps.{of_same, of_counts, of_referred, if_fewer}
+use Rattle.lru_trace.proofs.DeleteSteps.{of_same, of_counts, of_referred}
+use Rattle.lru_trace.proofs.PlaceNumbers.{if_fewer}
 use Rattle.lru_trace.proofs.delete_curve.DeleteCurve.refer.Goals as goal
 
 pub returns-in_err-place-clause-err : goal.returns-in_err-place-clause-err
