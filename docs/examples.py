@@ -115,7 +115,7 @@ CRATES = {
          "cache": Given("let mut cache = PageCache::new(alloc, disk, 2);", "Cache<'_>", "rewrite", "cache.discard();")},
         pairs=True),
     "lru_trace": Crate(["lru_trace"], """
-        use lru_trace::{ByteCurve, Curve};
+        use lru_trace::{ByteCurve, Curve, DeleteCurve};
         use std::test::Fail;
         use test_helpers::{all, check};"""),
 }

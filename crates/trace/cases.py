@@ -38,6 +38,11 @@ CASES = {
                                             [b"", b"-1", b"+1", b" 1", b"1 ", b"0x1", b"1.0", b"18446744073709551616", b"x",
                                              b"99999999999999999999999", b"007", b"7"]) + b"7\n7,\n7,\xff\nalone\n12,k,3\n",
     "bytes_none": b"1 2\n-,a\n-,b\n",
+    "deletes": b"0 1 2 3 4\n" + b"".join(b"%s\n" % line for line in b"a,b,c,- b,d,b,- z,a,- b,- b,b,c,a,- a,- c,e,d,b,a,c".split(b",")),
+    "deletes_many": b"1 2 4 8 16\n" + b"".join(b"%s%d\n" % (b"- " if i % 7 in (2, 5) else b"", i * i * i % 23 * i % 19)
+                                             for i in range(400)),
+    "deletes_malformed": b"1 2\na\n- \n-\n-a\n--\n- " + b"x" * 65 + b"\n- \xff\n-  a\na\n- a\na\n-a\n- " + b"x" * 64,
+    "deletes_of_columns": b"1 2\n1,a\n2,b\n- 3,a\n- b\n1,- b\n1,b\n1,a\n- ,\n-,a\n- 0,b,1\n0,b\n",
     "bytes_too_many": b"1\n18446744073709551615,a\n1,b\n",
 }
 
@@ -166,6 +171,9 @@ class Read:
         self.references = len(self.keys) - self.warm_up
         self.different = len(set(self.keys))
         self.scale = 1 << sample
+        self.scaled()
+
+    def scaled(self):
         self.expected = (self.references + (self.skipped or 0)) // self.scale
         self.axis = [1]
         while self.axis[-1] < min(max(1, self.needed) * self.scale, 2**63):
@@ -195,6 +203,43 @@ class Read:
 
     def points(self):
         return sorted(set(self.sizes + self.powers))
+
+
+class ReadDeletes(Read):
+    """What a trace with deletes says."""
+
+    def __init__(self, trace, column=0, separator=b"", warm_up=0, sample=0, size_column=0):
+        lines = trace.split(b"\n")
+        super().__init__(lines[0], sample=sample)
+        if lines[-1] == b"":
+            lines.pop()
+        marks = [line.startswith(b"- ") for line in lines[1:]]
+        texts = cells([line[2:] if mark else line for line, mark in zip(lines[1:], marks)], column, separator)
+        read = [(key, mark) for key, mark in zip(texts, marks) if text(key)]
+        self.malformed = len(lines) - 1 - len(read)
+        self.skipped, self.calls, self.needed, seen, there = 0, [], 0, 0, set()
+        for key, mark in read:
+            counted = seen >= warm_up
+            seen += not mark
+            if fnv_1a(key) & (1 << sample) - 1 != 0:
+                self.skipped += counted and not mark
+                continue
+            self.calls.append((key, mark, counted))
+            there = there - {key} if mark else there | {key}
+            self.needed = max(self.needed, len(there))
+        self.skipped = self.skipped if sample else None
+        self.references = sum(counted and not mark for _, mark, counted in self.calls)
+        self.different = self.needed
+        self.scaled()
+
+    def misses(self, places):
+        cache, count = [], 0
+        for key, mark, counted in self.calls:
+            count += counted and not mark and key not in cache
+            cache = [it for it in cache if it != key]
+            if not mark:
+                cache = ([key] + cache)[:places // self.scale]
+        return count
 
 
 def report(read, best):
@@ -257,7 +302,8 @@ def svg(read, best):
 
 def write(name, trace, words, form=report, column=0, separator=b",", warm_up=None, sample=None, size_column=0):
     """Writes a case with these arguments, of which `words` names no column, no warm-up and no sample."""
-    read = Read(trace, column, separator, warm_up or 0, sample or 0, size_column)
+    reader = ReadDeletes if "--deletes" in words else Read
+    read = reader(trace, column, separator, warm_up or 0, sample or 0, size_column)
     words = words + (["--warm-up", warm_up] if warm_up is not None else [])
     words += ["--sample", sample] if sample is not None else []
     words += ["--column", column] if column else []
@@ -274,6 +320,16 @@ for name, trace in CASES.items():
         write(name, trace, [], column=0 if name == "bytes_alone" else 2, size_column=1)
     else:
         write(name, trace, [])
+for name in ["deletes", "deletes_many", "deletes_malformed", "steps", "sizes_alone"]:
+    write(f"{name}_counted", CASES[name], ["--deletes"])
+for name, form in ("csv", csv), ("svg", svg):
+    write(f"deletes_many_{name}", CASES["deletes_many"], ["--deletes", f"--{name}"], form)
+    write(f"deletes_many_sample_{name}", CASES["deletes_many"], ["--deletes", f"--{name}"], form, warm_up=9, sample=1)
+write("deletes_of_columns_counted", CASES["deletes_of_columns"], ["--deletes"], report, 2)
+write("deletes_sample", CASES["deletes_many"], ["--deletes"], report, sample=1)
+for warm_up in 2, 4, 100:
+    write(f"deletes_warm_up_{warm_up}", CASES["deletes"], ["--deletes"], report, warm_up=warm_up)
+write("deletes_many_warm_up", CASES["deletes_many"], ["--deletes"], report, warm_up=150)
 for name in BEST:
     write(f"{name}_best", CASES[name], ["--best"])
 for name in FORMS:

@@ -108,7 +108,7 @@ def indices(toks):
         base = out[start:]
         del out[start:]
         rest = "".join(t.text for t in toks[after(toks, end):after(toks, end) + 3])
-        is_written = re.match(r"[-+*/|&^]?=(?!=)|\.copy_from_slice\(", rest) or (significant(out, -1) and significant(out, -1).text == "mut")
+        is_written = re.match(r"[-+*/|&^]?=(?![=>])|\.copy_from_slice\(", rest) or (significant(out, -1) and significant(out, -1).text == "mut")
         macro = "at_mut" if is_written else "at"
         out += [raw(f"(*{macro}!(")] + base + [raw(", ")] + indices(inside) + [raw("))")]
         i = end + 1

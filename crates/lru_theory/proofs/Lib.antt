@@ -11,4 +11,5 @@ pub mod Nears
 pub mod Nexts
 pub mod LongerTraces
 pub mod OtherPolicies
+pub mod Places
 pub mod Windows

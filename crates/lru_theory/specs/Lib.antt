@@ -2,5 +2,6 @@
 pub mod Traces
 pub mod Policies
 pub mod Inclusion
+pub mod Places
 pub mod Budgets
 pub mod Best

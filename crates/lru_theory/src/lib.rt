@@ -3,12 +3,15 @@
 //! The functions do nothing: their contracts are the theorems. `docs/THEORY.md` explains each theorem.
 #![tactic(auto)]
 
-ghost use Rattle.std.specs.Prelude.{◌≡◌, ℕ, ◌+◌, ◌-◌, ◌*◌, ◌≤◌, ◌<◌, List, [], length, take, true};
+ghost use Rattle.std.specs.Prelude.{◌≡◌, ℕ, ◌+◌, ◌-◌, ◌*◌, ◌≤◌, ◌<◌, List, [], length, map, take, true};
+ghost use Rattle.std.specs.Prelude.{Option, nat_lt, ◌&&◌};
+ghost use Rattle.std.specs.List.{AllByRecursion};
 ghost use Rattle.lru_theory.specs.Budgets.{affordable, cached_within, faults_within, misses_within, EqualCosts};
 ghost use Rattle.lru_theory.specs.Traces.{is_in, recency, misses, cached, faults, past_after, AreEqual};
 ghost use Rattle.lru_theory.specs.Policies.{Loads, Demands, Bypasses, Served};
 ghost use Rattle.lru_theory.specs.Best.{min_misses, bypass_misses};
-ghost use Rattle.lru_theory.specs.Inclusion.{KeyCall, after_calls, IsIncluded, IsSubsequence};
+ghost use Rattle.lru_theory.specs.Inclusion.{KeyCall, refers, after_calls, IsIncluded, IsSubsequence};
+ghost use Rattle.lru_theory.specs.Places.{keys_in, place_of, place_calls, call_faults, IsNoPromotion};
 
 /// If an LRU cache of n places contains the n keys that were referenced last, it still does after any trace (`keys`).
 /// The cache misses exactly at the references whose reuse distance is at least n, and at the first reference to each
@@ -67,6 +70,20 @@ pub fn a_smaller_cache_is_included<K: Eq>()
         is_in K.eq key small ≡ true → is_in K.eq key large ≡ true }
     ensures misses { (n m : ℕ) (trace small large : List K) → n ≤ m → IsIncluded K.eq n m small large →
         faults K.eq m large trace ≤ faults K.eq n small trace }
+{}
+
+/// One list of places holds the keys of the LRU caches of every size, even if keys are removed: the cache of n places
+/// contains exactly the keys in the first n places (`keys`). A removed key leaves a free place. A reference takes the
+/// newest place that is free or contains the key. If this place is free, the old place of the key becomes free. So a
+/// reference finds its key if fewer than n places come before it (`finds`). Without other calls, references miss as often
+/// as in a trace (`misses`).
+pub fn deletes_leave_places<K: Eq>()
+    ensures keys { (n : ℕ) (calls : List (KeyCall K)) (places : List (Option K)) → AllByRecursion IsNoPromotion calls →
+        keys_in (take n (place_calls K.eq calls places)) ≡ after_calls K.eq n calls (keys_in (take n places)) }
+    ensures finds { (n : ℕ) (key : K) (places : List (Option K)) → is_in K.eq key (keys_in (take n places))
+        ≡ (is_in K.eq key (keys_in places) && nat_lt (place_of (K.eq key) places) n) }
+    ensures misses { (n : ℕ) (trace keys : List K) →
+        call_faults K.eq n (map refers trace) keys ≡ faults K.eq n keys trace }
 {}
 
 /// A larger budget never means more misses. If the cache with the smaller budget contains the newest keys of the other

@@ -23,6 +23,7 @@ use Rattle.lru_trace.specs.declared.curves.AnyCurve.TheVariants as curves
 
 pub no_references : (curve : AnyCurve) → IsCurveOf [] [] curve → references_of curve ≤ 0
 no_references (curves.Places curve) of = omega (arith, of.all)
+no_references (curves.Deletes curve) of = omega (arith, of.all)
 no_references (curves.Bytes curve) of = omega (arith, of.all)
 
 pub alike : {curve : AnyCurve} → AreAlike curve curve

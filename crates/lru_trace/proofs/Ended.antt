@@ -59,7 +59,7 @@ module _ (from mid : Option (List ℕ)) (first : List ℕ) where
   pub only_sizes : (options : Options) (ending : Ending) (sizes : List ℕ) (curve : AnyCurve) → (ending ≡ endings.Feed → ⊥)
       → TakesLine from mid ending first → Some sizes ≡ sizes_from [] None first → IsCurveOf [] [] curve
       → Fits options sizes curve
-      → TraceRead from mid options sizes curve (record { malformed = 0; skipped = 0 })
+      → TraceRead from mid options sizes curve (record { malformed = 0; skipped = 0; deleted = 0 })
   only_sizes options endings.Feed sizes curve other taken named of fits = absurd (other refl)
   only_sizes options endings.Nothing sizes curve other (taken, nothing) named of fits =
       let e : Some sizes ≡ None = named ∙ ap (sizes_from [] None) nothing in absurd cc

@@ -3,6 +3,7 @@ pub mod NodeSums
 pub mod Numbered
 pub mod CurveSteps
 pub mod AnyCurves
+pub mod WarmUps
 pub mod ReadLines
 pub mod Powers
 pub mod Cells
@@ -18,3 +19,7 @@ pub mod SizedSteps
 pub mod SizedKeys
 pub mod SizedRecency
 pub mod SizedTotals
+pub mod Marks
+pub mod PlaceSteps
+pub mod PlaceNumbers
+pub mod DeleteSteps

@@ -51,7 +51,7 @@ named_on number new keeps (x ∷ xs) (n ∷ ns) e =
 
 module _ (number : List ℕ → Option ℕ)
     (apart : (a b : List ℕ) (n : ℕ) → number a ≡ Some n → number b ≡ Some n → a ≡ b) where
-  same_test : (a b : List ℕ) (m n : ℕ) → number a ≡ Some m → number b ≡ Some n → bytes_eq a b ≡ nat_eq m n
+  pub same_test : (a b : List ℕ) (m n : ℕ) → number a ≡ Some m → number b ≡ Some n → bytes_eq a b ≡ nat_eq m n
   same_test a b m n d e = go (nat_eq m n) refl
     where
       go : (t : Bool) → nat_eq m n ≡ t → bytes_eq a b ≡ t

@@ -1,29 +1,31 @@
 use Rattle.std.proofs.Common.{◌≡◌, ℕ, ◌+◌, ◌<◌, Bool, true, false, cond, List, [], ◌∷◌, ◌++◌, length}
 use Rattle.std.proofs.Common.{take, drop, get_or, ◌==◌, ◌≤◌, ◌-◌, IfSome, zero, suc, Option, Some, None, OnSome, refl, sym, ap, ◌∙◌, subst, arith, append_assoc}
-use Rattle.std.specs.Prelude.{not, nat_lt, if◌then◌else◌, Result, Ok, Err, OnErr, is_some}
+use Rattle.std.specs.Prelude.{not, nat_lt, Result, Ok, Err, OnErr, is_some}
 use Rattle.std.specs.List.{filter, cons_option, All}
 use Rattle.std.specs.Io.{StopsAt}
 use Rattle.std.specs.Io.BufRead.{take_through, drop_through, DropsThrough}
 use Rattle.std.specs.Io.KnownBytes.{Consumes, IsAtEnd}
 use Rattle.std.proofs.KnownBytes.{Consumes-trans, Consumes-nil}
 use Rattle.std.proofs.lemmas.Bool.{ne_eqb, eqb-true, le-leb}
-use Rattle.std.proofs.lemmas.Bool.{lt-ltb, ltb-true, ltb-false}
+use Rattle.std.proofs.lemmas.Bool.{lt-ltb}
 use Rattle.std.proofs.lemmas.Str.{IsUtf8-from_is_utf8, is_utf8-from_IsUtf8}
 use Rattle.std.specs.Str.{IsUtf8, is_utf8}
-use Rattle.std.proofs.lemmas.List.{append-nil, length-append, take-append-le, drop-append-le, take_all, drop_all, take_more}
+use Rattle.std.proofs.lemmas.List.{append-nil, length-append, take-append-le, take_all, drop_all, take_more}
 use Rattle.std.proofs.lemmas.List.Elements.{recursion_from_All}
-use Rattle.std.proofs.lemmas.List.Elements.{filter-append, filter_map-append}
+use Rattle.std.proofs.lemmas.List.Elements.{filter_map-append}
 use Rattle.lru_trace.specs.Curves.{IsCurveOf, AreTooLarge, Follows, Leads}
 use Rattle.lru_trace.specs.declared.curves.AnyCurve.{AnyCurve}
 use Rattle.lru_trace.specs.Lines.{lines_of, onto_first, fed, LacksFeed, EndsSo, TakesRest, TakesLine, is_key}
 use Rattle.lru_trace.specs.declared.options.Options.{Options}
 use Rattle.lru_trace.specs.References.{reference_of, references_in, malformed_in, warm_in, counted_in, others_in, others_so}
+use Rattle.lru_trace.specs.References.{is_reference, warm_long, warm_up_in}
 use Rattle.lru_trace.specs.References.{warm_up_of, bits_of}
 use Rattle.lru_trace.specs.declared.lines.Others.{Others}
 use Rattle.lru_trace.specs.Samples.{sampled, skipped, is_sampled}
 use Rattle.lru_trace.specs.declared.lines.Ending.{Ending}
 use Rattle.lru_trace.specs.declared.lines.Ending.TheVariants as endings
 use Rattle.lru_trace.specs.Outcome.{KeysRead, TooLargeRead}
+use Rattle.lru_trace.proofs.WarmUps.{filtered_more, kept_and_left, skipped_more, one_more}
 
 pub lines_of-fed : (line rest : List ℕ) → LacksFeed line
     → lines_of (fed line ++ rest) ≡ line ∷ lines_of rest
@@ -147,16 +149,18 @@ nothing_read options curve is =
     bits = bits_of options
 
     w : ℕ
-    w = warm_up_of options.policies
+    w = warm_up_in options []
 
-pub none_left_out : (options : Options) → record { malformed = 0; skipped = 0 } ≡ others_in options []
+pub none_left_out : (options : Options) → record { malformed = 0; skipped = 0; deleted = 0 } ≡ others_in options []
 none_left_out options = λ i. record {
   malformed = 0;
-  skipped = ap (skipped (bits_of options)) (sym (drop_all (warm_up_of options.policies) [] (omega arith))) i;
+  skipped = ap (λ rs. skipped (bits_of options) (filter (is_reference options) rs))
+      (sym (drop_all (warm_up_in options []) [] (omega arith))) i;
+  deleted = 0;
 }
 
 pub none_read : (from : Option (List ℕ)) (options : Options) (curve : AnyCurve) → IsCurveOf [] [] curve
-    → ReadSoFar from from options curve 0 (record { malformed = 0; skipped = 0 })
+    → ReadSoFar from from options curve 0 (record { malformed = 0; skipped = 0; deleted = 0 })
 none_read from options curve is = record {
   bytes = [];
   whole = λ rest. refl;
@@ -167,22 +171,11 @@ none_read from options curve is = record {
 }
 
 abbrev pub both : Others → Others → Others
-both a b = record { malformed = a.malformed + b.malformed; skipped = a.skipped + b.skipped }
-
-filtered_more : {X : Type 0} (p : X → Bool) (xs ys : List X)
-    → length (filter p (xs ++ ys)) ≡ length (filter p xs) + length (filter p ys)
-filtered_more p xs ys = ap length (filter-append p xs ys) ∙ length-append (filter p xs) (filter p ys)
-
-skipped_more : (bits w : ℕ) (keys more : List (List ℕ × ℕ)) → length more ≤ 1 → (warm : Bool)
-    → warm ≡ nat_lt (length keys) w
-    → skipped bits (drop w (keys ++ more)) ≡ skipped bits (drop w keys) + (if warm then 0 else skipped bits more)
-skipped_more bits w keys more few true is =
-    let less = ltb-true (length keys) w (sym is) in
-    ap (skipped bits) (drop_all w (keys ++ more) (omega (arith, less, few, length-append keys more)))
-    ∙ ap (λ ks. skipped bits ks + 0) (sym (drop_all w keys (omega (arith, less))))
-skipped_more bits w keys more few false is =
-    ap (skipped bits) (drop-append-le w keys more (ltb-false (length keys) w (sym is)))
-    ∙ filtered_more (λ key. not (is_sampled bits key.0)) (drop w keys) more
+both a b = record {
+  malformed = a.malformed + b.malformed;
+  skipped = a.skipped + b.skipped;
+  deleted = a.deleted + b.deleted;
+}
 
 module _ (options : Options) (lines : List (List ℕ)) (line : List ℕ) where
   references_more : references_in options (lines ++ line ∷ [])
@@ -196,18 +189,30 @@ module _ (options : Options) (lines : List (List ℕ)) (line : List ℕ) where
       split (Some r) = refl
       split None = refl
 
-  others_more : (warm : Bool) → warm ≡ nat_lt (length (references_in options lines)) (warm_up_of options.policies)
+  others_more : (warm : Bool)
+      → warm ≡ nat_lt (length (filter (is_reference options) (references_in options lines))) (warm_up_of options.policies)
       → others_in options (lines ++ line ∷ []) ≡ both (others_in options lines) (others_so options (line ∷ []) warm)
   others_more warm is = λ i. record {
     malformed = filtered_more (λ line. not (is_some (reference_of options line))) lines (line ∷ []) i;
-    skipped = (ap (λ ks. skipped (bits_of options) (drop (warm_up_of options.policies) ks)) references_more
-        ∙ skipped_more (bits_of options) (warm_up_of options.policies) (references_in options lines)
+    skipped = (ap (λ ks. skipped (bits_of options) (filter (is_reference options)
+        (drop (warm_long (is_reference options) (warm_up_of options.policies) ks) ks))) references_more
+        ∙ skipped_more (bits_of options) (warm_up_of options.policies) (is_reference options) (references_in options lines)
         (references_in options (line ∷ [])) (omega (arith, one_line)) warm is) i;
+    deleted = (ap (λ ks. length (filter (λ reference. not (is_reference options reference)) ks)) references_more
+        ∙ filtered_more (λ reference. not (is_reference options reference)) (references_in options lines)
+        (references_in options (line ∷ []))) i;
   }
 
 pub few_others : (options : Options) (line : List ℕ) (warm : Bool)
     → ((others_so options (line ∷ []) warm).malformed ≤ 1) × ((others_so options (line ∷ []) warm).skipped ≤ 1)
-few_others options line warm = (few (λ line. not (is_some (reference_of options line))) line, only warm)
+    × ((others_so options (line ∷ []) warm).deleted ≤ 1)
+    × ((others_so options (line ∷ []) warm).malformed + (others_so options (line ∷ []) warm).deleted ≤ 1)
+few_others options line warm = (
+  few (λ line. not (is_some (reference_of options line))) line,
+  only warm,
+  one (λ reference. not (is_reference options reference)) (reference_of options line),
+  either (reference_of options line),
+)
   where
     few : {X : Type 0} (p : X → Bool) (x : X) → length (filter p (x ∷ [])) ≤ 1
     few p x = go (p x)
@@ -216,53 +221,38 @@ few_others options line warm = (few (λ line. not (is_some (reference_of options
         go true = omega arith
         go false = omega arith
 
-    go : (r : Option (List ℕ × ℕ)) → skipped (bits_of options) (cons_option r []) ≤ 1
-    go (Some key) = few (λ key. not (is_sampled (bits_of options) key.0)) key
+    one : (p : List ℕ × ℕ → Bool) (r : Option (List ℕ × ℕ)) → length (filter p (cons_option r [])) ≤ 1
+    one p (Some key) = few p key
+    one p None = omega arith
+
+    either : (r : Option (List ℕ × ℕ)) → length (cond (not (is_some r)) (line ∷ []) [])
+        + length (filter (λ reference. not (is_reference options reference)) (cons_option r [])) ≤ 1
+    either (Some key) = omega (arith, few (λ reference. not (is_reference options reference)) key)
+    either None = omega arith
+
+    go : (r : Option (List ℕ × ℕ)) → skipped (bits_of options) (filter (is_reference options) (cons_option r [])) ≤ 1
+    go (Some key) = test (is_reference options key)
+      where
+        test : (b : Bool) → skipped (bits_of options) (cond b (key ∷ []) []) ≤ 1
+        test true = few (λ key. not (is_sampled (bits_of options) key.0)) key
+        test false = omega arith
     go None = omega arith
 
     only : (warm : Bool) → (others_so options (line ∷ []) warm).skipped ≤ 1
     only true = omega arith
     only false = go (reference_of options line)
 
-module _ (bits w : ℕ) (keys more : List (List ℕ × ℕ)) (few : length more ≤ 1) (old : AnyCurve)
-    (Holds : List (List ℕ × ℕ) → List (List ℕ × ℕ) → Type 0) (is_warm : Bool)
-    (is : is_warm ≡ nat_lt (length keys) w) (follows : Leads is_warm old (sampled bits more) Holds) where
-  one_more : IsCurveOf (sampled bits (take w keys)) (sampled bits (drop w keys)) old
-      → Holds (sampled bits (take w (keys ++ more))) (sampled bits (drop w (keys ++ more)))
-  one_more of = go is_warm refl
-    where
-      go : (b : Bool) → is_warm ≡ b
-          → Holds (sampled bits (take w (keys ++ more))) (sampled bits (drop w (keys ++ more)))
-      go true e =
-          let less = ltb-true (length keys) w (sym is ∙ e) in
-          let short : length (keys ++ more) ≤ w = omega (arith, less, few, length-append keys more) in
-          subst (λ ks. Holds (sampled bits ks) (sampled bits (drop w (keys ++ more))))
-          (sym (take_all w (keys ++ more) short))
-          (subst (λ ks. Holds (sampled bits (keys ++ more)) (sampled bits ks))
-          (sym (drop_all w (keys ++ more) short))
-          (subst (λ ks. Holds ks []) (sym (filter-append (λ key. is_sampled bits key.0) keys more))
-          (follows.warmed e (sampled bits keys)
-          (subst (λ ks. IsCurveOf (sampled bits ks) [] old) (take_all w keys (omega (arith, less)))
-          (subst (λ ks. IsCurveOf (sampled bits (take w keys)) (sampled bits ks) old)
-          (drop_all w keys (omega (arith, less))) of)))))
-      go false e =
-          let long = ltb-false (length keys) w (sym is ∙ e) in
-          subst (λ ks. Holds (sampled bits ks) (sampled bits (drop w (keys ++ more))))
-          (sym (take-append-le w keys more long))
-          (subst (λ ks. Holds (sampled bits (take w keys)) (sampled bits ks))
-          (sym (drop-append-le w keys more long))
-          (subst (λ ks. Holds (sampled bits (take w keys)) ks)
-          (sym (filter-append (λ key. is_sampled bits key.0) (drop w keys) more))
-          (follows.counted e (sampled bits (take w keys)) (sampled bits (drop w keys)) of)))
-
 module _ {from mid : Option (List ℕ)} {options : Options} {old : AnyCurve} {lines : ℕ} {others : Others}
     (so_far : ReadSoFar from mid options old lines others)
     (to : Option (List ℕ)) (line : List ℕ) where
-  abbrev w : ℕ
-  w = warm_up_of options.policies
+  abbrev n : ℕ
+  n = warm_up_of options.policies
 
   abbrev bits : ℕ
   bits = bits_of options
+
+  abbrev test : List ℕ × ℕ → Bool
+  test = is_reference options
 
   abbrev it : List (List ℕ × ℕ)
   it = references_in options (line ∷ [])
@@ -278,12 +268,13 @@ module _ {from mid : Option (List ℕ)} {options : Options} {old : AnyCurve} {li
   last_line : LacksFeed line → 0 < length line → lines_of (so_far.bytes ++ line) ≡ lines_of so_far.bytes ++ line ∷ []
   last_line lacks some = so_far.whole line ∙ ap (λ ls. lines_of so_far.bytes ++ ls) (lines_of-last line lacks some)
 
-  module _ (is_warm : Bool) (is : is_warm ≡ nat_lt (lines - others.malformed) w) where
-    warms : is_warm ≡ nat_lt (length (references_in options (lines_of so_far.bytes))) w
+  module _ (is_warm : Bool) (is : is_warm ≡ nat_lt (lines - others.malformed - others.deleted) n) where
+    warms : is_warm ≡ nat_lt (length (filter test (references_in options (lines_of so_far.bytes)))) n
     warms =
-        let read : lines - others.malformed ≡ length (references_in options (lines_of so_far.bytes)) =
-        omega (arith, so_far.all) in
-        is ∙ ap (λ n. nat_lt n w) read
+        let all = references_in options (lines_of so_far.bytes) in
+        let read : lines - others.malformed - others.deleted ≡ length (filter test all) =
+        omega (arith, so_far.all, ap (λ o. o.deleted) so_far.left_out, kept_and_left test all) in
+        is ∙ ap (λ m. nat_lt m n) read
 
     longer : (bytes : List ℕ) → lines_of bytes ≡ lines_of so_far.bytes ++ line ∷ []
         → references_in options (lines_of so_far.bytes) ++ it ≡ references_in options (lines_of bytes)
@@ -296,8 +287,9 @@ module _ {from mid : Option (List ℕ)} {options : Options} {old : AnyCurve} {li
     holds Holds follows bytes same =
         let before = lines_of so_far.bytes in
         let one = one_line options before line in
-        subst (λ ks. Holds (sampled bits (take w ks)) (sampled bits (drop w ks))) (longer bytes same)
-        (one_more bits w (references_in options before) it (omega (arith, one)) old Holds is_warm warms follows
+        subst (λ ks. Holds (sampled bits (take (warm_long test n ks) ks)) (sampled bits (drop (warm_long test n ks) ks)))
+        (longer bytes same)
+        (one_more bits n test (references_in options before) it (omega (arith, one)) old Holds is_warm warms follows
         so_far.curve_of)
 
     module _ (follows : Leads is_warm old (sampled bits it) AreTooLarge) where

@@ -6,30 +6,35 @@ use Rattle.std.specs.Map.{keys_of}
 use Rattle.lru_trace.specs.Counted.{IsOf}
 use Rattle.lru_theory.specs.Traces.{is_in}
 use Rattle.lru_trace.specs.References.{bits_of, measure_of, wants_best}
+use Rattle.lru_trace.specs.Deletes.{IsDeleteOf, calls_of}
 use Rattle.lru_trace.specs.Rows.{powers}
 use Rattle.lru_trace.specs.Sized.{IsSizedOf, bytes_of}
 use Rattle.lru_trace.specs.declared.curves.AnyCurve.{AnyCurve}
 use Rattle.lru_trace.specs.declared.curves.AnyCurve.TheVariants as curves
 use Rattle.lru_trace.specs.declared.options.Measure.{Measure}
-use Rattle.lru_trace.specs.declared.options.Measure.TheVariants.{Places, Bytes}
+use Rattle.lru_trace.specs.declared.options.Measure.TheVariants.{Places, PlacesWithDeletes, Bytes}
 use Rattle.lru_trace.specs.declared.options.Options.{Options}
 
 abbrev pub measure_in : AnyCurve → Measure
 measure_in (curves.Places curve) = Places
+measure_in (curves.Deletes curve) = PlacesWithDeletes
 measure_in (curves.Bytes curve) = Bytes
 
 abbrev pub references_of : AnyCurve → ℕ
 references_of (curves.Places curve) = curve.references
+references_of (curves.Deletes curve) = curve.references
 references_of (curves.Bytes curve) = curve.references
 
 -- whether the curve keeps the keys of all counted references
 abbrev pub keeps : AnyCurve → Bool
 keeps (curves.Places curve) = is_some curve.kept
+keeps (curves.Deletes curve) = false
 keeps (curves.Bytes curve) = false
 
 -- The limits of bytes. A curve for sizes in entries has no limits, because it counts the misses for every size.
 abbrev pub limits_of : AnyCurve → Option (List ℕ)
 limits_of (curves.Places curve) = None
+limits_of (curves.Deletes curve) = None
 limits_of (curves.Bytes curve) = Some curve.limits
 
 -- the curve counts the misses in a cache of this size
@@ -44,6 +49,7 @@ HasAll curve bits sizes = All (λ size. Has curve (size / 2 ^ bits)) sizes
 -- the curve counts the references of `trace`, a trace that comes after the warm-up `warm`
 abbrev pub IsCurveOf : List (List ℕ × ℕ) → List (List ℕ × ℕ) → AnyCurve → Type 0
 IsCurveOf warm trace (curves.Places curve) = IsOf (keys_of warm) (keys_of trace) curve
+IsCurveOf warm trace (curves.Deletes curve) = IsDeleteOf (calls_of warm) (calls_of trace) curve
 IsCurveOf warm trace (curves.Bytes curve) = IsSizedOf warm trace curve
 
 -- the facts about a curve that further references do not change

@@ -12,3 +12,5 @@ pub mod Outcome
 pub mod Times
 pub mod Sized
 pub mod Curves
+pub mod Places
+pub mod Deletes

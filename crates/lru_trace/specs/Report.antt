@@ -1,19 +1,18 @@
 -- What the program `trace` writes for a trace, in each form.
 use Rattle.std.specs.Prelude.{ℕ, ◌-◌, ◌/◌, ◌%◌, ◌==◌, if◌then◌else◌, List, [], ◌∷◌, ◌++◌, length, map}
 use Rattle.std.specs.Prelude.{flat_map, replicate, decimal, codes, Bool, false, Option, Some, None}
-use Rattle.std.specs.Map.{keys_of}
 use Rattle.std.specs.Option.{option_map}
 use Rattle.lru_trace.specs.declared.options.Options.{Options}
 use Rattle.lru_trace.specs.declared.options.Form.{Form}
 use Rattle.lru_trace.specs.declared.options.Form.TheVariants as forms
 use Rattle.lru_trace.specs.declared.options.Measure.{Measure}
-use Rattle.lru_trace.specs.declared.options.Measure.TheVariants.{Places, Bytes}
+use Rattle.lru_trace.specs.declared.options.Measure.TheVariants.{Places, PlacesWithDeletes, Bytes}
 use Rattle.lru_trace.specs.declared.lines.Others.{Others}
 use Rattle.lru_trace.specs.declared.rows.BestMisses.{BestMisses}
 use Rattle.lru_trace.specs.declared.rows.Counts.{Counts}
 use Rattle.lru_trace.specs.declared.rows.Row.{Row}
 use Rattle.lru_trace.specs.References.{warm_in, counted_in, others_in, bits_of, wants_best, measure_of}
-use Rattle.lru_trace.specs.Rows.{keys, expected_of, row_of, axis_in, powers_in, points}
+use Rattle.lru_trace.specs.Rows.{references_of, keys_among, expected_of, row_of, axis_in, powers_in, points}
 use Rattle.lru_trace.specs.Sizes.{sizes_from}
 use Rattle.lru_trace.specs.Svg.{missed_part, svg_text}
 
@@ -28,6 +27,7 @@ best_text (Some best) = codes " min " ++ (decimal best.min ++ (codes " bypass " 
 
 abbrev pub measure_text : Measure → List ℕ
 measure_text Places = codes "places "
+measure_text PlacesWithDeletes = codes "places "
 measure_text Bytes = codes "bytes "
 
 abbrev pub size_text : Measure → Row → List ℕ
@@ -68,8 +68,8 @@ csv_of best rows = csv_head best ++ flat_map csv_line rows
 abbrev pub counts_of : Measure → ℕ → List (List ℕ × ℕ) → List (List ℕ × ℕ) → Others → Counts
 counts_of measure bits warm trace others = record {
   measure = measure;
-  references = length trace;
-  keys = keys (keys_of warm) (keys_of trace);
+  references = references_of measure trace;
+  keys = keys_among measure warm trace;
   malformed = others.malformed;
   skipped = if bits == 0 then None else Some others.skipped;
 }

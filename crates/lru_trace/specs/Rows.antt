@@ -11,7 +11,8 @@ use Rattle.lru_trace.specs.declared.rows.BestMisses.{BestMisses}
 use Rattle.lru_trace.specs.declared.rows.Counts.{Counts}
 use Rattle.lru_trace.specs.declared.rows.Row.{Row}
 use Rattle.lru_trace.specs.declared.options.Measure.{Measure}
-use Rattle.lru_trace.specs.declared.options.Measure.TheVariants.{Places, Bytes}
+use Rattle.lru_trace.specs.declared.options.Measure.TheVariants.{Places, PlacesWithDeletes, Bytes}
+use Rattle.lru_trace.specs.Deletes.{calls_of, missed_calls, places_of, referred}
 use Rattle.lru_trace.specs.Sized.{missed_within, bytes_of}
 
 abbrev pub best_in : List (List ℕ) → Bool → ℕ → Option BestMisses
@@ -28,12 +29,26 @@ keys warm trace = length (recency bytes_eq (past_after (past_after [] warm) trac
 -- How many references of `trace` miss in a cache of this size, if the warm-up comes before `trace`.
 abbrev pub missed : Measure → List (List ℕ × ℕ) → List (List ℕ × ℕ) → ℕ → ℕ
 missed Places warm trace size = misses bytes_eq size (past_after [] (keys_of warm)) (keys_of trace)
+missed PlacesWithDeletes warm trace size = missed_calls size (calls_of warm) (calls_of trace)
 missed Bytes warm trace size = missed_within size warm trace
 
 -- the least size of a cache that has room for all keys
 abbrev pub needed : Measure → List (List ℕ × ℕ) → List (List ℕ × ℕ) → ℕ
 needed Places warm trace = keys (keys_of warm) (keys_of trace)
+needed PlacesWithDeletes warm trace = length (places_of (calls_of warm) (calls_of trace))
 needed Bytes warm trace = bytes_of (warm ++ trace)
+
+-- how many lines of the trace are references
+abbrev pub references_of : Measure → List (List ℕ × ℕ) → ℕ
+references_of Places trace = length trace
+references_of PlacesWithDeletes trace = referred (calls_of trace)
+references_of Bytes trace = length trace
+
+-- How many different keys were referenced. With deletes, how many keys were there at once in a cache that evicts nothing.
+abbrev pub keys_among : Measure → List (List ℕ × ℕ) → List (List ℕ × ℕ) → ℕ
+keys_among Places warm trace = keys (keys_of warm) (keys_of trace)
+keys_among PlacesWithDeletes warm trace = length (places_of (calls_of warm) (calls_of trace))
+keys_among Bytes warm trace = keys (keys_of warm) (keys_of trace)
 
 -- The powers of two from 2 ^ level on. The list ends with the first power that is at least `most`, or after n powers.
 unfoldable pub powers : ℕ → ℕ → ℕ → List ℕ

@@ -7,7 +7,7 @@ use Rattle.lru_trace.specs.declared.rows.BestMisses.{BestMisses}
 use Rattle.lru_trace.specs.declared.rows.Counts.{Counts}
 use Rattle.lru_trace.specs.declared.rows.Row.{Row}
 use Rattle.lru_trace.specs.declared.options.Measure.{Measure}
-use Rattle.lru_trace.specs.declared.options.Measure.TheVariants.{Places, Bytes}
+use Rattle.lru_trace.specs.declared.options.Measure.TheVariants.{Places, PlacesWithDeletes, Bytes}
 use Rattle.lru_trace.specs.declared.svg.Policy.{Policy}
 use Rattle.lru_trace.specs.declared.svg.Policy.TheVariants as policies
 
@@ -55,6 +55,7 @@ point_text octaves policy row = if row.size == 0 then [] else if nat_le (x_of oc
 -- the label of the horizontal axis
 abbrev pub label : Measure → List ℕ
 label Places = PLACES.now
+label PlacesWithDeletes = PLACES.now
 label Bytes = BYTES.now
 
 -- the entry of a policy in the legend, and the beginning of the policy's curve

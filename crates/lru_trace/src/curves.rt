@@ -2,19 +2,22 @@
 ghost use Rattle.std.specs.Prelude.{◌≡◌, ◌+◌, ◌-◌, ◌<◌, ◌≤◌, ◌^◌, ℕ, List, [], ◌∷◌, ◌++◌, IfOk, OnOk, IfErr, is_some, length};
 ghost use Rattle.std.specs.Map.{keys_of};
 ghost use Rattle.lru_trace.specs.Curves.{IsCurveOf, AreAlike, AreTooLarge, Follows, Has, Leads, measure_in, references_of, keeps};
-ghost use Rattle.lru_trace.specs.Rows.{keys, missed, needed};
+ghost use Rattle.lru_trace.specs.Rows.{keys_among, missed, needed};
+ghost use Rattle.lru_trace.specs.Rows as rows;
 ghost use Rattle.lru_trace.specs.Times.{KnowsRest};
 
 use crate::best::Best;
 use crate::byte_curve::{ByteCurve, SizeError};
 use crate::curve::Curve;
+use crate::delete_curve::DeleteCurve;
 use crate::options::Measure;
 use std::alloc::AllocError;
 
-/// A curve whose sizes are numbers of entries, or numbers of bytes.
+/// A curve whose sizes are numbers of entries, without or with deletes, or numbers of bytes.
 #[derive(Drop)]
 pub enum AnyCurve {
     Places(Curve),
+    Deletes(DeleteCurve),
     Bytes(ByteCurve),
 }
 
@@ -29,6 +32,8 @@ impl AnyCurve {
     {
         match self {
             AnyCurve::Places(curve) => Ok(curve.warm_up(key)?),
+            AnyCurve::Deletes(curve) if size == 0 => Ok(curve.delete(key)?),
+            AnyCurve::Deletes(curve) => Ok(curve.warm_up(key)?),
             AnyCurve::Bytes(curve) => curve.warm_up(key, size),
         }
     }
@@ -44,11 +49,13 @@ impl AnyCurve {
     {
         match self {
             AnyCurve::Places(curve) => Ok(curve.refer(key)?),
+            AnyCurve::Deletes(curve) if size == 0 => Ok(curve.delete(key)?),
+            AnyCurve::Deletes(curve) => Ok(curve.refer(key)?),
             AnyCurve::Bytes(curve) => curve.refer(key, size),
         }
     }
 
-    /// References a key, and counts the reference unless `warm` is true.
+    /// References a key, and counts the reference unless `warm` is true. With deletes, the size 0 deletes the key.
     pub(crate) fn refer(&mut self, warm: bool, key: &str, size: u64) -> Result<(), SizeError>
         requires { references_of self.old < 2 ^ 64 - 1 }
         ensures ok { OnOk result (Follows warm self.old ((key.now, size) ∷ []) self.new) }
@@ -68,25 +75,29 @@ impl AnyCurve {
     {
         match self {
             AnyCurve::Places(_) => Measure::Places,
+            AnyCurve::Deletes(_) => Measure::PlacesWithDeletes,
             AnyCurve::Bytes(_) => Measure::Bytes,
         }
     }
 
     pub(crate) fn references(&self) -> u64
-        ensures { (warm trace : List (List ℕ × ℕ)) → IsCurveOf warm trace self.now → result ≡ length trace }
+        ensures { (warm trace : List (List ℕ × ℕ)) → IsCurveOf warm trace self.now →
+            result ≡ rows.references_of (measure_in self.now) trace }
     {
         match self {
             AnyCurve::Places(curve) => curve.references(),
+            AnyCurve::Deletes(curve) => curve.references(),
             AnyCurve::Bytes(curve) => curve.references(),
         }
     }
 
     pub(crate) fn keys(&self) -> usize
         ensures { (warm trace : List (List ℕ × ℕ)) → IsCurveOf warm trace self.now →
-            result ≡ keys (keys_of warm) (keys_of trace) }
+            result ≡ keys_among (measure_in self.now) warm trace }
     {
         match self {
             AnyCurve::Places(curve) => curve.keys(),
+            AnyCurve::Deletes(curve) => curve.places(),
             AnyCurve::Bytes(curve) => curve.keys(),
         }
     }
@@ -98,6 +109,7 @@ impl AnyCurve {
     {
         match self {
             AnyCurve::Places(curve) => curve.keys(),
+            AnyCurve::Deletes(curve) => curve.places(),
             AnyCurve::Bytes(curve) => curve.bytes() as usize,
         }
     }
@@ -109,6 +121,7 @@ impl AnyCurve {
     {
         match self {
             AnyCurve::Places(curve) => curve.misses(size),
+            AnyCurve::Deletes(curve) => curve.misses(size),
             AnyCurve::Bytes(curve) => curve.misses(size as u64).unwrap_or(0),
         }
     }
@@ -120,7 +133,7 @@ impl AnyCurve {
     {
         match self {
             AnyCurve::Places(curve) => curve.best(),
-            AnyCurve::Bytes(_) => Ok(None),
+            AnyCurve::Deletes(_) | AnyCurve::Bytes(_) => Ok(None),
         }
     }
 }

@@ -91,6 +91,7 @@ impl Distances {
         ensures recency { self.new.recency ≡ self.old.recency }
         ensures keys { OnOk result (self.new.keys ≡ self.old.keys + 1) }
         ensures weights { self.new.weights ≡ self.old.weights }
+        ensures room { self.new.room ≡ self.old.room }
         ensures err { OnErr result (self.new.keys ≡ self.old.keys) }
     {
         let key = self.slots.len();
@@ -129,6 +130,17 @@ impl Distances {
             Some(weight) => *weight,
             None => 1,
         }
+    }
+
+    /// Returns the sum of the weights of the keys that were referenced after the last reference to this key.
+    pub fn position(&self, key: usize) -> Option<u64>
+        requires { key < self.now.keys }
+        ensures { result ≡ position (weight_in self.now.weights) key self.now.recency }
+    {
+        let Some(slot) = self.slots[key] else {
+            return None;
+        };
+        Some(self.tree.weight_behind(slot))
     }
 
     fn take_out(&mut self, key: usize) -> Option<u64>

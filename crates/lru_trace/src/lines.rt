@@ -1,9 +1,9 @@
 //! The lines of a trace, and their keys.
 ghost use Rattle.std.specs.Prelude.{◌≡◌, ◌≢◌, ℕ, ◌+◌, ◌-◌, ◌^◌, ◌<◌, ◌≤◌, List, [], ◌∷◌, ◌++◌, true, false, Some, None};
-ghost use Rattle.std.specs.Prelude.{IfOk, OnOk, OnErr, IfErr, MatchOption};
+ghost use Rattle.std.specs.Prelude.{IfOk, OnOk, OnErr, IfErr, MatchOption, length};
 ghost use Rattle.lru_trace.specs.Curves.{IsCurveOf, AreAlike, AreTooLarge, Follows, Leads, references_of};
 ghost use Rattle.lru_trace.specs.Lines.{is_key, fed, EndsSo, TakesLine};
-ghost use Rattle.lru_trace.specs.References.{bits_of, size_of, reference_of, references_in, others_so};
+ghost use Rattle.lru_trace.specs.References.{bits_of, body, deletes, size_of, reference_of, references_in, others_so};
 ghost use Rattle.lru_trace.specs.Samples.{sampled};
 ghost use Rattle.lru_trace.specs.Outcome.{KeysRead, SomeRead, TooLargeRead};
 
@@ -32,21 +32,26 @@ pub enum Ending {
 pub struct Others {
     /// How many lines make no reference.
     pub malformed: u64,
-    /// How many lines after the warm-up spell a key that is not in the sample.
+    /// How many lines after the warm-up reference a key that is not in the sample.
     pub skipped: u64,
+    /// How many lines delete a key.
+    pub deleted: u64,
 }
 
 impl Others {
     fn add(&mut self, more: Others)
         requires malformed { self.old.malformed + more.malformed < 2 ^ 64 }
         requires skipped { self.old.skipped + more.skipped < 2 ^ 64 }
+        requires deleted { self.old.deleted + more.deleted < 2 ^ 64 }
         ensures { self.new ≡ record {
           malformed = self.old.malformed + more.malformed;
           skipped = self.old.skipped + more.skipped;
+          deleted = self.old.deleted + more.deleted;
         } }
     {
         self.malformed += more.malformed;
         self.skipped += more.skipped;
+        self.deleted += more.deleted;
     }
 }
 
@@ -90,11 +95,31 @@ fn key_of(line: &[u8]) -> Option<&str>
     }
 }
 
+fn deletes(line: &[u8], policies: Policies) -> bool
+    ensures value { result ≡ deletes policies line.now }
+    ensures long { result ≡ true → 2 ≤ length line.now }
+{
+    match policies {
+        Policies::Deletes { .. } => line.starts_with(b"- "),
+        Policies::Lru { .. } | Policies::Best | Policies::Sized { .. } => false,
+    }
+}
+
+fn body(line: &[u8], policies: Policies) -> &[u8]
+    ensures { result.now ≡ body policies line.now }
+{
+    if deletes(line, policies) {
+        return &line[2..];
+    }
+    line
+}
+
 fn size_of(line: &[u8], policies: Policies) -> Option<u64>
     ensures { result ≡ size_of policies line.now }
 {
     match policies {
         Policies::Lru { .. } | Policies::Best => Some(1),
+        Policies::Deletes { .. } => Some(u64::from(!deletes(line, policies))),
         Policies::Sized { size, .. } => Some(number_of(cell(line, size))? as u64),
     }
 }
@@ -103,7 +128,7 @@ fn reference_of<'a>(line: &'a [u8], options: Options) -> Option<(&'a str, u64)>
     ensures { MatchOption result (reference_of options line.now ≡ None)
         (λ reference. reference_of options line.now ≡ Some (reference.0.now, reference.1)) }
 {
-    let key = key_of(text_in(line, options.column))?;
+    let key = key_of(text_in(body(line, options.policies), options.column))?;
     let size = size_of(line, options.policies)?;
     Some((key, size))
 }
@@ -127,18 +152,22 @@ fn refer_line(
         return Ok(Others {
             malformed: 1,
             skipped: 0,
+            deleted: 0,
         });
     };
+    let deleted = u64::from(deletes(line, options.policies));
     if !is_sampled(key.as_bytes(), options.bits()) {
         return Ok(Others {
             malformed: 0,
-            skipped: u64::from(!warm),
+            skipped: u64::from(!warm && deleted == 0),
+            deleted,
         });
     }
     curve.refer(warm, key, size)?;
     Ok(Others {
         malformed: 0,
         skipped: 0,
+        deleted,
     })
 }
 
@@ -168,10 +197,11 @@ pub fn read_keys<R: BufRead, P: Write>(
     let mut others = Others {
         malformed: 0,
         skipped: 0,
+        deleted: 0,
     };
     for lines in 0..u64::MAX - 1 {
         progress.note(lines);
-        let warm = lines - others.malformed < warm_up;
+        let warm = lines - others.malformed - others.deleted < warm_up;
         let ending = read_line(reader, line)?;
         if let Ending::Nothing = ending {
             return Ok(others);

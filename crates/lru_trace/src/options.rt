@@ -24,6 +24,8 @@ pub struct Column {
 pub enum Measure {
     /// How many entries the cache can contain.
     Places,
+    /// As `Places`, of a trace that also deletes keys.
+    PlacesWithDeletes,
     /// How many bytes the entries can take together.
     Bytes,
 }
@@ -33,6 +35,8 @@ pub enum Measure {
 pub enum Policies {
     /// LRU. The first `warm_up` keys fill the caches, and their references are not counted.
     Lru { warm_up: u64 },
+    /// As `Lru`. A line that begins with a minus and a space deletes its key.
+    Deletes { warm_up: u64 },
     /// LRU and the best possible policies, which all begin with no keys.
     Best,
     /// LRU with limits of bytes, after a warm-up. The column `size` says how many bytes an entry takes.
@@ -64,7 +68,9 @@ impl Policies {
         ensures { result ≡ warm_up_of self }
     {
         match self {
-            Policies::Lru { warm_up } | Policies::Sized { warm_up, .. } => warm_up,
+            Policies::Lru { warm_up }
+            | Policies::Deletes { warm_up }
+            | Policies::Sized { warm_up, .. } => warm_up,
             Policies::Best => 0,
         }
     }
@@ -73,7 +79,7 @@ impl Policies {
         ensures { result ≡ wants_best self }
     {
         match self {
-            Policies::Lru { .. } | Policies::Sized { .. } => false,
+            Policies::Lru { .. } | Policies::Deletes { .. } | Policies::Sized { .. } => false,
             Policies::Best => true,
         }
     }
@@ -83,6 +89,7 @@ impl Policies {
     {
         match self {
             Policies::Lru { .. } | Policies::Best => Measure::Places,
+            Policies::Deletes { .. } => Measure::PlacesWithDeletes,
             Policies::Sized { .. } => Measure::Bytes,
         }
     }

@@ -58,7 +58,7 @@ fn measure_text(measure: Measure) -> &'static str
     ensures { result.now ≡ measure_text measure }
 {
     match measure {
-        Measure::Places => "places ",
+        Measure::Places | Measure::PlacesWithDeletes => "places ",
         Measure::Bytes => "bytes ",
     }
 }

@@ -147,7 +147,7 @@ fn label(measure: Measure) -> &'static str
     ensures { result.now ≡ label measure }
 {
     match measure {
-        Measure::Places => PLACES,
+        Measure::Places | Measure::PlacesWithDeletes => PLACES,
         Measure::Bytes => BYTES,
     }
 }

@@ -7,6 +7,7 @@ ghost use Rattle.lru_trace.specs.Outcome.{Ends, TraceRead, NoSizesRead, SomeRead
 use crate::byte_curve::ByteCurve;
 use crate::curve::Curve;
 use crate::curves::AnyCurve;
+use crate::delete_curve::DeleteCurve;
 use crate::lines::{Ending, Others, read_keys, read_line};
 use crate::options::{Options, Policies};
 use crate::outcome::{TraceEnd, TraceError};
@@ -53,6 +54,7 @@ fn empty_curve(alloc: Global, options: Options, sizes: &[usize]) -> Result<AnyCu
 {
     match options.policies {
         Policies::Lru { .. } => Ok(AnyCurve::Places(Curve::new(alloc)?)),
+        Policies::Deletes { .. } => Ok(AnyCurve::Deletes(DeleteCurve::new(alloc)?)),
         Policies::Best => Ok(AnyCurve::Places(Curve::keeping_references(alloc)?)),
         Policies::Sized { .. } => {
             let limits = limits_of(alloc, sizes, options.bits())?;
@@ -85,6 +87,7 @@ fn read_trace<R: BufRead, P: Write>(
         let others = Others {
             malformed: 0,
             skipped: 0,
+            deleted: 0,
         };
         return Ok(Some(Lines {
             sizes,

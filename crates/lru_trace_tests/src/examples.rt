@@ -1,5 +1,5 @@
 //! Written by `docs/examples.py` from the examples in the doc comments. Do not change it by hand.
-use lru_trace::{ByteCurve, Curve};
+use lru_trace::{ByteCurve, Curve, DeleteCurve};
 use std::test::Fail;
 use test_helpers::{all, check};
 
@@ -57,5 +57,22 @@ fn of_curve_3(rt: HostRuntime) -> Result<(), Fail> {
         }
     }
     check!(rt; (curve.references(), curve.misses(2), curve.misses(3)) == (3, 2, 1));
+    Ok(())
+}
+
+#[test]
+fn of_delete_curve(rt: HostRuntime) -> Result<(), Fail> {
+    let alloc = rt.alloc();
+    let mut curve = DeleteCurve::new(alloc)?;
+    for key in ["a", "b", "c"] {
+        curve.warm_up(key)?;
+    }
+    curve.delete("b")?;
+    for key in ["a", "b"] {
+        if curve.references() < u64::MAX {
+            curve.refer(key)?;
+        }
+    }
+    check!(rt; (curve.references(), curve.misses(2), curve.misses(3), curve.places()) == (2, 2, 1, 3));
     Ok(())
 }

@@ -13,7 +13,7 @@ const UNKNOWN: u8 = 4;
 const MOST_BITS: u32 = 20;
 
 const HELP: &str = "\
-trace [--best | --warm-up N] [--sample R] [--csv | --svg] [--column N] [--size-column N] [--separator C] < LINES
+trace [--best | --warm-up N] [--deletes] [--sample R] [--csv | --svg] [--column N] [--size-column N] [--separator C] < LINES
     Prints how often an LRU cache of each size misses the keys that were referenced.
 
 The first line has sizes with a space between each two, such as 1 10 100 1000. Each other line is a key, of 1 to 64
@@ -25,6 +25,9 @@ The output is a line for each named size, and then a bar for each power of two: 
                out. It takes 16 to 32 bytes more for each reference.
 --warm-up N    takes the first N keys as a warm-up: they fill the caches, but are not counted as references, hits or
                misses. It cannot be combined with --best.
+--deletes      takes a line that begins with \"- \" as a delete: it removes the key after the space from each cache that
+               contains the key, and is not counted. Then keys is the most keys that were there at once. It cannot be
+               combined with --best or --size-column.
 --sample R     takes only the keys whose FNV-1a hash of 64 bits has its R lowest bits 0, about one key in 2^R, and
                counts the others as skipped. A size n stands for n / 2^R, and the ratio is estimated for all
                keys. R is 0 to 20.
@@ -54,6 +57,7 @@ enum Next {
 #[derive(Clone, Copy)]
 struct Asked {
     best: bool,
+    deletes: bool,
     warm_up: Option<u64>,
     form: Form,
     sample: u32,
@@ -103,6 +107,7 @@ impl Asked {
     fn take_word(&mut self, argument: &str) -> bool {
         match argument {
             "--best" => self.best = true,
+            "--deletes" => self.deletes = true,
             "--csv" => self.form = Form::Csv,
             "--svg" => self.form = Form::Svg,
             "--column" => self.next = Next::Number,
@@ -115,19 +120,19 @@ impl Asked {
         true
     }
 
-    /// Returns the policies, or else the option that cannot be combined with `--best`.
-    fn policies(&self) -> Result<Policies, &'static str> {
+    /// Returns the policies, or else two options that cannot be combined.
+    fn policies(&self) -> Result<Policies, (&'static str, &'static str)> {
         let size = self.column_at(self.size);
-        let first = self.warm_up.unwrap_or(0);
-        match (self.best, self.warm_up, size) {
-            (true, Some(_), _) => Err("--warm-up"),
-            (true, None, Some(_)) => Err("--size-column"),
-            (true, None, None) => Ok(Policies::Best),
-            (false, _, None) => Ok(Policies::Lru { warm_up: first }),
-            (false, _, Some(size)) => Ok(Policies::Sized {
-                warm_up: first,
-                size,
-            }),
+        let warm_up = self.warm_up.unwrap_or(0);
+        match (self.best, self.deletes, size) {
+            (true, _, _) if self.warm_up.is_some() => Err(("--warm-up", "--best")),
+            (true, true, _) => Err(("--deletes", "--best")),
+            (true, false, Some(_)) => Err(("--size-column", "--best")),
+            (true, false, None) => Ok(Policies::Best),
+            (false, true, Some(_)) => Err(("--size-column", "--deletes")),
+            (false, true, None) => Ok(Policies::Deletes { warm_up }),
+            (false, false, Some(size)) => Ok(Policies::Sized { warm_up, size }),
+            (false, false, None) => Ok(Policies::Lru { warm_up }),
         }
     }
 
@@ -152,6 +157,7 @@ fn main(rt: HostRuntime) -> ExitCode {
     };
     let mut asked = Asked {
         best: false,
+        deletes: false,
         warm_up: None,
         form: Form::Text,
         sample: 0,
@@ -171,8 +177,8 @@ fn main(rt: HostRuntime) -> ExitCode {
     }
     match asked.policies() {
         Ok(policies) => run(&rt, asked.options(policies)),
-        Err(refused) => {
-            let _ = eprintln!(rt; "trace: {refused} cannot be combined with --best; try --help");
+        Err((refused, other)) => {
+            let _ = eprintln!(rt; "trace: {refused} cannot be combined with {other}; try --help");
             ExitCode::from(UNKNOWN)
         }
     }

@@ -292,7 +292,7 @@ impl Curve {
         let others = proved::read_keys(&mut reader, lines, text_of(LRU), &mut curve, &mut no_progress())?;
         match curve {
             proved::AnyCurve::Places(curve) => Ok((Curve(curve), others.malformed)),
-            proved::AnyCurve::Bytes(_) => unreachable!("a curve keeps its measure"),
+            proved::AnyCurve::Deletes(_) | proved::AnyCurve::Bytes(_) => unreachable!("a curve keeps its measure"),
         }
     }
 

@@ -89,6 +89,9 @@ fn arguments() {
         &["--size-column", "0"],
         &["--csv", "--size-column"],
         &["--size-column", "2", "--best"],
+        &["--deletes", "--best"],
+        &["--size-column", "2", "--deletes"],
+        &["--warm-up", "0", "--best", "--deletes"],
     ] {
         let run = Command::new(env!("CARGO_BIN_EXE_trace")).args(arguments).stdin(Stdio::null()).output().unwrap();
         assert_eq!((run.status.code(), run.stdout.as_slice()), (Some(4), &b""[..]), "{arguments:?}");

@@ -1,4 +1,5 @@
-//! Hash maps whose growth may fail, over Rust's, and a sorted set over Rust's, which aborts without memory.
+//! Hash maps whose growth may fail, over Rust's, and a sorted set and map over Rust's, which abort without
+//! memory.
 
 use super::alloc::{AllocError, Global};
 use core::borrow::Borrow;
@@ -28,6 +29,27 @@ impl<T: Ord> BTreeSet<T> {
 
     pub fn pop_last(&mut self) -> Option<T> {
         self.0.pop_last()
+    }
+}
+
+/// Rust's `BTreeMap`.
+pub struct BTreeMap<K, V>(std::collections::BTreeMap<K, V>);
+
+impl<K: Ord, V> BTreeMap<K, V> {
+    pub fn new(_: Global) -> Self {
+        BTreeMap(Default::default())
+    }
+
+    pub fn insert(&mut self, key: K, value: V) -> Result<Option<V>, AllocError> {
+        Ok(self.0.insert(key, value))
+    }
+
+    pub fn remove(&mut self, key: &K) -> Option<V> {
+        self.0.remove(key)
+    }
+
+    pub fn last_key_value(&self) -> Option<(&K, &V)> {
+        self.0.last_key_value()
     }
 }
 
@@ -109,6 +131,10 @@ impl<K: PartialEq + Hash, V, S: BuildHasher, A> HashMap<K, V, S, A> {
         K: Borrow<Q>,
     {
         self.0.get_mut(Named::of(name))
+    }
+
+    pub fn reserve(&mut self, additional: usize) -> Result<(), AllocError> {
+        self.0.try_reserve(additional).map_err(|_| AllocError)
     }
 
     pub fn insert(&mut self, key: K, value: V) -> Result<Option<V>, AllocError> {

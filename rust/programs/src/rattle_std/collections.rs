@@ -54,6 +54,14 @@ impl<K: Ord, V> BTreeMap<K, V> {
     {
         self.0.get_mut(key)
     }
+
+    pub fn remove(&mut self, key: &K) -> Option<V> {
+        self.0.remove(key)
+    }
+
+    pub fn last_key_value(&self) -> Option<(&K, &V)> {
+        self.0.last_key_value()
+    }
 }
 
 impl<'a, K, V> IntoIterator for &'a BTreeMap<K, V> {

@@ -14,7 +14,7 @@ use Rattle.lru_trace.proofs.lines.read_keys.Goals as goal
 
 module _ (g : _) (c : After-add g) where
   abbrev warm : Bool
-  warm = nat_lt (c.loop-lines.lines - c.loop-lines.others.malformed) c.warm_up-warm_up.result
+  warm = nat_lt (c.loop-lines.lines - c.loop-lines.others.malformed - c.loop-lines.others.deleted) c.warm_up-warm_up.result
 
   follows : Follows warm c.loop-lines.curve (sampled (bits_of c.args.options)
       (references_in c.args.options (c.read_line.new.line.items ∷ []))) c.refer_line.new.curve
@@ -27,17 +27,17 @@ module _ (g : _) (c : After-add g) where
       ∙ ap (λ l. both c.loop-lines.others (others_so c.args.options (l ∷ []) warm)) c.deref.ensures.value
 
 pub loop-lines-init : goal.loop-lines-init
-loop-lines-init g c = (omega arith, omega arith, no_references _ c.requires, alike, none_read _ _ _ c.requires)
+loop-lines-init g c = (omega arith, omega arith, omega arith, no_references _ c.requires, alike, none_read _ _ _ c.requires)
 
 pub returns-in_err-ending-clause-err : goal.returns-in_err-ending-clause-err
 returns-in_err-ending-clause-err g c =
-    let so_far = c.loop-lines.invariant.4 in
+    let so_far = c.loop-lines.invariant.5 in
     let (part, reads) = c.in_err-ending.ensures.err in
     some_part _ _ _ _ so_far.bytes part so_far.reads reads
 
 pub returns-in_err-refer_line-clause-err : goal.returns-in_err-refer_line-clause-err
 returns-in_err-refer_line-clause-err g c =
-    let so_far = c.loop-lines.invariant.4 in
+    let so_far = c.loop-lines.invariant.5 in
     let (part, reads) = taken_part _ _ c.in_ok-ending.ending _ c.in_ok-ending.ensures.ok in
     some_part _ _ _ _ so_far.bytes part so_far.reads reads
 
@@ -47,7 +47,7 @@ returns-in-InputEnd-clause-ok g c =
     let to = g.R.Read.remaining c.read_line.new.reader in
     let (taken, some) = rw c.in-InputEnd.is at c.in_ok-ending.ensures.ok in
     subst (KeysRead (g.R.Read.remaining c.args.reader.now) to c.args.options c.refer_line.new.curve) (sym (added g at))
-    (last_read c.loop-lines.invariant.4 to c.read_line.new.line.items (warm g at)
+    (last_read c.loop-lines.invariant.5 to c.read_line.new.line.items (warm g at)
     (ap (nat_lt _) c.warm_up-warm_up.ensures) c.refer_line.new.curve (follows g at) taken some)
 
 pub loop-lines-preserved : goal.loop-lines-preserved
@@ -62,22 +62,36 @@ loop-lines-preserved g c =
     let few = few_others c.args.options line (warm g at) in (
       omega (arith, inv.0, ap (λ o. o.malformed) more, few.0),
       omega (arith, inv.1, ap (λ o. o.skipped) more, few.1),
-      omega (arith, inv.2, c.in_ok-refer_line.ensures.references),
-      alike_still inv.3 c.in_ok-refer_line.ensures.alike,
+      omega (arith, inv.2, ap (λ o. o.malformed + o.deleted) more, few.3),
+      omega (arith, inv.3, c.in_ok-refer_line.ensures.references),
+      alike_still inv.4 c.in_ok-refer_line.ensures.alike,
       subst (ReadSoFar (g.R.Read.remaining c.args.reader.now) to c.args.options c.refer_line.new.curve
           (c.loop-lines.lines + 1)) (sym more)
-          (line_read inv.4 to line (warm g at) (ap (nat_lt _) c.warm_up-warm_up.ensures) c.refer_line.new.curve
+          (line_read inv.5 to line (warm g at) (ap (nat_lt _) c.warm_up-warm_up.ensures) c.refer_line.new.curve
           (follows g at) taken),
     )
 
 pub returns-in_err-refer_line-clause-large : goal.returns-in_err-refer_line-clause-large
 returns-in_err-refer_line-clause-large g c =
-    let read = c.loop-lines.lines - c.loop-lines.others.malformed in
+    let read = c.loop-lines.lines - c.loop-lines.others.malformed - c.loop-lines.others.deleted in
     let warm = nat_lt read c.warm_up-warm_up.result in
     let options = c.args.options in
     if_passed _ _ _ c.from_residual-in_err-refer_line.ensures (λ is.
-    large_line c.loop-lines.invariant.4 (g.R.Read.remaining c.read_line.new.reader) c.read_line.new.line.items warm
+    large_line c.loop-lines.invariant.5 (g.R.Read.remaining c.read_line.new.reader) c.read_line.new.line.items warm
     (ap (nat_lt read) c.warm_up-warm_up.ensures)
     (subst (λ l. Leads warm c.loop-lines.curve (sampled (bits_of options) (references_in options (l ∷ []))) AreTooLarge)
     c.deref.ensures.value (c.in_err-refer_line.ensures.large (too_large_from _ is))) c.in_ok-ending.ending
     c.in_default.not-Nothing c.in_ok-ending.ensures.ok)
+
+pub add-requires : goal.add-requires
+add-requires g c =
+    let read = c.loop-lines.lines - c.loop-lines.others.malformed - c.loop-lines.others.deleted in
+    let warm = nat_lt read c.warm_up-warm_up.result in
+    let is = c.in_ok-refer_line.ensures.others in
+    let few = few_others c.args.options c.deref.result.now warm in
+    let inv = c.loop-lines.invariant in
+    record {
+      malformed = omega (arith, inv.0, ap (λ o. o.malformed) is, few.0);
+      skipped = omega (arith, inv.1, ap (λ o. o.skipped) is, few.1);
+      deleted = omega (arith, inv.2, ap (λ o. o.deleted) is, few.2);
+    }

@@ -36,6 +36,13 @@ pub fn loading_ahead_gains_nothing<K: Eq>() {}
 /// often in a trace (`misses`). `KeyCall` lists the calls.
 pub fn a_smaller_cache_is_included<K: Eq>() {}
 
+/// One list of places holds the keys of the LRU caches of every size, even if keys are removed: the cache of n places
+/// contains exactly the keys in the first n places (`keys`). A removed key leaves a free place. A reference takes the
+/// newest place that is free or contains the key. If this place is free, the old place of the key becomes free. So a
+/// reference finds its key if fewer than n places come before it (`finds`). Without other calls, references miss as often
+/// as in a trace (`misses`).
+pub fn deletes_leave_places<K: Eq>() {}
+
 /// A larger budget never means more misses. If the cache with the smaller budget contains the newest keys of the other
 /// cache, it still does after any trace (`front`), and misses at least as often (`misses`).
 pub fn a_larger_budget_never_misses_more<K: Eq>() {}

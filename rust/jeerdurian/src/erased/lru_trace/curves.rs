@@ -7,13 +7,15 @@ use crate::rattle_std::prelude::*;
 use crate::erased::lru_trace::best::Best;
 use crate::erased::lru_trace::byte_curve::{ByteCurve, SizeError};
 use crate::erased::lru_trace::curve::Curve;
+use crate::erased::lru_trace::delete_curve::DeleteCurve;
 use crate::erased::lru_trace::options::Measure;
 use crate::rattle_std::alloc::AllocError;
 
-/// A curve whose sizes are numbers of entries, or numbers of bytes.
+/// A curve whose sizes are numbers of entries, without or with deletes, or numbers of bytes.
 
 pub enum AnyCurve {
     Places(Curve),
+    Deletes(DeleteCurve),
     Bytes(ByteCurve),
 }
 
@@ -21,6 +23,8 @@ impl AnyCurve {
     fn warm_up(&mut self, key: &str, size: u64) -> Result<(), SizeError> {
         match self {
             AnyCurve::Places(curve) => Ok(curve.warm_up(key)?),
+            AnyCurve::Deletes(curve) if size == 0 => Ok(curve.delete(key)?),
+            AnyCurve::Deletes(curve) => Ok(curve.warm_up(key)?),
             AnyCurve::Bytes(curve) => curve.warm_up(key, size),
         }
     }
@@ -28,11 +32,13 @@ impl AnyCurve {
     fn count(&mut self, key: &str, size: u64) -> Result<(), SizeError> {
         match self {
             AnyCurve::Places(curve) => Ok(curve.refer(key)?),
+            AnyCurve::Deletes(curve) if size == 0 => Ok(curve.delete(key)?),
+            AnyCurve::Deletes(curve) => Ok(curve.refer(key)?),
             AnyCurve::Bytes(curve) => curve.refer(key, size),
         }
     }
 
-    /// References a key, and counts the reference unless `warm` is true.
+    /// References a key, and counts the reference unless `warm` is true. With deletes, the size 0 deletes the key.
     pub(crate) fn refer(&mut self, warm: bool, key: &str, size: u64) -> Result<(), SizeError> {
         if warm {
             return self.warm_up(key, size);
@@ -43,6 +49,7 @@ impl AnyCurve {
     pub(crate) fn measure(&self) -> Measure {
         match self {
             AnyCurve::Places(_) => Measure::Places,
+            AnyCurve::Deletes(_) => Measure::PlacesWithDeletes,
             AnyCurve::Bytes(_) => Measure::Bytes,
         }
     }
@@ -50,6 +57,7 @@ impl AnyCurve {
     pub(crate) fn references(&self) -> u64 {
         match self {
             AnyCurve::Places(curve) => curve.references(),
+            AnyCurve::Deletes(curve) => curve.references(),
             AnyCurve::Bytes(curve) => curve.references(),
         }
     }
@@ -57,6 +65,7 @@ impl AnyCurve {
     pub(crate) fn keys(&self) -> usize {
         match self {
             AnyCurve::Places(curve) => curve.keys(),
+            AnyCurve::Deletes(curve) => curve.places(),
             AnyCurve::Bytes(curve) => curve.keys(),
         }
     }
@@ -65,6 +74,7 @@ impl AnyCurve {
     pub(crate) fn needed(&self) -> usize {
         match self {
             AnyCurve::Places(curve) => curve.keys(),
+            AnyCurve::Deletes(curve) => curve.places(),
             AnyCurve::Bytes(curve) => curve.bytes() as usize,
         }
     }
@@ -72,6 +82,7 @@ impl AnyCurve {
     pub(crate) fn misses(&self, size: usize) -> u64 {
         match self {
             AnyCurve::Places(curve) => curve.misses(size),
+            AnyCurve::Deletes(curve) => curve.misses(size),
             AnyCurve::Bytes(curve) => curve.misses(size as u64).unwrap_or(0),
         }
     }
@@ -79,7 +90,7 @@ impl AnyCurve {
     pub(crate) fn best(&self) -> Result<Option<Best>, AllocError> {
         match self {
             AnyCurve::Places(curve) => curve.best(),
-            AnyCurve::Bytes(_) => Ok(None),
+            AnyCurve::Deletes(_) | AnyCurve::Bytes(_) => Ok(None),
         }
     }
 }

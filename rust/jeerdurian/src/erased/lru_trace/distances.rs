@@ -70,6 +70,14 @@ impl Distances {
         }
     }
 
+    /// Returns the sum of the weights of the keys that were referenced after the last reference to this key.
+    pub fn position(&self, key: usize) -> Option<u64> {
+        let Some(slot) = (*at!(self.slots, key)) else {
+            return None;
+        };
+        Some(self.tree.weight_behind(slot))
+    }
+
     fn take_out(&mut self, key: usize) -> Option<u64> {
         let Some(slot) = (*at!(self.slots, key)) else {
             return None;

@@ -29,14 +29,17 @@ pub enum Ending {
 pub struct Others {
     /// How many lines make no reference.
     pub malformed: u64,
-    /// How many lines after the warm-up spell a key that is not in the sample.
+    /// How many lines after the warm-up reference a key that is not in the sample.
     pub skipped: u64,
+    /// How many lines delete a key.
+    pub deleted: u64,
 }
 
 impl Others {
     fn add(&mut self, more: Others) {
         self.malformed += more.malformed;
         self.skipped += more.skipped;
+        self.deleted += more.deleted;
     }
 }
 
@@ -71,28 +74,44 @@ fn key_of(line: &[u8]) -> Option<&str> {
     }
 }
 
+fn deletes(line: &[u8], policies: Policies) -> bool {
+    match policies {
+        Policies::Deletes { .. } => line.starts_with(b"- "),
+        Policies::Lru { .. } | Policies::Best | Policies::Sized { .. } => false,
+    }
+}
+
+fn body(line: &[u8], policies: Policies) -> &[u8] {
+    if deletes(line, policies) {
+        return &(*at!(line, 2..));
+    }
+    line
+}
+
 fn size_of(line: &[u8], policies: Policies) -> Option<u64> {
     match policies {
         Policies::Lru { .. } | Policies::Best => Some(1),
+        Policies::Deletes { .. } => Some(u64::from(!deletes(line, policies))),
         Policies::Sized { size, .. } => Some(number_of(cell(line, size))? as u64),
     }
 }
 
 fn reference_of<'a>(line: &'a [u8], options: Options) -> Option<(&'a str, u64)> {
-    let key = key_of(text_in(line, options.column))?;
+    let key = key_of(text_in(body(line, options.policies), options.column))?;
     let size = size_of(line, options.policies)?;
     Some((key, size))
 }
 
 fn refer_line(curve: &mut AnyCurve, options: Options, warm: bool, line: &[u8]) -> Result<Others, SizeError> {
     let Some((key, size)) = reference_of(line, options) else {
-        return Ok(Others { malformed: 1, skipped: 0 });
+        return Ok(Others { malformed: 1, skipped: 0, deleted: 0 });
     };
+    let deleted = u64::from(deletes(line, options.policies));
     if !is_sampled(key.as_bytes(), options.bits()) {
-        return Ok(Others { malformed: 0, skipped: u64::from(!warm) });
+        return Ok(Others { malformed: 0, skipped: u64::from(!warm && deleted == 0), deleted });
     }
     curve.refer(warm, key, size)?;
-    Ok(Others { malformed: 0, skipped: 0 })
+    Ok(Others { malformed: 0, skipped: 0, deleted })
 }
 
 /// References the key of each remaining line (see `docs/TRACE.md`) if the key is in the sample. Returns how many lines
@@ -109,10 +128,10 @@ pub fn read_keys<R: BufRead, P: Write>(
     progress: &mut Progress<P>,
 ) -> Result<Others, TraceError> {
     let warm_up = options.policies.warm_up();
-    let mut others = Others { malformed: 0, skipped: 0 };
+    let mut others = Others { malformed: 0, skipped: 0, deleted: 0 };
     for lines in 0..u64::MAX - 1 {
         progress.note(lines);
-        let warm = lines - others.malformed < warm_up;
+        let warm = lines - others.malformed - others.deleted < warm_up;
         let ending = read_line(reader, line)?;
         if let Ending::Nothing = ending {
             return Ok(others);

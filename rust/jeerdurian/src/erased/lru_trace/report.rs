@@ -39,7 +39,7 @@ fn add_best(alloc: Global, report: &mut Vec<u8>, best: Option<BestMisses>) -> Re
 
 fn measure_text(measure: Measure) -> &'static str {
     match measure {
-        Measure::Places => "places ",
+        Measure::Places | Measure::PlacesWithDeletes => "places ",
         Measure::Bytes => "bytes ",
     }
 }

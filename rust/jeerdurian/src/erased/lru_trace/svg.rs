@@ -110,7 +110,7 @@ fn add_point(alloc: Global, svg: &mut Vec<u8>, octaves: u128, policy: Policy, ro
 
 fn label(measure: Measure) -> &'static str {
     match measure {
-        Measure::Places => PLACES,
+        Measure::Places | Measure::PlacesWithDeletes => PLACES,
         Measure::Bytes => BYTES,
     }
 }

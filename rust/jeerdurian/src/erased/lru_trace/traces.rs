@@ -7,6 +7,7 @@ use crate::rattle_std::prelude::*;
 use crate::erased::lru_trace::byte_curve::ByteCurve;
 use crate::erased::lru_trace::curve::Curve;
 use crate::erased::lru_trace::curves::AnyCurve;
+use crate::erased::lru_trace::delete_curve::DeleteCurve;
 use crate::erased::lru_trace::lines::{Ending, Others, read_keys, read_line};
 use crate::erased::lru_trace::options::{Options, Policies};
 use crate::erased::lru_trace::outcome::{TraceEnd, TraceError};
@@ -42,6 +43,7 @@ fn limits_of(alloc: Global, sizes: &[usize], bits: u32) -> Result<Vec<u64>, Allo
 fn empty_curve(alloc: Global, options: Options, sizes: &[usize]) -> Result<AnyCurve, AllocError> {
     match options.policies {
         Policies::Lru { .. } => Ok(AnyCurve::Places(Curve::new(alloc)?)),
+        Policies::Deletes { .. } => Ok(AnyCurve::Deletes(DeleteCurve::new(alloc)?)),
         Policies::Best => Ok(AnyCurve::Places(Curve::keeping_references(alloc)?)),
         Policies::Sized { .. } => {
             let limits = limits_of(alloc, sizes, options.bits())?;
@@ -63,7 +65,7 @@ fn read_trace<R: BufRead, P: Write>(
     };
     let mut curve = empty_curve(alloc, options, &sizes)?;
     let Ending::Feed = ending else {
-        let others = Others { malformed: 0, skipped: 0 };
+        let others = Others { malformed: 0, skipped: 0, deleted: 0 };
         return Ok(Some(Lines { sizes, curve, others }));
     };
     let others = read_keys(reader, &mut line, options, &mut curve, progress)?;

@@ -3,7 +3,7 @@
 #[allow(unused_imports)]
 use crate::rattle_std::prelude::*;
 
-use crate::erased::lru_trace::{ByteCurve, Curve};
+use crate::erased::lru_trace::{ByteCurve, Curve, DeleteCurve};
 use crate::programs::test_helpers::{all, check};
 use crate::rattle_std::test::Fail;
 
@@ -71,6 +71,26 @@ fn of_curve_3() {
             }
         }
         check!(rt; (curve.references(), curve.misses(2), curve.misses(3)) == (3, 2, 1));
+        Ok(())
+    };
+    run(HostRuntime).passes();
+}
+
+#[test]
+fn of_delete_curve() {
+    let run = |rt: HostRuntime| -> Result<(), Fail> {
+        let alloc = rt.alloc();
+        let mut curve = DeleteCurve::new(alloc)?;
+        for key in ["a", "b", "c"] {
+            curve.warm_up(key)?;
+        }
+        curve.delete("b")?;
+        for key in ["a", "b"] {
+            if curve.references() < u64::MAX {
+                curve.refer(key)?;
+            }
+        }
+        check!(rt; (curve.references(), curve.misses(2), curve.misses(3), curve.places()) == (2, 2, 1, 3));
         Ok(())
     };
     run(HostRuntime).passes();
