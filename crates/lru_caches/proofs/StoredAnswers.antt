@@ -78,10 +78,10 @@ removed_there {K} {V} rules names old value new removes =
     left None = refl
     left (Some p) = refl
 
-pub removed_known : {K V S H : Type 0} (rules : Rules K V S) {eq : K → K → Bool} (post : K → V → Type 0)
+pub removed_known : {K V S H : Type 0} (rules : Rules K V S) (eq : K → K → Bool) (post : K → V → Type 0)
     (names : K → Bool) (old : State K V S H) (value : Option V) (new : State K V S H) → AreAnswers eq post old.pairs
     → Remove rules names old value new → AreAnswers eq post new.pairs
-removed_known rules {eq} post names old value new known removes =
+removed_known rules eq post names old value new known removes =
     subst (All (λ p. IsAnswer eq post p.0 p.1)) (sym (ap (λ st. st.pairs) removes.state.is))
     (all-without (λ p. IsAnswer eq post p.0 p.1) names old.pairs known)
 

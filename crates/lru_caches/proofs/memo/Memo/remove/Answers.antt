@@ -9,7 +9,7 @@ returns-clause-there g c = rw (← c.self.view_is) (c.is_some.ensures ∙ remove
     (g.Q.LookupKey.names c.args.key.now) c.self.inside.map c.remove.result c.remove.new.self c.remove.ensures.step)
 
 pub returns-clause-known : goal.returns-clause-known
-returns-clause-known g c = removed_known g.L.Limiter.rules (FnReturnsAt g.F.Fn c.self.inside.function) (g.Q.LookupKey.names c.args.key.now)
+returns-clause-known g c = removed_known g.L.Limiter.rules g.K.PartialEq.eq (FnReturnsAt g.F.Fn c.self.inside.function) (g.Q.LookupKey.names c.args.key.now)
     c.self.inside.map c.remove.result c.remove.new.self
     (subst (λ m. AreAnswers g.K.PartialEq.eq (FnReturnsAt g.F.Fn m.function) m.map.pairs) (sym c.self.view_is) c.requires.known)
     c.remove.ensures.step
