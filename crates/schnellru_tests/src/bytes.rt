@@ -42,3 +42,17 @@ fn change(
     let _ = map.shrink_to_fit();
     kept
 }
+
+/// Counts the smaller table after a shrink. The cache still takes at most its limit.
+fn shrink(map: &mut LruMap<String, String, ByBytes>)
+    requires { KeepsBytes (both_own (λ k. block_bytes (string_capacity k)) (λ v. block_bytes (string_capacity v)))
+        map.old }
+    ensures { KeepsBytes (both_own (λ k. block_bytes (string_capacity k)) (λ v. block_bytes (string_capacity v)))
+        map.new }
+{
+    laws::calls_keep_the_bytes::<String, String, RandomState>();
+    let _len = map.len();
+    let _ = map.shrink_to_fit();
+    let limiter = map.limiter().with_table(map.memory_usage() as u64);
+    map.set_limiter(limiter);
+}

@@ -4,8 +4,9 @@
 //! can use the loan of `get_or_insert`, which is a step by `writes_newest` of `EveryCall`.
 ghost use Rattle.lru_limits.specs.Admissions.{offers_of};
 ghost use Rattle.lru_model.specs.Runs.{Step, AnyStep, Run, RunWithoutInsert};
+ghost use Rattle.lru_model.specs.Theorems.{PaysForInsertions};
 
-use schnellru::{Admission, Insertion, KeyHasher, Limiter, LookupKey, LruMap};
+use schnellru::{Admission, Insertion, KeyHasher, Limiter, LookupKey, LruMap, laws};
 use std::hash::Hash;
 
 fn look_up<K: Eq + Hash, V, Q: LookupKey<K>, L: Limiter<K, V>, S: KeyHasher<K>>(
@@ -165,12 +166,16 @@ fn extend<K: Eq + Hash + Drop, V: Drop, L: Insertion<K, V, K>, S: KeyHasher<K>>(
 
 fn try_insert<K: Eq + Hash + Drop, V: Drop, L: Admission<K, V> + Copy, S: KeyHasher<K>>(
     map: &mut LruMap<K, V, L, S>,
-    key: K,
-    value: V,
+    keys: (K, K),
+    values: (V, V),
 )
-    ensures { Run (Step L.rules (offers_of L.terms) K.eq S.hash_of) map.new map.old }
+    ensures run { Run (Step L.rules (offers_of L.terms) K.eq S.hash_of) map.new map.old }
+    ensures paid { PaysForInsertions map.old map.new }
 {
-    let _ = map.try_insert(key, value);
+    laws::try_inserts_pay_for_moves::<K, V, L, S>();
+    let _len = map.len();
+    let _ = map.try_insert(keys.0, values.0);
+    let _ = map.try_insert(keys.1, values.1);
 }
 
 fn make<

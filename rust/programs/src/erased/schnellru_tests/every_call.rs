@@ -7,7 +7,7 @@
 #[allow(unused_imports)]
 use crate::rattle_std::prelude::*;
 
-use crate::erased::schnellru::{Admission, Insertion, KeyHasher, Limiter, LookupKey, LruMap};
+use crate::erased::schnellru::{Admission, Insertion, KeyHasher, Limiter, LookupKey, LruMap, laws};
 use crate::rattle_std::hash::Hash;
 
 fn look_up<K: Eq + Hash, V, Q: LookupKey<K>, L: Limiter<K, V>, S: KeyHasher<K>>(map: &mut LruMap<K, V, L, S>, key: &Q) {
@@ -119,10 +119,13 @@ fn extend<K: Eq + Hash, V, L: Insertion<K, V, K>, S: KeyHasher<K>>(map: &mut Lru
 
 fn try_insert<K: Eq + Hash, V, L: Admission<K, V> + Copy, S: KeyHasher<K>>(
     map: &mut LruMap<K, V, L, S>,
-    key: K,
-    value: V,
+    keys: (K, K),
+    values: (V, V),
 ) {
-    let _ = map.try_insert(key, value);
+    laws::try_inserts_pay_for_moves::<K, V, L, S>();
+    let _len = map.len();
+    let _ = map.try_insert(keys.0, values.0);
+    let _ = map.try_insert(keys.1, values.1);
 }
 
 fn make<
