@@ -13,15 +13,14 @@
 --     `IsBudgeted`: the laws of a limiter with a running total and a budget. `made budget` is a new limiter with this
 --         budget. `rebudgeted b s` is the limiter s with the budget b.
 --     `weighs-budgeted`: `ByWeight` and `ByCost` satisfy these laws.
-use Rattle.std.specs.Prelude.{◌≡◌, ◌+◌, ◌-◌, ◌^◌, ◌&&◌, ℕ, min, Bool, true, false, Option, Some, None, nat_lt, nat_le}
+use Rattle.std.specs.Prelude.{◌≡◌, ◌+◌, ◌-◌, ◌^◌, ◌&&◌, ℕ, min, Bool, true, false, nat_lt, nat_le}
 use Rattle.std.specs.Prelude.{if◌then◌else◌, refl}
 use Rattle.std.proofs.Common.{ap, ◌∙◌}
-use Rattle.std.proofs.lemmas.Bool.{true≢false}
 use Rattle.lru_limits.specs.Rules.{Rules, Offers}
 use Rattle.lru_limits.specs.Laws.{IsAccount, ChangesNoPair}
 use Rattle.lru_limits.specs.Limits.{IsFixed}
 use Rattle.lru_limits.specs.Admissions.{Terms, offers_of}
-use Rattle.lru_limits.specs.Stores.{answers, given-adds, refused-keeps, replaced-exchanges, ReturnsPairIf}
+use Rattle.lru_limits.specs.Stores.{answers, given-adds, refused-keeps, replaced-exchanges}
 
 pub record Budget : Type 0 where
   pub limit : ℕ
@@ -88,23 +87,16 @@ pub charges-sums : {K V : Type 0} (cost : V → ℕ) → IsAccount (by_cost {K =
     (λ b. b.cost)
 charges-sums cost = weighs-sums (λ k v. cost v)
 
-pub record IsBudgeted {K V S : Type 0} (rules : Rules K V S) (offers : Offers K V S K) (account budget : S → ℕ)
-    (accepts : S → K → V → Bool) (made : ℕ → S) (rebudgeted : ℕ → S → S) : Type 0 where
+pub record IsBudgeted {K V S : Type 0} (rules : Rules K V S) (terms : Terms K V S) (account budget : S → ℕ)
+    (made : ℕ → S) (rebudgeted : ℕ → S → S) : Type 0 where
   -- a map is over the limit if and only if the running total is above the budget
   pub over : (s : S) (n : ℕ) → rules.is_over_the_limit s n ≡ nat_lt (budget s) (account s)
   -- no callback changes the budget
-  pub fixed : IsFixed rules offers budget
-  -- an accepted entry of a new key is stored unchanged, and a rejected entry is not stored
-  pub gives : (s : S) (n : ℕ) (k : K) (v : V) (t : S) (given : Option (K × V)) → offers.on_insert s n k v t given
-      → given ≡ (if accepts s k v then Some (k, v) else None)
-  -- if an entry is rejected, the offer may return `None` and leave the limiter unchanged
-  pub refuses : (s : S) (n : ℕ) (k : K) (v : V) → accepts s k v ≡ false → offers.on_insert s n k v s None
-  -- an offer never runs out of memory
-  pub finds : (s : S) (n : ℕ) (k : K) (v : V) → offers.may_run_out s n k v → ⊥
-  -- the callbacks for a removal and a replacement change neither a key nor a value
+  pub fixed : IsFixed rules (offers_of terms) budget
+  -- a rejected entry of a new key does not change the limiter
+  pub refuses : (s : S) (n : ℕ) (k : K) (v : V) → terms.accepts s n k v ≡ false → terms.admit s n k v ≡ s
+  -- the callback for a removal changes neither a key nor a value
   pub leaves : ChangesNoPair rules
-  pub replaces : (s : S) (n : ℕ) (k i : K) (v w : V) → let r = offers.on_replace s n k i v w in
-      (r.key ≡ k) × (r.old_value ≡ v) × (r.new_value ≡ w)
   -- a new limiter has the given budget, and the running total 0
   pub made_budget : (b : ℕ) → budget (made b) ≡ b
   pub made_empty : (b : ℕ) → account (made b) ≡ 0
@@ -117,14 +109,8 @@ either_limit : (b c : Budget) (accepts : Bool) → c.limit ≡ b.limit
 either_limit b c true same = same
 either_limit b c false same = refl
 
-kept-out : {K V : Type 0} (b c : Budget) (k : K) (v : V) (accepts : Bool) → accepts ≡ false
-    → ReturnsPairIf accepts (if accepts then c else b) k v b None
-kept-out b c k v true refused = absurd (true≢false refused)
-kept-out b c k v false refused = record { limiter = refl; pair = refl }
-
-pub weighs-budgeted : {K V : Type 0} (weight : K → V → ℕ) → IsBudgeted (by_weight weight) (weighs weight) (λ b. b.cost)
-    (λ b. b.limit) (λ b k v. can_add b.limit b.cost (weight k v)) (λ limit. record { limit = limit; cost = 0 })
-    (λ limit b. record b { limit = limit })
+pub weighs-budgeted : {K V : Type 0} (weight : K → V → ℕ) → IsBudgeted (by_weight weight) (budget_terms weight)
+    (λ b. b.cost) (λ b. b.limit) (λ limit. record { limit = limit; cost = 0 }) (λ limit b. record b { limit = limit })
 weighs-budgeted weight = record {
   over = λ b n. refl;
   fixed = record {
@@ -136,11 +122,8 @@ weighs-budgeted weight = record {
     cleared = λ b. refl;
     grown = λ b n. refl;
   };
-  gives = λ b n k v t given offer. offer.pair;
-  refuses = λ b n k v refused. kept-out b _ k v (can_add b.limit b.cost (weight k v)) refused;
-  finds = λ b n k v out_of_memory. out_of_memory;
+  refuses = λ b n k v refused. rw refused refl;
   leaves = record { key = λ b k v. refl; value = λ b k v. refl };
-  replaces = λ b n k i v w. (refl, refl, refl);
   made_budget = λ limit. refl;
   made_empty = λ limit. refl;
   set_budget = λ limit b. refl;

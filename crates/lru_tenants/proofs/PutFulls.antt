@@ -1,8 +1,9 @@
 use Rattle.std.proofs.Common.{◌≡◌, ◌&&◌, Bool, true, false, not, Option, Some, None, is_some, Result, Ok, Err, refl}
 use Rattle.std.proofs.Common.{sym, subst}
 use Rattle.std.proofs.lemmas.Bool.{true≢false}
-use Rattle.std.specs.Prelude.{option_map}
+use Rattle.std.specs.Prelude.{length, option_map}
 use Rattle.std.specs.declared.alloc.AllocError.{AllocError}
+use Rattle.lru_limits.specs.Admissions.{Terms}
 use Rattle.lru_model.proofs.PairLists.NamedPairs.{lookup-entry}
 use Rattle.lru_model.specs.Inserts.{kept_of}
 use Rattle.lru_model.specs.Lists.{lookup_entry}
@@ -11,11 +12,14 @@ use Rattle.lru_model.specs.declared.results.Inserted.{Inserted}
 use Rattle.lru_tenants.specs.PutFulls.{rejects}
 use Rattle.lru_tenants.specs.TenantRuns.{put_answer}
 
-module _ {K V L S : Type 0} (accepts : L → K → V → Bool) (eq : K → K → Bool) (key : K) (value : V) where
-  pub is-rejected : (map : State K V L S) → rejects accepts eq key value map ≡ true
-      → (accepts map.limiter key value ≡ false) × (lookup_entry (eq key) map.pairs ≡ None)
-  is-rejected map is = go (accepts map.limiter key value) (lookup_entry (eq key) map.pairs)
-      (subst (λ o. (not (accepts map.limiter key value) && not (is_some o)) ≡ true) (lookup-entry (eq key) map.pairs)
+module _ {K V L S : Type 0} (terms : Terms K V L) (eq : K → K → Bool) (key : K) (value : V) where
+  abbrev accepts_new : State K V L S → Bool
+  accepts_new map = terms.accepts map.limiter (length map.pairs) key value
+
+  pub is-rejected : (map : State K V L S) → rejects terms eq key value map ≡ true
+      → (accepts_new map ≡ false) × (lookup_entry (eq key) map.pairs ≡ None)
+  is-rejected map is = go (accepts_new map) (lookup_entry (eq key) map.pairs)
+      (subst (λ o. (not (accepts_new map) && not (is_some o)) ≡ true) (lookup-entry (eq key) map.pairs)
       is)
     where
       go : (a : Bool) (found : Option (K × V)) → (not a && not (is_some (option_map (λ p. p.1) found))) ≡ true

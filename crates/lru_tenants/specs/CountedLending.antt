@@ -23,7 +23,6 @@ module _ (N K V L S M H : RattleType) (name : HashMembers N.Denot) (key : HashMe
     cost_of = limits.cost_of;
     account = λ s. limits.account s.limiter;
     budget_of = λ s. limits.budget_of s.limiter;
-    accepts_new = λ s. limits.accepts_new s.limiter;
     made = λ budget. record { limiter = limits.made budget; counts = zeros };
     rebudgeted = λ budget s. with_inside s (limits.rebudgeted budget s.limiter);
   }) links hashed hash

@@ -56,11 +56,10 @@ module _ {K V L : Type 0} where
       keeps = λ s. is.keeps s.limiter;
     }
 
-    pub counting-budgeted : {budget : L → ℕ} {accepts : L → K → V → Bool} {made : ℕ → L} {rebudgeted : ℕ → L → L}
-        → IsBudgeted rules (offers_of terms) account budget accepts made rebudgeted
-        → IsBudgeted (counting_rules rules) (offers_of (counting_terms terms)) (λ s. account s.limiter)
-        (λ s. budget s.limiter) (λ s. accepts s.limiter) (λ b. record { limiter = made b; counts = zeros })
-        (λ b s. with_inside s (rebudgeted b s.limiter))
+    pub counting-budgeted : {budget : L → ℕ} {made : ℕ → L} {rebudgeted : ℕ → L → L}
+        → IsBudgeted rules terms account budget made rebudgeted
+        → IsBudgeted (counting_rules rules) (counting_terms terms) (λ s. account s.limiter) (λ s. budget s.limiter)
+        (λ b. record { limiter = made b; counts = zeros }) (λ b s. with_inside s (rebudgeted b s.limiter))
     counting-budgeted is = record {
       over = λ s. is.over s.limiter;
       fixed = record {
@@ -70,12 +69,8 @@ module _ {K V L : Type 0} where
         cleared = λ s. is.fixed.cleared s.limiter;
         grown = λ s. is.fixed.grown s.limiter;
       };
-      gives = λ s n k v t given h. is.gives s.limiter n k v t.limiter given (gives-inside s t h);
-      refuses = λ s n k v no. let h = is.refuses s.limiter n k v no in
-          record { limiter = ap (with_inside s) h.limiter; pair = h.pair };
-      finds = λ s. is.finds s.limiter;
+      refuses = λ s n k v refused. ap (with_inside s) (is.refuses s.limiter n k v refused);
       leaves = record { key = λ s. is.leaves.key s.limiter; value = λ s. is.leaves.value s.limiter };
-      replaces = λ s. is.replaces s.limiter;
       made_budget = is.made_budget;
       made_empty = is.made_empty;
       set_budget = λ b s. is.set_budget b s.limiter;

@@ -1,5 +1,5 @@
 -- What a cache is after the loan of one of its values has ended.
-use Rattle.std.specs.Prelude.{ℕ, Bool, Option, Result, Ok, Err, ⊤}
+use Rattle.std.specs.Prelude.{ℕ, Option, Result, Ok, Err, ⊤}
 use Rattle.std.specs.Borrow.{Fml, RattleType, Bor, MutBor, follows_so}
 use Rattle.std.specs.HashMap.Lent.{HashMembers}
 use Rattle.std.specs.Option.{option_copied}
@@ -20,7 +20,6 @@ BudgetMembers K V L = record {
   cost_of : K → V → ℕ;
   account : L → ℕ;
   budget_of : L → ℕ;
-  accepts_new : L → K → V → Bool;
   made : ℕ → L;
   rebudgeted : ℕ → L → L;
 }
@@ -34,7 +33,6 @@ module _ (N K V L S M H : RattleType) (name : HashMembers N.Denot) (key : HashMe
       (record { eq = key.eq }) (record { hash_input = key.hash_input })
       (record {
         budget_of = limits.budget_of;
-        accepts_new = limits.accepts_new;
         made = limits.made;
         rebudgeted = limits.rebudgeted;
       }) (record { cost_of = limits.cost_of; account = limits.account }) (record { terms = limits.terms })

@@ -19,7 +19,6 @@ module _ (N K V L S M H : RattleType) (name : HashMembers N.Denot) (key : HashMe
       (record { eq = key.eq }) (record { hash_input = key.hash_input })
       (record {
         budget_of = limits.budget_of;
-        accepts_new = limits.accepts_new;
         made = limits.made;
         rebudgeted = limits.rebudgeted;
       }) (record { cost_of = limits.cost_of; account = limits.account }) (record { terms = limits.terms })

@@ -1,17 +1,17 @@
 -- The value that a `put_full` returns.
---     `accepts s k v`: whether the limiter s accepts the entry of a new key.
-use Rattle.std.specs.Prelude.{Bool, Option, Some, is_some, not, ◌&&◌, if◌then◌else◌}
-use Rattle.lru_limits.specs.Rules.{Rules, Offers}
+use Rattle.std.specs.Prelude.{Bool, Option, Some, length, is_some, not, ◌&&◌, if◌then◌else◌}
+use Rattle.lru_limits.specs.Admissions.{Terms, offers_of}
+use Rattle.lru_limits.specs.Rules.{Rules}
 use Rattle.lru_model.specs.Inserts.{unkept_value}
 use Rattle.lru_model.specs.Lists.{lookup}
 use Rattle.lru_model.specs.State.{State, contents}
 
-module _ {K V L S : Type 0} (accepts : L → K → V → Bool) (eq : K → K → Bool) (key : K) (value : V) where
+module _ {K V L S : Type 0} (terms : Terms K V L) (eq : K → K → Bool) (key : K) (value : V) where
   abbrev pub rejects : State K V L S → Bool
-  rejects map = not (accepts map.limiter key value) && not (is_some (lookup (eq key) map.pairs))
+  rejects map = not (terms.accepts map.limiter (length map.pairs) key value) && not (is_some (lookup (eq key) map.pairs))
 
   -- The value that the map does not keep: the given value if the key is new and the limiter rejects the entry, or else
   -- the `unkept_value` of the insert.
-  abbrev pub comes_back : Rules K V L → Offers K V L K → State K V L S → Option V
-  comes_back rules offers map =
-      if rejects map then Some value else unkept_value rules offers eq key value (contents map)
+  abbrev pub comes_back : Rules K V L → State K V L S → Option V
+  comes_back rules map =
+      if rejects map then Some value else unkept_value rules (offers_of terms) eq key value (contents map)

@@ -98,8 +98,6 @@ impl<K, V, L: Budgeted<K, V>> Budgeted<K, V> for Counting<L> {
 
     ghost budget_of = { λ s. L.budget_of s.limiter };
 
-    ghost accepts_new = { λ s. L.accepts_new s.limiter };
-
     ghost made = { λ budget. record { limiter = L.made budget; counts = zeros } };
 
     ghost rebudgeted = { λ budget s. record s { limiter = L.rebudgeted budget s.limiter } };
@@ -120,11 +118,6 @@ impl<K, V, L: Budgeted<K, V>> Budgeted<K, V> for Counting<L> {
     #[inline]
     fn set_budget(&mut self, budget: u64) {
         self.limiter.set_budget(budget);
-    }
-
-    #[inline]
-    fn has_room_for(&self, key: &K, value: &V) -> bool {
-        self.limiter.has_room_for(key, value)
     }
 
     ghost laws = { counting-budgeted L.Budgeted.laws };

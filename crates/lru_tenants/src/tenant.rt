@@ -57,8 +57,8 @@ pub(crate) fn insert_full<
     requires callable { F.IsAlwaysCallable sink.old }
     ensures inserts { Insert L.rules (offers_of L.terms) K.eq S.hash_of key value map.old (kept_of result) map.new }
     ensures unkept { IfOk result (λ inserted. inserted.unkept
-        ≡ comes_back L.accepts_new K.eq key value L.rules (offers_of L.terms) map.old) }
-    ensures rejects { rejects L.accepts_new K.eq key value map.old ≡ true →
+        ≡ comes_back L.terms K.eq key value L.rules map.old) }
+    ensures rejects { rejects L.terms K.eq key value map.old ≡ true →
         (result ≡ Ok (record { kept = false; unkept = Some value })) × (map.new ≡ map.old) }
     ensures passed { (passed : List (K × V)) × CalledWith F.FnMut sink.old passed sink.new
         × InsertPasses L.rules (offers_of L.terms) K.eq S.hash_of key value map.old (kept_of result) passed map.new }
@@ -82,9 +82,9 @@ fn rejects<K: Eq + Hash, V, L: Budgeted<K, V>, S: KeyHasher<K>>(
     key: &K,
     value: &V,
 ) -> bool
-    ensures { result ≡ rejects L.accepts_new K.eq key.now value.now map.now }
+    ensures { result ≡ rejects L.terms K.eq key.now value.now map.now }
 {
-    !map.limiter().has_room_for(key, value) && !map.contains(key)
+    !map.limiter().accepts(map.len(), key, value) && !map.contains(key)
 }
 
 pub(crate) fn get_or_insert<

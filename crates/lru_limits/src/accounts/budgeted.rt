@@ -1,5 +1,4 @@
-ghost use Rattle.std.specs.Prelude.{◌≡◌, ℕ, Bool};
-ghost use Rattle.lru_limits.specs.Admissions.{offers_of};
+ghost use Rattle.std.specs.Prelude.{◌≡◌, ℕ};
 ghost use Rattle.lru_limits.specs.Budget.{IsBudgeted};
 
 use crate::accounts::Summing;
@@ -13,8 +12,6 @@ use crate::accounts::Summing;
 /// ```
 pub trait Budgeted<K, V>: Summing<K, V> {
     ghost budget_of: { Self → ℕ };
-
-    ghost accepts_new: { Self → K → V → Bool };
 
     ghost made: { ℕ → Self };
 
@@ -32,9 +29,5 @@ pub trait Budgeted<K, V>: Summing<K, V> {
     fn set_budget(&mut self, budget: u64)
         ensures { self.new ≡ rebudgeted budget self.old };
 
-    /// Returns whether `on_insert` would accept this entry of a new key.
-    fn has_room_for(&self, key: &K, value: &V) -> bool
-        ensures { result ≡ accepts_new self.now key.now value.now };
-
-    ghost laws: { IsBudgeted Self.rules (offers_of Self.terms) Self.account budget_of accepts_new made rebudgeted };
+    ghost laws: { IsBudgeted Self.rules Self.terms Self.account budget_of made rebudgeted };
 }

@@ -172,8 +172,6 @@ impl<K, V: Costed> Admission<K, V> for ByCost {
 impl<K, V: Costed> Budgeted<K, V> for ByCost {
     ghost budget_of = { λ b. b.limit };
 
-    ghost accepts_new = { λ b k v. can_add b.limit b.cost (V.cost v) };
-
     ghost made = { λ limit. record { limit = limit; cost = 0 } };
 
     ghost rebudgeted = { λ limit b. record b { limit = limit } };
@@ -191,11 +189,6 @@ impl<K, V: Costed> Budgeted<K, V> for ByCost {
     #[inline]
     fn set_budget(&mut self, budget: u64) {
         self.limit = budget;
-    }
-
-    #[inline]
-    fn has_room_for(&self, _key: &K, value: &V) -> bool {
-        sum_with(self.limit, self.cost, value.cost()).is_some()
     }
 
     ghost laws = { weighs-budgeted (λ _ v. V.cost v) };

@@ -183,8 +183,6 @@ impl<K: Costed, V: Costed, const OVERHEAD: u64> Admission<K, V> for ByWeight<OVE
 impl<K: Costed, V: Costed, const OVERHEAD: u64> Budgeted<K, V> for ByWeight<OVERHEAD> {
     ghost budget_of = { λ b. b.limit };
 
-    ghost accepts_new = { λ b k v. can_add b.limit b.cost (pair_cost OVERHEAD (K.cost k) (V.cost v)) };
-
     ghost made = { λ limit. record { limit = limit; cost = 0 } };
 
     ghost rebudgeted = { λ limit b. record b { limit = limit } };
@@ -202,11 +200,6 @@ impl<K: Costed, V: Costed, const OVERHEAD: u64> Budgeted<K, V> for ByWeight<OVER
     #[inline]
     fn set_budget(&mut self, budget: u64) {
         self.limit = budget;
-    }
-
-    #[inline]
-    fn has_room_for(&self, key: &K, value: &V) -> bool {
-        sum_with(self.limit, self.cost, cost_of_pair(OVERHEAD, key, value)).is_some()
     }
 
     ghost laws = { weighs-budgeted (λ k v. pair_cost OVERHEAD (K.cost k) (V.cost v)) };

@@ -2,6 +2,7 @@ use Rattle.std.proofs.Common.{◌≡◌, ℕ, ◌≤◌, Bool, false, sym}
 use Rattle.std.proofs.Common.{ap, ◌∙◌, subst, arith, ◌⊎◌, inl, inr}
 use Rattle.std.proofs.lemmas.Bool.Decides.{nat_tests}
 use Rattle.std.specs.Prelude.{nat_lt}
+use Rattle.lru_limits.specs.Admissions.{Terms, offers_of}
 use Rattle.lru_limits.specs.Rules.{Rules, Offers}
 use Rattle.lru_limits.specs.Laws.{IsAccount}
 use Rattle.lru_limits.specs.Budget.{IsBudgeted}
@@ -13,9 +14,11 @@ use Rattle.lru_model.proofs.Theorems.Runs.{step_summed, kept_summed}
 use Rattle.lru_model.proofs.Theorems.StepTotals.{step_total}
 use Rattle.lru_model.proofs.Theorems.Sums.{total, total-is}
 
-module _ {K V S : Type 0} {rules : Rules K V S} {offers : Offers K V S K} {account budget : S → ℕ}
-    {accepts : S → K → V → Bool} {made : ℕ → S} {rebudgeted : ℕ → S → S}
-    (laws : IsBudgeted rules offers account budget accepts made rebudgeted) where
+module _ {K V S : Type 0} {rules : Rules K V S} {terms : Terms K V S} {account budget : S → ℕ}
+    {made : ℕ → S} {rebudgeted : ℕ → S → S} (laws : IsBudgeted rules terms account budget made rebudgeted) where
+  abbrev offers : Offers K V S K
+  offers = offers_of terms
+
   pub not_over : (s : S) (n : ℕ) → rules.is_over_the_limit s n ≡ false → account s ≤ budget s
   not_over s n e =
       let within : nat_lt (budget s) (account s) ≡ false = sym (laws.over s n) ∙ e in

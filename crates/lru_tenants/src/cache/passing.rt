@@ -90,9 +90,9 @@ impl<
         ensures puts { On N.eq (T.names name.now) (OfOpen (Puts L.rules (offers_of L.terms) L.budget_of K.eq S.hash_of key value))
             self.old (kept_of result) self.new }
         ensures unkept { IfOk result (λ inserted. IfSome (tenant (T.names name.now) self.old) (λ map. inserted.unkept
-            ≡ comes_back L.accepts_new K.eq key value L.rules (offers_of L.terms) map)) }
+            ≡ comes_back L.terms K.eq key value L.rules map)) }
         ensures rejects { IfSome (tenant (T.names name.now) self.old) (λ map.
-            rejects L.accepts_new K.eq key value map ≡ true →
+            rejects L.terms K.eq key value map ≡ true →
             (result ≡ Ok (record { kept = false; unkept = Some value }))
             × (tenant (T.names name.now) self.new ≡ Some map)) }
         ensures passed { (passed : List (K × V)) × CalledWith F.FnMut sink.old passed sink.new × On N.eq (T.names name.now)

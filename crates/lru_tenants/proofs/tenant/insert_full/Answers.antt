@@ -4,22 +4,24 @@ use Rattle.lru_model.specs.Runs.Step.{inserts}
 use Rattle.lru_tenants.proofs.PutFulls.{is-rejected}
 use Rattle.lru_tenants.proofs.tenant.insert_full.Goals as goal
 
+-- a rejected entry of a new key does not change the map
 pub returns-then-rejects-clause-inserts : goal.returns-then-rejects-clause-inserts
 returns-then-rejects-clause-inserts g c =
     let map = c.args.map.now in
-    let (refused, new) = is-rejected g.L.Budgeted.accepts_new g.K.PartialEq.eq c.args.key c.args.value map
+    let (refused, new) = is-rejected g.L.Admission.terms g.K.PartialEq.eq c.args.key c.args.value map
     (sym c.rejects.ensures ∙ c.if-rejects.true) in
-    not_admitted new map.limiter (g.met.L.Budgeted.laws.refuses map.limiter _ c.args.key c.args.value refused) refl refl
+    let limiter = sym (g.met.L.Budgeted.laws.refuses map.limiter _ c.args.key c.args.value refused) in
+    not_admitted new map.limiter (record { limiter = limiter; pair = rw refused refl }) refl refl
 
 pub returns-then-rejects-clause-passed : goal.returns-then-rejects-clause-passed
 returns-then-rejects-clause-passed g c =
     let map = c.args.map.now in
-    let (refused, new) = is-rejected g.L.Budgeted.accepts_new g.K.PartialEq.eq c.args.key c.args.value map
-    (sym c.rejects.ensures ∙ c.if-rejects.true) in (
+    let (refused, new) = is-rejected g.L.Admission.terms g.K.PartialEq.eq c.args.key c.args.value map
+    (sym c.rejects.ensures ∙ c.if-rejects.true) in
+    let limiter = sym (g.met.L.Budgeted.laws.refuses map.limiter _ c.args.key c.args.value refused) in (
       [],
       refl,
-      not_admitted new (map.limiter, [])
-          (g.met.L.Budgeted.laws.refuses map.limiter _ c.args.key c.args.value refused, refl) refl refl,
+      not_admitted new (map.limiter, []) (record { limiter = limiter; pair = rw refused refl }, refl) refl refl,
     )
 
 pub returns-clause-budget : goal.returns-clause-budget

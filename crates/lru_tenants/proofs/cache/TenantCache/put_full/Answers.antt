@@ -77,7 +77,7 @@ returns-clause-rejects g c = let u = c.insert_full.new.map in
     let leaves = leaves-written names (g.met.T.LookupKey.laws.one c.args.name.now) g.met.N.Eq.laws
     c.self.inside.hasher c.self.inside.total_limit c.self.inside.tenants.pairs c.in-Some.own.now u there in
     rw (← c.self.view_is) (subst (λ o. IfSome o
-    (λ map. rejects g.L.Budgeted.accepts_new g.K.PartialEq.eq c.args.key c.args.value map ≡ true →
+    (λ map. rejects g.L.Admission.terms g.K.PartialEq.eq c.args.key c.args.value map ≡ true →
     (c.put_answer.result ≡ Ok (record { kept = false; unkept = Some c.args.value }))
     × (tenant names (cache_of (set_value names c.self.inside.tenants.pairs u) c.self.inside.hasher
     c.self.inside.total_limit) ≡ Some map)))
