@@ -56,7 +56,7 @@ module _ (K V L S N H : RattleType) (key : HashMembers K.Denot)
   keeps_if_none m r = RestsIfNone (map_row K V L S N H key limits links hashed hash) m (λ e. entry_lender e) r
       (λ n. n ≡ m.now)
 
-  -- after the loan, the entry (in `lends_into`, the map) has the value that was written last through r
+  -- After the loan, the entry has the value that was written last through r. `lends_into` says the same of the map.
   abbrev pub lends_found : MutBor Entry → MutBor V.Denot → Fml
   lends_found e r = Lends entry_row V e r (λ last. entry_written e.now last)
 

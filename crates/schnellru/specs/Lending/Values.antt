@@ -45,8 +45,8 @@ module _ (K V L S N H : RattleType) (key : HashMembers K.Denot)
     abbrev pub ends_as : State K.Denot V.Denot L.Denot S.Denot → Fml
     ends_as last = follows_so map_row map_row m.ghost_name none (λ _ _. ⊤) (λ n. n ≡ last)
 
-    -- If r is `Some`, r lends the value of a pair that satisfies `gives`. `turned` says how the call changes the map
-    -- for the key of this pair. After the loan, this key also has the value that was written last through r. If r is
+    -- If r is `Some`, r lends the value of a pair that satisfies `gives`. `turned` is what the call does to the map,
+    -- given the key of this pair. After the loan, this key also has the value that was written last through r. If r is
     -- `None`, the map does not change.
     abbrev pub lends_given : (K.Denot × V.Denot → Type 0)
         → ((K.Denot → Bool) → State K.Denot V.Denot L.Denot S.Denot → State K.Denot V.Denot L.Denot S.Denot)
