@@ -219,7 +219,7 @@ impl<
     ///
     /// `ByCost` and `ByWeight` reject the entry if its cost alone is above the budget, or if the tenant's total would
     /// be above `u64::MAX`. A rejection removes the key's old entry. If the limiter accepts the entry, the tenant's
-    /// oldest entries are evicted until their total cost is within the budget.
+    /// oldest entries are evicted until the total cost is within the budget.
     ///
     /// ```
     /// assert_eq!(rt; cache.put(&1, 8, 1), Ok(true));

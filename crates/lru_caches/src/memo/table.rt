@@ -11,7 +11,7 @@ use std::alloc::Global;
 use std::hash::Hash;
 use std::marker::Model;
 
-/// Defines which values are answers at a key of a [`MemoTable`].
+/// Defines which values are answers for a key of a [`MemoTable`].
 ///
 /// ```
 /// #[derive(Drop)]
