@@ -208,8 +208,8 @@ module _ {B D E S : Type 0} (d : device.Ghosts D B E S) where
   abbrev pub IsFlushCause : D → D → PageError E → Type 0
   IsFlushCause old new e = IsFault old new e ⊎ ((e ≡ Broken) × (d.is_usable old ≡ false))
 
-  -- A failed call changes neither the pages nor the counts, unless memory ran out after an eviction. In this case the
-  -- evicted page is gone, and the eviction is counted.
+  -- A failed call changes no page and no count. But if memory ran out after an eviction, the evicted page is gone, and
+  -- the eviction is counted.
   abbrev pub Leaves : Cached B D → Cached B D → PageError E → Type 0
   Leaves old new e = ((new.pages ≡ old.pages) × (new.counts ≡ old.counts))
       ⊎ ((e ≡ Memory) × (new.pages ≡ with_room old.capacity old.keeps_dirty old.pages)

@@ -32,7 +32,7 @@ pub struct Counts {
     /// How many inserts returned `Ok(false)`: the limiter rejected the entry, no table could hold the entry, or the
     /// entry was evicted at once.
     pub rejections: u64,
-    /// How many entries inserts evicted, other than the entry of the inserted key.
+    /// How many entries were evicted by inserts, other than the inserted entry itself.
     pub evictions: u64,
 }
 

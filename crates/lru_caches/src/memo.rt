@@ -16,7 +16,7 @@ use std::marker::Model;
 pub(crate) mod loader;
 pub(crate) mod table;
 
-/// A function with its newest results, up to a limit.
+/// A function that remembers its newest results, up to a limit.
 ///
 /// ```
 /// let mut squares = Memo::new(alloc, ByLength::new(9), |n: &u64| n.wrapping_mul(*n));

@@ -1,5 +1,5 @@
 -- A get that puts the key if it is not there.
---     makes v             the closure may return v
+--     `makes v`: the closure may return v.
 use Rattle.std.specs.Prelude.{◌≡◌, ℕ, Bool, true, false, Option, Some, None, option_map, Result, Ok, Err}
 use Rattle.std.specs.declared.alloc.AllocError.{AllocError}
 use Rattle.lru_limits.specs.Rules.{Rules, Offers}

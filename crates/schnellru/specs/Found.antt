@@ -27,7 +27,7 @@ module _ {K V L S N H : Type 0} {equal : equality.Ghosts K} {input : hashing.Gho
   abbrev pub entry_lender : GName
   entry_lender = entry.map.ghost_name
 
-  -- `names` names the key of the entry, and no key that differs from this key
+  -- `names` is true exactly for the keys that equal the entry's key
   pub record IsOn (names : K → Bool) : Type 0 where
     pub one : (x y : K) → IsTrue (names x) → names y ≡ equal.eq x y
     pub place : place_in names entry.map.now ≡ Some entry.bucket

@@ -176,8 +176,8 @@ impl<
         Some(read(&*value))
     }
 
-    /// Stores an answer at a key as the newest, and returns true. If memory runs out, or a limit prevents storing the
-    /// answer, returns false, and no answer is stored at the key.
+    /// Stores an answer for a key as the newest, and returns true. If memory runs out, or a limit prevents storing the
+    /// answer, returns false, and no answer is stored for the key.
     ///
     /// ```
     /// squares.store(3, 9);

@@ -13,15 +13,15 @@ use Rattle.lru_model.specs.Calls.{written}
 use Rattle.schnellru.specs.contracts.map.LruMap.{the_row}
 use mathlib.Core.Option.{none}
 
--- The list of pairs after w became the value of the pair in bucket b. `places` lists the buckets of the pairs, in the
--- order of the pairs.
+-- The list of pairs, with w as the value of the pair in bucket b. `places` lists the buckets of the pairs, in the order
+-- of the pairs.
 abbrev pub set_value_in : {K V : Type 0} → ℕ → V → List (K × V) → List ℕ → List (K × V)
 set_value_in b w [] places = []
 set_value_in b w (pair ∷ pairs) [] = pair ∷ pairs
 set_value_in b w (pair ∷ pairs) (c ∷ places) =
     if nat_eq c b then (pair.0, w) ∷ pairs else pair ∷ set_value_in b w pairs places
 
--- the map after w became the value of the pair in bucket b
+-- the map, with w as the value of the pair in bucket b
 abbrev pub written_in : {K V S H : Type 0} → ℕ → V → State K V S H → State K V S H
 written_in b w st = record st { pairs = set_value_in b w st.pairs st.table.places }
 

@@ -103,7 +103,8 @@ impl<K: Eq + Hash, V, L: Limiter<K, V>, S: KeyHasher<K>> LruMap<K, V, L, S> {
     {
         self.settle();
         self.make_room(sink);
-        // `insert_without_growth` takes a key and a value, because each insert would first clear memory for a pair.
+        // `insert_without_growth` takes a key and a value instead of a pair, because each insert would first clear
+        // memory for a pair.
         let (key, value) = pair;
         if self.growth_left() == 0 {
             return self.insert_without_growth(hash, key, value, sink);
