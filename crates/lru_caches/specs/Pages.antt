@@ -14,7 +14,7 @@ use Rattle.lru_caches.specs.declared.page_cache.pages.Page.{Page}
 use Rattle.lru_caches.specs.declared.page_cache.PageError.{PageError}
 use Rattle.lru_caches.specs.declared.page_cache.PageError.TheVariants.{Device, Memory, NoBlock, Broken, Full}
 
--- what a contract says of a page cache
+-- a page cache, as contracts see it
 pub record Cached (B D : Type 0) : Type 0 where
   -- the cached pages by their numbers, newest first
   pub pages : List (ℕ × Page B)

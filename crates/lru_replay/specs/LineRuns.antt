@@ -52,9 +52,9 @@ module _ {S : Type 0} (rules : Rules ℕ ℕ S) (offers : Offers ℕ ℕ S ℕ) 
   abbrev pub IsTextOf : Map S → List (List ℕ) → List ℕ → Type 0
   IsTextOf old lines text = (new : Map S) × IsLineRun old lines text new
 
--- Below, `IsText` says which texts are answers to lines. `Wrote` says how much of a text was written. `from` lists the
--- bytes that were left to read before, and `to` lists the bytes that are left to read now. `old` lists the bytes that
--- were written before, and `new` lists all bytes that are written now. Each list may be unknown (`None`).
+-- Below, `IsText` says which texts are answers to lines. `Wrote` says how much of a text was written. `from` and `to`
+-- list the unread bytes before and after. `old` and `new` list the written bytes before and after. Each list may be
+-- unknown (`None`).
 module _ (IsText : List (List ℕ) → List ℕ → Type 0) (from : Option (List ℕ)) where
   abbrev pub OfAll : (List ℕ → Type 0) → Type 0
   OfAll Wrote = IfSome from (λ input. (text : List ℕ) × IsText (lines_of input) text × Wrote text)

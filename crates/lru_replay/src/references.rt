@@ -167,8 +167,8 @@ pub fn more_capacity_never_misses_more<K: Eq + Hash + Drop, V: Drop, S: KeyHashe
 {}
 
 /// If the keys of a smaller map are included in the keys of a larger map, they are included after the same calls, too
-/// (`included`). So the larger map finds each key that the smaller map finds (`finds`). Such a call is a reference, or
-/// a call of `calls_change_the_keys`.
+/// (`included`). So the larger map finds each key that the smaller map finds (`finds`). The calls are references, or
+/// calls of `calls_change_the_keys`.
 pub fn a_smaller_map_is_included<K: Eq + Hash + Drop, V: Drop, S: KeyHasher<K>>()
     ensures included { (calls : List (KeyCall K)) (old small other large : State K V ByLength S) →
         Did K.eq old calls small → Did K.eq other calls large → old.limiter ≤ other.limiter →
