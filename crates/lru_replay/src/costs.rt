@@ -1,5 +1,5 @@
-//! The theorems of `references`, for a map whose limiter limits the cost, as `ByCost` and `ByWeight` do, and for any
-//! `weight` of an entry.
+//! The theorems of `references`, for maps that limit the cost of their entries, as `ByCost` and `ByWeight` do. The
+//! `weight` of an entry may be any function.
 ghost use Rattle.std.specs.Prelude.{◌≡◌, ℕ, ◌-◌, ◌*◌, ◌^◌, ◌≤◌, ◌<◌, Bool, List, length, take, true};
 ghost use Rattle.std.specs.Prelude.{Some, Ok, Result, IsOk};
 ghost use Rattle.std.specs.declared.alloc.AllocError.{AllocError};
