@@ -42,7 +42,7 @@ pub extern "C" fn rattle_load(alloc: Global, length: u32, kinds: &[u8], keys: &[
         return sum;
     }
     // The loop has one counter, because the compiled loop of the other crate also has one. A zip of the slices would
-    // have two.
+    // have two counters.
     for i in 0..kinds.len() {
         sum = step_of_load(&mut map, kinds[i], keys[i], sum);
     }

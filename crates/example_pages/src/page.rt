@@ -1,4 +1,4 @@
-//! A page: four numbers, records of 64 bytes, and 8 bytes for the checksum of the device.
+//! A page: four numbers, records of 64 bytes, and 8 bytes for the device's checksum.
 
 pub const PAGE: usize = 4096;
 

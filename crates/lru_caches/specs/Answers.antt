@@ -1,6 +1,6 @@
 -- What a memo or a loader may return, and what a memo remembers.
 --     `eq`: the `==` of the keys.
---     `post k v`: the function may return v at k.
+--     `post k v`: the function may return v for k.
 use Rattle.std.specs.Prelude.{◌≡◌, ℕ, Bool, true, List, Result, Ok, Err}
 use Rattle.std.specs.List.{All}
 use Rattle.std.specs.declared.alloc.AllocError.{AllocError}
@@ -8,20 +8,20 @@ use Rattle.lru_limits.specs.Rules.{Rules, Offers}
 use Rattle.lru_model.specs.GetOrInserts.{MakesNewest}
 use Rattle.lru_model.specs.State.{State}
 
--- what a contract says of a memo or a loader
+-- a memo or a loader, as contracts see it
 pub record Memoized (K V S H F : Type 0) : Type 0 where
   pub map : State K V S H
   pub function : F
 
--- The call returned `value`. If `value` was stored at the key, the entry of the key becomes the newest. If no value was
--- stored at the key, the call inserts `value`.
+-- The call returned `value`. If `value` was stored for the key, the key's entry becomes the newest. If no value was
+-- stored, the call inserts `value`.
 abbrev pub Remembers : {K V S H : Type 0} → Rules K V S → Offers K V S K → (K → K → Bool) → (H → K → ℕ) → K → V
     → State K V S H → State K V S H → Type 0
 Remembers rules offers eq hash_of key value old new = (kept : Result Bool AllocError)
     × MakesNewest rules offers eq hash_of (λ made. made ≡ value) key old kept new
 
 module _ {K V : Type 0} (eq : K → K → Bool) (post : K → V → Type 0) where
-  -- the function may return the value at the key or at an equal key
+  -- the function may return the value for the key or for an equal key
   abbrev pub IsAnswer : K → V → Type 0
   IsAnswer key value = (k : K) × (eq key k ≡ true) × post k value
 

@@ -4,7 +4,7 @@ use Rattle.lru_caches.specs.declared.counted.Counts.{Counts}
 use Rattle.lru_model.specs.Lists.{without}
 use Rattle.lru_model.specs.State.{State}
 
--- what a contract says of a counted map
+-- a counted map, as contracts see it
 pub record Counted (K V S H : Type 0) : Type 0 where
   pub map : State K V S H
   pub counts : Counts

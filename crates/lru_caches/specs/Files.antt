@@ -46,8 +46,8 @@ abbrev pub known : List Event → ℕ → Option (List ℕ)
 known [] n = None
 known (e ∷ earlier) n = known_after e.0 (nat_eq n e.1) e.2 (known earlier n)
 
--- What a crash after an event leaves of a block, or `None` if the events do not determine this. `block` is what is
--- known of the block, and `old` is what a crash before the event leaves.
+-- The bytes that a crash after an event leaves in a block, or `None` if the events do not determine these bytes.
+-- `block` lists the known bytes of the block, and `old` the bytes that a crash before the event leaves.
 abbrev pub left_after : ℕ → Bool → Option (List ℕ) → Option (List ℕ) → Option (List ℕ)
 left_after zero same block old = old
 left_after (suc zero) same block old = old
@@ -56,7 +56,7 @@ left_after (suc (suc (suc zero))) same block old = if same then None else old
 left_after (suc (suc (suc (suc zero)))) same block old = old
 left_after (suc (suc (suc (suc (suc more))))) same block old = block
 
--- what a crash leaves of block n, or `None` if the events do not determine this
+-- the bytes that a crash leaves in block n, or `None` if the events do not determine these bytes
 abbrev pub left : List Event → ℕ → Option (List ℕ)
 left [] n = None
 left (e ∷ earlier) n = left_after e.0 (nat_eq n e.1) (known earlier n) (left earlier n)

@@ -1,4 +1,4 @@
--- If a record of calls on a file determines what a crash leaves of a block, the crash leaves the known block.
+-- If a record of calls on a file determines which bytes a crash leaves in a block, these are the known bytes.
 use Rattle.std.specs.Prelude.{◌≡◌, ℕ, zero, suc, nat_eq, Bool, true, false, if◌then◌else◌, List, [], ◌∷◌, Option, Some, None, refl}
 use Rattle.std.proofs.Common.{sym, ◌∙◌, ap, subst, unwrap_or, option_map}
 use Rattle.std.proofs.lemmas.Option.{none-some}

@@ -14,7 +14,7 @@ use Rattle.lru_caches.specs.declared.page_cache.pages.Page.{Page}
 use Rattle.lru_caches.specs.declared.page_cache.PageError.{PageError}
 use Rattle.lru_caches.specs.declared.page_cache.PageError.TheVariants.{Device, Memory, NoBlock, Broken, Full}
 
--- what a contract says of a page cache
+-- a page cache, as contracts see it
 pub record Cached (B D : Type 0) : Type 0 where
   -- the cached pages by their numbers, newest first
   pub pages : List (ℕ × Page B)
@@ -135,7 +135,7 @@ module _ {B D E S : Type 0} (d : device.Ghosts D B E S) where
   abbrev pub block_at : List (ℕ × Page B) → D → ℕ → Option S
   block_at pages device n = block_or (lookup (nat_eq n) pages) (d.blocks device n)
 
-  -- the block n as a reader of the cache sees this block
+  -- block n as a reader of the cache sees it
   abbrev pub shown : Cached B D → ℕ → Option S
   shown cache n = block_at cache.pages cache.device n
 
@@ -151,8 +151,7 @@ module _ {B D E S : Type 0} (d : device.Ghosts D B E S) where
   IsWritten None block = ⊥
   IsWritten (Some page) block = IsTrue page.is_dirty × ((block ≡ d.seen page.block) ⊎ d.IsTorn block)
 
-  -- A crash may leave only the blocks that a crash might leave before the call, and the blocks of dirty pages, whole or
-  -- torn.
+  -- A crash may leave only what a crash before the call might leave, or the block of a dirty page, whole or torn.
   abbrev pub CrashAdds : List (ℕ × Page B) → D → D → Type 0
   CrashAdds pages old new = (n : ℕ) (block : S) → d.may_leave new n block
       → d.may_leave old n block ⊎ IsWritten (lookup (nat_eq n) pages) block
@@ -209,8 +208,8 @@ module _ {B D E S : Type 0} (d : device.Ghosts D B E S) where
   abbrev pub IsFlushCause : D → D → PageError E → Type 0
   IsFlushCause old new e = IsFault old new e ⊎ ((e ≡ Broken) × (d.is_usable old ≡ false))
 
-  -- A failed call changes neither the pages nor the counts, unless memory ran out after an eviction. In this case the
-  -- evicted page is gone, and the eviction is counted.
+  -- A failed call changes no page and no count. But if memory ran out after an eviction, the evicted page is gone, and
+  -- the eviction is counted.
   abbrev pub Leaves : Cached B D → Cached B D → PageError E → Type 0
   Leaves old new e = ((new.pages ≡ old.pages) × (new.counts ≡ old.counts))
       ⊎ ((e ≡ Memory) × (new.pages ≡ with_room old.capacity old.keeps_dirty old.pages)

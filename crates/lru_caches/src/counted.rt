@@ -12,7 +12,7 @@ use std::alloc::AllocError;
 use std::hash::Hash;
 use std::marker::Model;
 
-/// The counts of a cache, which an operator may watch. Each count stops at `u64::MAX`.
+/// The counts of a cache. Each count stops at `u64::MAX`.
 ///
 /// A call counts only if its documentation says so. Evictions by other calls, such as `set_budget`, are not counted.
 ///
@@ -29,10 +29,10 @@ pub struct Counts {
     pub misses: u64,
     /// How many inserts left their key in the cache.
     pub insertions: u64,
-    /// How many inserts returned `Ok(false)`: the limiter rejected the entry, no table could hold it, or it was evicted
-    /// at once.
+    /// How many inserts returned `Ok(false)`: the limiter rejected the entry, no table could hold the entry, or the
+    /// entry was evicted at once.
     pub rejections: u64,
-    /// How many entries of other keys were evicted by inserts.
+    /// How many entries were evicted by inserts, other than the inserted entry itself.
     pub evictions: u64,
 }
 
@@ -99,7 +99,7 @@ impl<K: Eq + Hash, V, L: Limiter<K, V>, S: KeyHasher<K>> Model for CountedMap<K,
 }
 
 impl<K: Eq + Hash, V, L: Limiter<K, V>, S: KeyHasher<K>> CountedMap<K, V, L, S> {
-    /// Counts the calls on this map from now on.
+    /// Takes a map, and counts its look-ups and inserts from now on.
     ///
     /// ```
     /// let counted: CountedMap<u64, u64, ByLength> = CountedMap::new(LruMap::with_limiter(alloc, ByLength::new(3)));
@@ -130,7 +130,7 @@ impl<K: Eq + Hash, V, L: Limiter<K, V>, S: KeyHasher<K>> CountedMap<K, V, L, S> 
         self.counts
     }
 
-    /// Returns the counts, and begins again with zeros.
+    /// Returns the counts, and sets them to zeros.
     ///
     /// ```
     /// counted.get(&1);
@@ -147,7 +147,7 @@ impl<K: Eq + Hash, V, L: Limiter<K, V>, S: KeyHasher<K>> CountedMap<K, V, L, S> 
         counts
     }
 
-    /// Returns the map. Calls on it count nothing.
+    /// Returns the map. Calls on it are not counted.
     ///
     /// ```
     /// assert_eq!(rt; (counted.map().len(), counted.map().peek(&2).copied()), (3, Some(20)));
@@ -247,7 +247,7 @@ impl<K: Eq + Hash + Drop, V: Drop, L: Limiter<K, V>, S: KeyHasher<K>> CountedMap
         done
     }
 
-    /// Does what `LruMap::remove` does. A removal counts nothing.
+    /// Does what `LruMap::remove` does. A removal is not counted.
     ///
     /// ```
     /// assert_eq!(rt; (counted.remove(&1), counted.counts()), (Some(10), Counts::default()));

@@ -1,6 +1,6 @@
 ghost use Rattle.std.specs.Prelude.{◌≡◌, ◌≢◌, ◌⊎◌, ℕ, Bool, Option, Some, IsTrue, ◌↔◌, is_ok, IfOk, OnOk, IsOk};
 
-/// A device of numbered blocks, such as a disk or a file. Any call may fail.
+/// A device of numbered blocks, such as a disk or a file. Each `read`, `write` or `sync` may fail.
 ///
 /// After a crash, each block may be as it was at the last `sync`, as it was written later, or torn. A write changes
 /// only its own block, even if the write fails or the machine stops in the middle. After a failed `sync`, no clause
@@ -26,13 +26,13 @@ pub trait BlockDevice<B> {
     /// A block, as contracts see it.
     ghost seen: { B → Self.Seen };
 
-    /// Whether the device has a block of this number. No call changes this.
+    /// Whether the device has a block with this number. No call changes this.
     ghost has: { Self → ℕ → Bool };
 
     /// The block of each number, if it is known.
     ghost blocks: { Self → ℕ → Option Self.Seen };
 
-    /// What a crash at this moment may leave as the block of this number.
+    /// What a crash at this moment may leave as the block with this number.
     ghost may_leave: { Self → ℕ → Self.Seen → Type 0 };
 
     /// True unless a `sync` has failed.
@@ -55,7 +55,7 @@ pub trait BlockDevice<B> {
     /// Says that a `sync` may lead from the first state to the second.
     ghost sync_gives: { Self → Self → Type 0 } = { λ _ _. Unit {0} };
 
-    /// Returns whether the device has a block of this number.
+    /// Returns whether the device has a block with this number.
     fn has(&self, n: u64) -> bool
         ensures { result ≡ has self.now n };
 
@@ -83,7 +83,7 @@ pub trait BlockDevice<B> {
     ///
     /// # Errors
     ///
-    /// The device failed. The block of this number may be anything now, and no other block has changed.
+    /// The device failed. The block with this number may be anything now, and no other block has changed.
     fn write(&mut self, n: u64, block: &B) -> Result<(), Self::Error>
         requires there { IsTrue (has self.old n) }
         requires usable { IsTrue (is_usable self.old) }

@@ -16,7 +16,7 @@ use std::marker::Model;
 pub(crate) mod loader;
 pub(crate) mod table;
 
-/// A function with its newest results, up to a limit.
+/// A function that remembers its newest results, up to a limit.
 ///
 /// ```
 /// let mut squares = Memo::new(alloc, ByLength::new(9), |n: &u64| n.wrapping_mul(*n));
@@ -182,8 +182,8 @@ impl<K: Eq + Hash + Drop, V: Drop, F: Fn(&K) -> V, L: Insertion<K, V, K>, S: Key
     L,
     S,
 > {
-    /// Lends a closure the result that `answer` would return, and returns what the closure returns. The results need
-    /// not be `Copy`.
+    /// Does what `answer` does, but lends the result to a closure, and returns what the closure returns. The results
+    /// need not be `Copy`.
     ///
     /// ```
     /// let mut blocks = Memo::new(alloc, ByLength::new(9), |n: &usize| vec![in alloc; 7u8; *n].ok());

@@ -31,7 +31,7 @@ pub enum PageError<E> {
     /// Out of memory for one more page, or there are 1,879,048,192 pages, the most that the table holds.
     #[error("out of memory")]
     Memory,
-    /// The device has no block of this number.
+    /// The device has no block with this number.
     #[error("no such block")]
     NoBlock,
     /// The cache is full, and no page may be evicted: each is pinned, or is dirty and kept until a flush. Nothing has
@@ -63,7 +63,7 @@ pub enum PageError<E> {
 /// ```
 pub struct PageCache<B: Copy, D: BlockDevice<B>, S: KeyHasher<u64> = RandomState> {
     map: Pages<B, S>,
-    // reserved memory for the numbers of the pages, for flushes
+    // memory that flushes need for page numbers, reserved in advance
     numbers: Vec<u64>,
     capacity: usize,
     keeps_dirty: bool,
@@ -249,8 +249,8 @@ impl<B: Copy, D: BlockDevice<B>, S: KeyHasher<u64>> PageCache<B, D, S> {
     ///
     /// # Errors
     ///
-    /// `Broken`. `Device`: a write or the `sync` failed, and the dirty pages stay dirty. After a failed `sync`, the
-    /// device is not usable.
+    /// `Broken`: an earlier `sync` failed. `Device`: a write or the `sync` failed, and the dirty pages stay dirty.
+    /// After a failed `sync`, the device is not usable.
     pub fn flush(&mut self) -> Result<(), PageError<D::Error>>
         ensures keeps { ShowsTheSame D.BlockDevice self.old self.new }
         ensures flushed { OnOk result (D.IsHonest self.new.device →

@@ -36,7 +36,7 @@ module _ {S : Type 0} (rules : Rules ℕ ℕ S) (offers : Offers ℕ ℕ S ℕ) 
   LineStep old line text new = ((call : Call ℕ ℕ S) × SpellsCall line call × TextStep old call text new)
       ⊎ (((call : Call ℕ ℕ S) → SpellsCall line call → ⊥) × (text ≡ bad_text) × (new ≡ old))
 
-  -- The answer to the line was written, followed by a line feed. If a write failed, only a beginning of this text was
+  -- The answer to the line was written, followed by a line feed. If a write failed, only a prefix of this text was
   -- written.
   abbrev pub AnswersLine : Map S → List ℕ → Map S → Option (List ℕ) → Option (List ℕ) → Result (Unit {0}) ReplayError
       → Type 0
@@ -52,20 +52,20 @@ module _ {S : Type 0} (rules : Rules ℕ ℕ S) (offers : Offers ℕ ℕ S ℕ) 
   abbrev pub IsTextOf : Map S → List (List ℕ) → List ℕ → Type 0
   IsTextOf old lines text = (new : Map S) × IsLineRun old lines text new
 
--- Below, `IsText` says which texts are answers to lines. `Wrote` says how much of a text was written. `from` lists the
--- bytes that were left to read before, and `to` lists the bytes that are left to read now. `old` lists the bytes that
--- were written before, and `new` lists all bytes that are written now. Each list may be unknown (`None`).
+-- Below, `IsText` says which texts are answers to lines. `Wrote` says how much of a text was written. `from` and `to`
+-- list the unread bytes before and after. `old` and `new` list the written bytes before and after. Each list may be
+-- unknown (`None`).
 module _ (IsText : List (List ℕ) → List ℕ → Type 0) (from : Option (List ℕ)) where
   abbrev pub OfAll : (List ℕ → Type 0) → Type 0
   OfAll Wrote = IfSome from (λ input. (text : List ℕ) × IsText (lines_of input) text × Wrote text)
 
-  -- Some whole lines and a part of the next line were read. `Wrote` is true of the answers to the whole lines.
+  -- Some whole lines and a part of the next line were read. `Wrote` holds for the answers to the whole lines.
   abbrev pub OfRead : Option (List ℕ) → (List ℕ → Type 0) → Type 0
   OfRead to Wrote = (lines : List (List ℕ)) × (text part : List ℕ)
       × IsText lines text × TakesLines from to lines part × Wrote text
 
 module _ (IsText IsTextSoFar : List (List ℕ) → List ℕ → Type 0) (from to old new : Option (List ℕ)) where
-  -- Either all lines or some whole lines were read. A beginning of the answers to these lines was written.
+  -- Either all lines or some whole lines were read. A prefix of the answers to these lines was written.
   abbrev pub BeginsText : Type 0
   BeginsText = (OfAll IsText from (Begins old new) × OnSome from (IsAtEnd to))
       ⊎ OfRead IsTextSoFar from to (Begins old new)

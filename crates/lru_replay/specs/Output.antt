@@ -14,14 +14,14 @@ use Rattle.lru_replay.specs.declared.lines.outcome.ReplayError.TheVariants as er
 use Rattle.lru_replay.specs.Replies.{Reply, flag, given, updated, value, pair, listed, reserved, shrunk, stats, done}
 use Rattle.lru_replay.specs.Replies.{no_memory, cost_differs}
 
--- a beginning of the text was written
+-- a prefix of the text was written
 abbrev pub Begins : Option (List ℕ) → Option (List ℕ) → List ℕ → Type 0
 Begins old new text = (part : List ℕ) × IsFront part text × Appends old new part
 
 abbrev pub Fails : ReplayError → Option (List ℕ) → Option (List ℕ) → List ℕ → Type 0
 Fails e old new text = (e ≡ errors.Write) × Begins old new text
 
--- the whole text was written, or a write failed after a beginning of the text was written
+-- the whole text was written, or a write failed after a prefix of the text was written
 abbrev pub Writes : {A : Type 0} → Option (List ℕ) → Option (List ℕ) → Result A ReplayError → List ℕ → Type 0
 Writes old new (Ok _) text = Appends old new text
 Writes old new (Err e) text = Fails e old new text

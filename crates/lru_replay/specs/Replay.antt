@@ -70,8 +70,8 @@ module _ (from to old new : Option (List ℕ)) where
   abbrev pub ReadFailed : Type 0
   ReadFailed = OfRead (SoFar IsReplay) from to (Appends old new)
 
-  -- The written text is a beginning of the output for all lines, and also a beginning of the output for the lines that
-  -- were read.
+  -- The written text is a prefix of the output for all lines, and also a prefix of the output for the lines that were
+  -- read.
   pub record WriteFailed : Type 0 where
     pub cut : OfAll IsOutput from (Begins old new)
     pub reads : BeginsText IsOutput (SoFar IsOutput) from to old new

@@ -28,9 +28,9 @@ use Rattle.lru_replay.specs.Replies.{Reply, flag, given, updated, value, pair, l
 use Rattle.lru_replay.specs.Replies.{insert_reply, made_reply}
 
 module _ {K V : Type 0} (eq : K → K → Bool) (hash_of : K → ℕ) where
-  -- What a search by a hash finds for a key. If an equal key is stored, and the hash of the stored key has the tag of
-  -- the searched hash, the search may find the pair of the stored key. If no equal key is stored, or the hash of the
-  -- stored key is not the searched hash, the search may find nothing.
+  -- What a search by a hash finds for a key. If an equal key is stored, and its hash has the same tag as the searched
+  -- hash, the search may find its pair. If no equal key is stored, or the stored key's hash differs from the searched
+  -- hash, the search may find nothing.
   pub data FindsByHash (hash : ℕ) (key : K) (pairs : List (K × V)) (result : Option V) : Type 0 where
     found : (there : K × V) → lookup_entry (eq key) pairs ≡ Some there → hash_tag (hash_of there.0) ≡ hash_tag hash
         → result ≡ Some there.1 → FindsByHash hash key pairs result

@@ -18,7 +18,8 @@ use schnellru::{Insertion, KeyHasher, LruMap};
 use std::alloc::{AllocError, Global};
 use std::hash::Hash;
 
-/// A call of a run. Most calls do what the map's call of the same name does; `docs/RUNS.md` lists the others.
+/// A call that [`run_calls`] carries out. Most calls do what the map's call of the same name does; `docs/RUNS.md` lists
+/// the others.
 ///
 /// ```
 /// let calls = vec![in alloc; Call::Insert(1, 10), Call::Get(1), Call::Peek(2)]?;
@@ -60,7 +61,7 @@ pub enum Call<K, V, L> {
     SetLimiter(L),
 }
 
-/// The answer to a call.
+/// The answer to a [`Call`].
 ///
 /// ```
 /// let gives = answers.get(1) == Some(&Answer::Value(Some(10)));

@@ -16,7 +16,7 @@ pub record ByteCache (N K V S : Type 0) : Type 0 where
   pub limit : ℕ
   pub hasher : S
 
--- the bytes of the table of a map; the `usage` of a map is always `Some`
+-- the bytes of a map's table; the `usage` of a map is always `Some`
 abbrev pub table_bytes : {K V L S : Type 0} → State K V L S → ℕ
 table_bytes map = unwrap_or (usage map.entry_bytes (buckets map)) 0
 
@@ -32,8 +32,8 @@ module _ {N K V S : Type 0} where
   abbrev pub tenant : (N → Bool) → ByteCache N K V S → Option (State K V Bytes S)
   tenant named cache = lookup named cache.tenants
 
-  -- the sum of the bytes that a tenant's name owns, the bytes of the tenant's table, and the bytes that the tenant's
-  -- entries own
+  -- the bytes that a tenant's name owns, plus the bytes of the tenant's table, plus the bytes that the tenant's entries
+  -- own
   abbrev pub taken : (N → ℕ) → (K → V → ℕ) → N × State K V Bytes S → ℕ
   taken of_name of_pair t = of_name t.0 + table_bytes t.1 + sum_by (λ pair. of_pair pair.0 pair.1) t.1.pairs
 
@@ -45,7 +45,7 @@ module _ {N K V S : Type 0} where
   abbrev pub reserved : (N → ℕ) → ByteCache N K V S → ℕ
   reserved of_name cache = cache.table + sum_by (λ t. both_own of_name limit_of t.0 t.1) cache.tenants
 
-  -- whether the cache would be above its limit with one tenant more
+  -- whether the cache would be above its limit with one more tenant
   abbrev pub is_over : (N → ℕ) → N → ℕ → ByteCache N K V S → Bool
   is_over of_name name own cache = nat_lt cache.limit (reserved of_name cache + in_word (of_name name + own))
 

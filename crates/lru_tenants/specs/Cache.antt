@@ -35,7 +35,7 @@ module _ {N K V L S : Type 0} where
   tenant named cache = lookup named cache.tenants
 
   -- The empty map of a new tenant. `made` makes the limiter, an entry takes `entry_bytes` bytes, and `max` is the
-  -- number of the link `MAX`.
+  -- number of `LinkType::MAX`.
   abbrev pub fresh : (ℕ → L) → ℕ → ℕ → Cache N K V L S → ℕ → State K V L S
   fresh made entry_bytes max cache budget = empty_map (made budget) cache.hasher entry_bytes max
 

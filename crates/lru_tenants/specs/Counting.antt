@@ -1,4 +1,4 @@
--- A limiter that carries the counts of its map, and what counted calls do.
+-- A limiter that stores the counts of its map, and what counted calls do.
 --     `rules`, `terms`: the `Rules` and `Terms` of the limiter inside.
 use Rattle.std.specs.Prelude.{◌≡◌, ℕ, Bool, true, false, Option, Some, is_some, Result, Ok, Err}
 use Rattle.std.specs.Result.{result_map_both}

@@ -1,5 +1,5 @@
 -- A get that puts the key if it is not there.
---     makes v             the closure may return v
+--     `makes v`: the closure may return v.
 use Rattle.std.specs.Prelude.{◌≡◌, ℕ, Bool, true, false, Option, Some, None, option_map, Result, Ok, Err}
 use Rattle.std.specs.declared.alloc.AllocError.{AllocError}
 use Rattle.lru_limits.specs.Rules.{Rules, Offers}
@@ -9,7 +9,7 @@ use Rattle.lru_model.specs.State.{State}
 use Rattle.lru_tenants.specs.declared.error.TenantError.{TenantError}
 use Rattle.lru_tenants.specs.declared.error.TenantError.TheVariants.{Memory}
 
--- if the result is true, the value of the newest pair; if it is false, none; if it is an error, `Memory`
+-- The answer: if the result is true, the value of the newest pair. If it is false, `None`. If it is an error, `Memory`.
 abbrev pub newest_answer : {K V L S : Type 0} → Result Bool AllocError → State K V L S → Result (Option V) TenantError
 newest_answer (Ok true) map = Ok (option_map (λ pair. pair.1) (first map.pairs))
 newest_answer (Ok false) map = Ok None

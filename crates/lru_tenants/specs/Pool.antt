@@ -2,7 +2,7 @@
 --     `names name`: whether the call names the tenant of this name.
 --     `rules`, `offers`: the limiter's `Rules` and `Offers` (`lru_limits`).
 --     `own.0`, `own.1`: the share and the map of a tenant.
---     `account s`: the running total of the limiter s, which is the sum of the costs of the entries.
+--     `account s`: the running total of the limiter s, which is the total cost of the entries.
 use Rattle.std.specs.Prelude.{◌≡◌, ℕ, ◌≤◌, ◌<◌, ◌+◌, ◌-◌, Bool, false, List, [], ◌∷◌, length, Option, Some, None}
 use Rattle.std.specs.Prelude.{option_map, is_some, sum_by, nat_lt, Result, Ok, Err, OnErr}
 use Rattle.std.specs.declared.alloc.AllocError.{AllocError}
@@ -61,7 +61,7 @@ with_map map own = (own.0, map)
 
 module _ {N K V L S : Type 0} (rules : Rules K V L) (account : L → ℕ) (eq : N → N → Bool) where
   -- The tenant that is furthest above its share loses its oldest entry. If several tenants are equally far above their
-  -- shares, one of these tenants loses its oldest entry.
+  -- shares, one of them loses an entry.
   pub record Evicts (old new : List (N × Part K V L S)) : Type 0 where
     pub name : N
     pub own : Part K V L S

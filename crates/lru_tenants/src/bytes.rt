@@ -135,9 +135,9 @@ impl<
     ///
     /// # Errors
     ///
-    /// The tenants are unchanged. `AlreadyOpen`, or `OverTotal`: the limit and the bytes of the name are above `left`.
-    /// `Memory`: the table of tenants has to grow, but memory runs out, or the limit does not permit a larger table
-    /// with this tenant in it. After `Memory` the table may be larger, so `left` may be lower.
+    /// The tenants are unchanged. `AlreadyOpen`. `OverTotal`: `limit` plus the bytes of the name is above `left()`.
+    /// `Memory`: the table of tenants has to grow, but memory runs out, or the cache's limit does not permit a larger
+    /// table. After `Memory` the table may be larger, so `left` may be lower.
     pub fn open(&mut self, name: N, limit: u64) -> Result<(), TenantError>
         ensures opens { On N.eq (N.eq name) (Opens (is_over N.owned name limit self.old)
             (fresh (entry_size K.row V.row link) self.old.hasher limit)) self.old result
@@ -194,7 +194,7 @@ impl<
     /// assert_eq!(rt; (bytes.close(&1), bytes.open(2, 500)), (Ok(1), Ok(())));
     /// ```
     ///
-    /// Cost: `O(buckets)` of its table.
+    /// Cost: `O(buckets)` of the tenant's table.
     ///
     /// # Errors
     ///

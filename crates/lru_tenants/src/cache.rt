@@ -109,7 +109,7 @@ impl<N: Eq + Hash, K: Eq + Hash, V, L: Budgeted<K, V>, S: KeyHasher<K> + Copy> T
     L,
     S,
 > {
-    /// Makes a cache without tenants, with a hasher of names and keys, and any limiter that has a budget.
+    /// Makes a cache without tenants, with any limiter that has a budget. The hasher hashes names and keys.
     ///
     /// If strangers choose names or keys, take std's `RandomState::new(&rt)?`, whose hashes nobody can guess. Cost:
     /// `O(1)`, and no memory.
@@ -170,7 +170,7 @@ impl<
     L: Budgeted<K, V> + Drop,
     S: KeyHasher<K> + Copy,
 > TenantCache<N, K, V, L, S> {
-    /// Opens a tenant with an empty map and a budget for the sum of its entries' costs.
+    /// Opens a tenant with an empty map and a budget for the total cost of its entries.
     ///
     /// ```
     /// assert_eq!(rt; cache.open(2, 3), Ok(()));
@@ -219,7 +219,7 @@ impl<
     ///
     /// `ByCost` and `ByWeight` reject the entry if its cost alone is above the budget, or if the tenant's total would
     /// be above `u64::MAX`. A rejection removes the key's old entry. If the limiter accepts the entry, the tenant's
-    /// oldest entries are evicted until its total is within the budget.
+    /// oldest entries are evicted until the total cost is within the budget.
     ///
     /// ```
     /// assert_eq!(rt; cache.put(&1, 8, 1), Ok(true));
@@ -240,7 +240,7 @@ impl<
         self.put_with(name, key, value, &mut |_, _| {})
     }
 
-    /// Sets the budget of a tenant. The tenant's oldest entries are evicted while its cost is above the budget.
+    /// Sets the budget of a tenant, and evicts the tenant's oldest entries while its total cost is above the budget.
     ///
     /// ```
     /// assert_eq!(rt; (cache.set_budget(&1, 1), cache.cost(&1)), (Ok(()), Ok(0)));
@@ -269,7 +269,7 @@ impl<
     /// assert_eq!(rt; (cache.len(), cache.close(&1), cache.len()), (1, Ok(1), 0));
     /// ```
     ///
-    /// Cost: `O(buckets)` of its table.
+    /// Cost: `O(buckets)` of the tenant's table.
     ///
     /// # Errors
     ///

@@ -1,6 +1,6 @@
 use crate::error::TenantError;
 
-/// A call of a run.
+/// A call that `run_tenants` can carry out.
 ///
 /// ```
 /// let calls = vec![in alloc; TenantCall::Open(1, 3), TenantCall::Put(1, 7, 1), TenantCall::Get(2, 7)]?;
@@ -14,7 +14,7 @@ pub enum TenantCall<N, K, V> {
     Close(N),
 }
 
-/// The answer to a call.
+/// The answer to a [`TenantCall`].
 ///
 /// ```
 /// let answers = run_tenants(alloc, &mut cache, calls)?;

@@ -3,12 +3,12 @@ ghost use Rattle.lru_tenants.specs.Counting.{counting_rules, counting_terms, cou
 use lru_caches::Counts;
 use lru_limits::{Admission, Budgeted, Limiter, Summing};
 
-/// Limits as the limiter inside does, and carries the counts of the map.
+/// Limits as the field `limiter` does, and stores the counts of a map.
 ///
 /// In a `TenantCache` with this limiter, call `get_counted`, `put_counted` and `get_or_put_counted`. No other call
 /// counts.
 ///
-/// In the examples of the calls, `counted` has one tenant, 1, with a budget of 3, the entry (7, 2) and the count of its
+/// In the examples of the calls, `counted` has one tenant, 1, with a budget of 3, the entry (7, 2) and one counted
 /// insertion.
 ///
 /// ```

@@ -26,7 +26,7 @@ use part::{Part, cost_of, opened};
 
 /// A cache for many tenants. Each tenant has its own share of one limit, and any tenant may use the rest.
 ///
-/// All costs add up to at most the limit. While a tenant's cost is within its share, no call of another tenant changes
+/// All costs add up to at most the limit. While a tenant's cost is within its share, no call on another tenant changes
 /// the tenant.
 ///
 /// In the examples of the calls, `pool` has a limit of 5 and two tenants. Tenant 1 has a share of 3 and the entry
@@ -177,9 +177,9 @@ impl<
 
     /// Inserts a key with a value, as the newest entry of the tenant. Returns whether the key is there afterwards.
     ///
-    /// First does what `TenantCache::put` does with the limit as the budget, and then, while the total is above the
+    /// First does what `TenantCache::put` does with the limit as the budget. Then, while the total cost is above the
     /// limit, evicts the oldest entry of the tenant furthest above its share. The new entry may be evicted, too. If
-    /// several tenants are furthest above, any of them may lose an entry.
+    /// several tenants are equally far above, any of them may lose an entry.
     ///
     /// ```
     /// assert_eq!(rt; (pool.put(&2, 8, 3), pool.put(&1, 9, 1)), (Ok(true), Ok(true)));
@@ -221,7 +221,7 @@ impl<
     /// assert_eq!(rt; (pool.len(), pool.close(&1), pool.len()), (2, Ok(1), 1));
     /// ```
     ///
-    /// Cost: `O(buckets)` of its table.
+    /// Cost: `O(buckets)` of the tenant's table.
     ///
     /// # Errors
     ///

@@ -27,7 +27,7 @@ module _ {K V L S N H : Type 0} {equal : equality.Ghosts K} {input : hashing.Gho
   abbrev pub entry_lender : GName
   entry_lender = entry.map.ghost_name
 
-  -- `names` names the key of the entry, and no key that differs from this key
+  -- `names` is true exactly for the keys that equal the entry's key
   pub record IsOn (names : K → Bool) : Type 0 where
     pub one : (x y : K) → IsTrue (names x) → names y ≡ equal.eq x y
     pub place : place_in names entry.map.now ≡ Some entry.bucket
@@ -56,7 +56,7 @@ module _ (K V L S N H : RattleType) (key : HashMembers K.Denot)
   keeps_if_none m r = RestsIfNone (map_row K V L S N H key limits links hashed hash) m (λ e. entry_lender e) r
       (λ n. n ≡ m.now)
 
-  -- after the loan, the entry (in `lends_into`, the map) has the value that was written last through r
+  -- After the loan, the entry has the value that was written last through r. `lends_into` says the same of the map.
   abbrev pub lends_found : MutBor Entry → MutBor V.Denot → Fml
   lends_found e r = Lends entry_row V e r (λ last. entry_written e.now last)
 

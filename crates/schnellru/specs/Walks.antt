@@ -36,7 +36,7 @@ module _ {K V L S N H : Type 0} {equal : equality.Ghosts K} {input : hashing.Gho
   abbrev pub walk_lender : GName
   walk_lender = walk.map.ghost_name
 
-  -- the pairs that are left for the walk are at the positions from `walk_start` to `walk_end - 1`
+  -- the remaining pairs are at the positions from `walk_start` to `walk_end - 1`
   abbrev pub walk_start : ℕ
   walk_start = walk.start
 
@@ -47,8 +47,8 @@ module _ {K V L S N H : Type 0} {equal : equality.Ghosts K} {input : hashing.Gho
   abbrev pub walk_written : ℕ → V → MutBor (State K V L S)
   walk_written at w = record walk.map { now = record walk.map.now { pairs = set_value_at walk.map.now.pairs at w } }
 
-  -- What the walk is after it lent the first pair that was left, and the caller wrote w. `walk_after_last` says the
-  -- same of the last pair.
+  -- The walk after it lent the first remaining pair, and the caller wrote w. `walk_after_last` says the same of the
+  -- last pair.
   abbrev pub walk_after_first : V → IterMut K V L S N H equal input limits links keyed build hash
   walk_after_first w = record walk {
     map = walk_written walk.start w;
@@ -85,8 +85,8 @@ module _ (K V L S N H : RattleType) (key : HashMembers K.Denot)
       (record { hash_input = key.hash_input }) limits
       links (record { hash_of = hashed.hash_of })
       (record { build_hasher = hashed.build_hasher }) hash)) where
-    -- if pairs were left, the walk lends the first of these pairs (in `lends_next_back`, the last) until the borrow r
-    -- ends
+    -- If pairs remained, the walk lends the first remaining pair until the borrow r ends. `lends_next_back` says the
+    -- same of the last.
     abbrev pub lends_next : Option (Bor K.Denot × MutBor V.Denot) → Fml
     lends_next r = follows_if walk_row V walk.ghost_name (lent_name r) (λ w. walk_after_first walk.now w) walk.now
 

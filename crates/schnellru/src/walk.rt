@@ -113,8 +113,8 @@ impl<K: Eq + Hash, V, L: Limiter<K, V>, S: KeyHasher<K>> LruMap<K, V, L, S> {
         Some(self.entries.index_of(b))
     }
 
-    /// Returns the entry one step older than the entry of a key. Returns `None` if the key is not there, or if its entry
-    /// is the oldest. So a walk needs no iterator.
+    /// Returns the entry one step older than the entry of a key. Returns `None` if the key is not there, or if its
+    /// entry is the oldest. So code can step through a map without an iterator.
     ///
     /// ```
     /// assert!(rt; map.peek_older(&2) == Some((&1, &10)) && map.peek_older(&1).is_none());
@@ -131,8 +131,8 @@ impl<K: Eq + Hash, V, L: Limiter<K, V>, S: KeyHasher<K>> LruMap<K, V, L, S> {
         Some(self.entries.pair(self.entries.older_unless_last(b)))
     }
 
-    /// Returns the entry one step newer than the entry of a key. Returns `None` if the key is not there, or if its entry
-    /// is the newest.
+    /// Returns the entry one step newer than the entry of a key. Returns `None` if the key is not there, or if its
+    /// entry is the newest.
     ///
     /// ```
     /// assert!(rt; map.peek_newer(&2) == Some((&3, &30)) && map.peek_newer(&3).is_none());

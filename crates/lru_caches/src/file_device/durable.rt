@@ -9,7 +9,7 @@ use std::io::Cursor;
 /// assert!(rt; Cursor::new([0u8; 4]).make_durable().is_ok());
 /// ```
 pub trait Durable {
-    /// Makes all bytes durable that were written and flushed before this call.
+    /// Makes durable all bytes that were written and flushed before this call.
     ///
     /// # Errors
     ///

@@ -13,7 +13,7 @@ use std::alloc::Global;
 use std::hash::Hash;
 use std::marker::Model;
 
-/// A memo of a function that may fail, such as a read of a file. It stores no failures.
+/// A memo of a function that may fail, such as a read of a file. Errors are not stored.
 ///
 /// ```
 /// let disk = [10, 11, 12];
@@ -172,8 +172,8 @@ impl<
     L: Insertion<K, V, K>,
     S: KeyHasher<K>,
 > Loader<K, V, F, L, S> {
-    /// Lends a closure the value that `load` would return, and returns what the closure returns. The values need not be
-    /// `Copy`.
+    /// Does what `load` does, but lends the value to a closure, and returns what the closure returns. The values need
+    /// not be `Copy`.
     ///
     /// ```
     /// let mut texts = Loader::new(alloc, ByLength::new(9), |n: &usize| vec![in alloc; 7u8; *n].map_err(|_| *n));

@@ -11,7 +11,7 @@ use std::alloc::Global;
 use std::hash::Hash;
 use std::marker::Model;
 
-/// Defines which values are answers at a key of a [`MemoTable`].
+/// Defines which values are answers for a key of a [`MemoTable`].
 ///
 /// ```
 /// #[derive(Drop)]
@@ -176,8 +176,8 @@ impl<
         Some(read(&*value))
     }
 
-    /// Stores an answer at a key as the newest, and returns true. If memory runs out, or a limit prevents storing the
-    /// answer, returns false, and no answer is stored at the key.
+    /// Stores an answer for a key as the newest, and returns true. If memory runs out, or a limit prevents storing the
+    /// answer, returns false, and no answer is stored for the key.
     ///
     /// ```
     /// squares.store(3, 9);

@@ -67,7 +67,7 @@ impl<B: Copy, D: BlockDevice<B>, S: KeyHasher<u64>> PageCache<B, D, S> {
         self.read_with(n, |block| *block)
     }
 
-    /// Lends a closure the block that `read` would return, and returns what the closure returns.
+    /// Does what `read` does, but lends the block to a closure, and returns what the closure returns.
     ///
     /// ```
     /// assert_eq!(rt; cache.read_with(1, |block| *block / 2), Ok(10));
@@ -123,7 +123,7 @@ impl<B: Copy, D: BlockDevice<B>, S: KeyHasher<u64>> PageCache<B, D, S> {
 
     /// Replaces a block in the cache, and makes its page the newest. The device gets the block later.
     ///
-    /// If the page is not cached and the cache is full, evicts a page (see `read`). A pin stays.
+    /// If the page is not cached and the cache is full, evicts a page (see `read`). A pinned page stays pinned.
     ///
     /// ```
     /// assert_eq!(rt; cache.write(1, 20), Ok(()));
@@ -167,10 +167,10 @@ impl<B: Copy, D: BlockDevice<B>, S: KeyHasher<u64>> PageCache<B, D, S> {
         )
     }
 
-    /// Lends a closure a block for writing in place, and returns what the closure returns. The page becomes dirty and
-    /// the newest.
+    /// Lends a block to a closure, which may write it in place, and returns what the closure returns. The page becomes
+    /// dirty and the newest.
     ///
-    /// If the page is not cached, reads the block first. A pin stays.
+    /// If the page is not cached, reads the block first. A pinned page stays pinned.
     ///
     /// ```
     /// assert_eq!(rt; (cache.write_with(1, |block| *block = 21), cache.read(1)), (Ok(()), Ok(21)));

@@ -50,8 +50,7 @@ impl<
         self.tenants.limiter().limit()
     }
 
-    /// Returns how many bytes are left for the limit and the name of one more tenant, if the table of tenants does not
-    /// grow.
+    /// Returns how many bytes a new tenant's limit and name may take, if the table of tenants does not grow.
     ///
     /// ```
     /// assert!(rt; bytes.left() < 3500);

@@ -1,4 +1,4 @@
-//! Calls that count. The limiter carries the counts of each tenant.
+//! Calls that count. Each tenant's limiter stores the tenant's counts.
 ghost use Rattle.std.specs.Prelude.{◌≡◌, None, Some, Ok, Err, IfSome};
 ghost use Rattle.std.specs.Borrow.{sem};
 ghost use Rattle.lru_limits.specs.Admissions.{offers_of};
@@ -53,7 +53,7 @@ impl<N: Eq + Hash, K: Eq + Hash, V, L: Budgeted<K, V>, S: KeyHasher<K> + Copy> T
 
     /// Sets the counts of a tenant.
     ///
-    /// So you can count other calls, with the calls of [`Counts`].
+    /// To count other calls, use the methods of [`Counts`].
     ///
     /// ```
     /// let mut counts = counted.counts(&1)?;
@@ -178,7 +178,7 @@ impl<
         put_answer(insert_counted(own, key, value))
     }
 
-    /// Does what `get_or_put` does, and counts a hit, or a miss and then what `put_counted` counts.
+    /// Does what `get_or_put` does. Counts a hit, or else a miss and what `put_counted` counts.
     ///
     /// ```
     /// assert_eq!(rt; counted.get_or_put_counted(&1, 7, || 3), Ok(Some(&2)));

@@ -24,8 +24,8 @@ impl<
 > TenantCache<N, K, V, L, S> {
     ghost use Rattle.lru_tenants.specs.Lending.{ends_so};
 
-    /// If the key is there, does what `get` does. If the key is not there, puts the value that the closure returns, and
-    /// returns this value.
+    /// Does what `get` does if the key is there. If not, puts the value that the closure returns, and returns this
+    /// value.
     ///
     /// `None` means that the tenant does not keep the new entry.
     ///

@@ -9,8 +9,8 @@ use lru_limits::Budgeted;
 use schnellru::{KeyHasher, LruMap, Unlimited};
 use std::hash::Hash;
 
-// Returns the greatest excess. If the excess is above 0, also returns the hash of the name of a tenant with this
-// excess. Does not return the name, because the caller changes the map that lends the name.
+// Returns the greatest excess of a tenant's cost over its share. If the excess is above 0, also returns the hash of the
+// tenant's name. Does not lend the name itself, because the caller changes the map.
 fn furthest<N: Eq + Hash, K: Eq + Hash, V, L: Budgeted<K, V>, S: KeyHasher<K>, H: KeyHasher<N>>(
     tenants: &LruMap<N, Part<K, V, L, S>, Unlimited, H>,
 ) -> (u64, u64)
@@ -30,7 +30,7 @@ fn furthest<N: Eq + Hash, K: Eq + Hash, V, L: Budgeted<K, V>, S: KeyHasher<K>, H
     (most, hash)
 }
 
-// Returns by how much the total falls. Returns `None` only in Rust, where hashes and costs may be wrong.
+// Returns by how much the total cost falls. Returns `None` only in Rust, where hashes and costs may be wrong.
 fn evict<
     N: Eq + Hash,
     K: Eq + Hash + Drop,
@@ -57,7 +57,7 @@ fn evict<
     drop_oldest(own)
 }
 
-// Returns the total that is left.
+// Returns the remaining total cost.
 pub(super) fn settle<
     N: Eq + Hash,
     K: Eq + Hash + Drop,

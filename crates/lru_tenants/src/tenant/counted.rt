@@ -71,7 +71,7 @@ pub(crate) fn insert_counted<K: Eq + Hash + Drop, V: Drop, L: Budgeted<K, V>, S:
     insert_beside(map, key, value, others)
 }
 
-// `others` is the number of entries of other keys.
+// `others` is the number of entries with other keys.
 fn insert_beside<K: Eq + Hash + Drop, V: Drop, L: Budgeted<K, V>, S: KeyHasher<K>>(
     map: &mut LruMap<K, V, Counting<L>, S>,
     key: K,

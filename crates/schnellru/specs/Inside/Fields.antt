@@ -1,4 +1,4 @@
--- The fields of an `LruMap` except `entries` and `alloc`, plus `max`.
+-- The fields of an `LruMap` except `entries` and `alloc`, plus `max`: the number of `LinkType::MAX`.
 use Rattle.std.specs.Prelude.{ℕ}
 use Rattle.schnellru.specs.declared.map.LruMap.TheInside.{Inside}
 
@@ -10,7 +10,7 @@ pub record Fields (S H : Type 0) : Type 0 where
   pub entry_bytes : ℕ
   pub max : ℕ
 
--- the `Fields` of the map m, with `max` as the number of the link `MAX`
+-- the `Fields` of the map m
 abbrev pub fields_of : {K V S H Link Hasher : Type 0} → Inside K V S H Link Hasher → ℕ → Fields S H
 fields_of m max = record {
   limiter = m.limiter;

@@ -16,7 +16,7 @@ module _ {K V F : Type 0} (closure : Mut F (K × (V × Unit {0})) (Unit {0})) wh
       → (after : List (K × V)) × CalledWith closure first after g
       × step (noting rules) (noted before old) (noted after new)
 
-  -- if the limiter rejected a new value, the callback gets the removed pair after `on_removed` of the limiter
+  -- if the limiter rejected a new value, the callback gets the removed pair, as `on_removed` of the limiter left it
   abbrev pub PassesRemoved : {S : Type 0} → Rules K V S → Replaced K V S → F → F → Type 0
   PassesRemoved rules by f g = let notified = rules.on_removed by.limiter by.key by.old_value in
       Called closure f (notified.key, (notified.value, tt)) tt g

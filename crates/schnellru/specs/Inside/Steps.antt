@@ -28,8 +28,8 @@ pub record IsRemoved {K V S : Type 0} (rules : Rules K V S) (by : Replaced K V S
   pub growth_left : growth_left_of (bucket_states new.slots) ≡ growth_left_of (bucket_states old.slots) + growth_left_at (bucket_states new.slots) b
   pub notified : limiter ≡ (rules.on_removed by.limiter by.key by.old_value).limiter
 
--- The pair in bucket b was evicted or removed. The limiter was notified of the pair, and may have changed the pair
--- before the call returns the pair.
+-- The pair in bucket b was evicted or removed. The limiter was notified of the pair, and may have changed the pair that
+-- the call returns.
 pub record IsTakenOut {K V S : Type 0} (rules : Rules K V S) (b : ℕ) (old new : OrderedTable K V) (limiter : S)
     (result : K × V) (after : S) : Type 0 where
   pub pair : K × V

@@ -19,8 +19,8 @@ module _ (K V L S N H : RattleType) (key : HashMembers K.Denot)
     (hashed : HasherMembers S.Denot K.Denot H.Denot) (hash : hasher.Ghosts H.Denot)
     (m : MutBor (State K.Denot V.Denot L.Denot S.Denot)) {E : Type 0}
     (Step : Result Bool E → State K.Denot V.Denot L.Denot S.Denot → Type 0) where
-  -- After the get, the map is `made`, and the get lends the value of the newest pair of `made`. If the caller writes w
-  -- through the loan, the map is n after the loan.
+  -- After the get, the map is `made`, and the get lends the newest pair's value. If the caller writes w through the
+  -- loan, the map is n after the loan.
   abbrev pub Made : Result (Option (MutBor V.Denot)) E → State K.Denot V.Denot L.Denot S.Denot → V.Denot → Type 0
   Made r n w = (made : State K.Denot V.Denot L.Denot S.Denot) × Step (is_kept r) made
       × (newest_value made.pairs ≡ value_lent r)

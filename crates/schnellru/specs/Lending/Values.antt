@@ -13,15 +13,15 @@ use Rattle.lru_model.specs.Calls.{written}
 use Rattle.schnellru.specs.contracts.map.LruMap.{the_row}
 use mathlib.Core.Option.{none}
 
--- The list of pairs after w became the value of the pair in bucket b. `places` lists the buckets of the pairs, in the
--- order of the pairs.
+-- The list of pairs, with w as the value of the pair in bucket b. `places` lists the buckets of the pairs, in the order
+-- of the pairs.
 abbrev pub set_value_in : {K V : Type 0} → ℕ → V → List (K × V) → List ℕ → List (K × V)
 set_value_in b w [] places = []
 set_value_in b w (pair ∷ pairs) [] = pair ∷ pairs
 set_value_in b w (pair ∷ pairs) (c ∷ places) =
     if nat_eq c b then (pair.0, w) ∷ pairs else pair ∷ set_value_in b w pairs places
 
--- the map after w became the value of the pair in bucket b
+-- the map, with w as the value of the pair in bucket b
 abbrev pub written_in : {K V S H : Type 0} → ℕ → V → State K V S H → State K V S H
 written_in b w st = record st { pairs = set_value_in b w st.pairs st.table.places }
 
@@ -45,8 +45,8 @@ module _ (K V L S N H : RattleType) (key : HashMembers K.Denot)
     abbrev pub ends_as : State K.Denot V.Denot L.Denot S.Denot → Fml
     ends_as last = follows_so map_row map_row m.ghost_name none (λ _ _. ⊤) (λ n. n ≡ last)
 
-    -- If r is `Some`, r lends the value of a pair that satisfies `gives`. `turned` says how the call changes the map
-    -- for the key of this pair. After the loan, this key also has the value that was written last through r. If r is
+    -- If r is `Some`, r lends the value of a pair that satisfies `gives`. `turned` is what the call does to the map,
+    -- given the key of this pair. After the loan, this key also has the value that was written last through r. If r is
     -- `None`, the map does not change.
     abbrev pub lends_given : (K.Denot × V.Denot → Type 0)
         → ((K.Denot → Bool) → State K.Denot V.Denot L.Denot S.Denot → State K.Denot V.Denot L.Denot S.Denot)

@@ -11,7 +11,7 @@ use crate::map::LruMap;
 use lru_limits::{KeyHasher, Limiter, LookupKey};
 use std::hash::Hash;
 
-/// A handle on an entry of a map, which `LruMap::find_entry` has found. No call on the handle searches again.
+/// A handle on an entry that `find_entry` or `find_entry_by_hash` found. No call on the handle searches again.
 ///
 /// ```
 /// if let Some(mut entry) = map.find_entry(&1) {

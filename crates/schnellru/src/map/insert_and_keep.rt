@@ -11,7 +11,7 @@ use std::alloc::AllocError;
 use std::hash::Hash;
 
 impl<K: Eq + Hash + Drop, V: Drop, L: Limiter<K, V>, S: KeyHasher<K>> LruMap<K, V, L, S> {
-    /// Returns the result of `insert_with`, and the entries that it passes to its callback.
+    /// Does what `insert_with` does, but returns the entries with the result instead of passing them to a callback.
     ///
     /// ```
     /// let (done, left) = map.insert_and_keep(4, 40)?;

@@ -38,8 +38,8 @@ impl<K: Eq + Hash + Drop, V: Drop, L: Limiter<K, V>, S: KeyHasher<K>> LruMap<K, 
 }
 
 impl<K: Eq + Hash, V, L: Limiter<K, V>, S: KeyHasher<K>> LruMap<K, V, L, S> {
-    /// Does what `update` does, and passes entries to the callback: the evicted entries, oldest first, or the entry
-    /// that is removed because its new value is rejected.
+    /// Does what `update` does, and passes each evicted entry to the callback, oldest first. If the entry is removed
+    /// because its new value is rejected, the callback gets this entry.
     ///
     /// ```
     /// let mut left = None;

@@ -20,8 +20,8 @@ use std::hash::Hash;
 #[derive(Drop)]
 pub struct IterMut<'a, K: Eq + Hash, V, L: Limiter<K, V>, S: KeyHasher<K>> {
     map: &'a mut LruMap<K, V, L, S>,
-    // The entries at the positions from `start` to `end` - 1 are left. The newest entry of the map has position 0.
-    // `front` and `back` are the buckets of the first and the last entry that are left, so a step reads one entry.
+    // The entries at the positions from `start` to `end` - 1 remain. The newest entry of the map has position 0.
+    // `front` and `back` are the buckets of the first and the last remaining entry, so a step reads one entry.
     start: usize,
     end: usize,
     front: Option<usize>,
@@ -38,7 +38,7 @@ impl<'a, K: Eq + Hash, V, L: Limiter<K, V>, S: KeyHasher<K>> IterMut<'a, K, V, L
     ghost use Rattle.schnellru.specs.Walks.{walk_map, walk_start, walk_end, lends_first, lends_last};
     ghost use Rattle.schnellru.specs.Walks.{lends_next, lends_next_back, next_pair, next_back_pair};
 
-    /// Returns how many entries are left.
+    /// Returns how many entries remain.
     ///
     /// ```
     /// assert_eq!(rt; walk.len(), 1);
@@ -49,7 +49,7 @@ impl<'a, K: Eq + Hash, V, L: Limiter<K, V>, S: KeyHasher<K>> IterMut<'a, K, V, L
         self.end.saturating_sub(self.start)
     }
 
-    /// Lends the newest entry that is left, with its value for writing, until the next call of the iterator.
+    /// Lends the newest remaining entry, whose value may be written, until the next call of the iterator.
     ///
     /// A caller's proof cannot use the clause `writes_back`, so proved code tests `len`, and then calls `lend_next`.
     ///
@@ -71,7 +71,7 @@ impl<'a, K: Eq + Hash, V, L: Limiter<K, V>, S: KeyHasher<K>> IterMut<'a, K, V, L
         None
     }
 
-    /// Does what `next` does, but lends the oldest entry that is left.
+    /// Does what `next` does, but lends the oldest remaining entry.
     ///
     /// ```
     /// if let Some((_, value)) = walk.next_back() {
@@ -155,7 +155,7 @@ impl<K: Eq + Hash, V, L: Limiter<K, V>, S: KeyHasher<K>> LruMap<K, V, L, S> {
 
     /// Returns an iterator that lends each value for writing, newest first. The order stays.
     ///
-    /// `IterMut` is no `Iterator`, so it cannot be in a `for` loop. Write `while let Some((key, value)) = walk.next()`,
+    /// `IterMut` is no `Iterator`, so a `for` loop cannot use it. Write `while let Some((key, value)) = walk.next()`,
     /// or call `for_each_mut`.
     ///
     /// ```
