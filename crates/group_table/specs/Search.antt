@@ -50,8 +50,8 @@ module _ {T F : Type 0} (closure : Mut F (Bor T × Unit {0}) Bool) (slots : List
     pub accepted : Answers between b true last
 
   -- A search for the hash called f with the entries in the buckets `asked`, and f rejected each entry. `asked` contains
-  -- each bucket that has the tag of the hash, if the search reaches this bucket. For any hashes that fit the table,
-  -- `asked` contains the bucket of each entry with the searched hash.
+  -- each bucket that the search reaches and that has the tag of the hash. For any hashes that fit the table, `asked`
+  -- contains the bucket of each entry with the searched hash.
   pub record FindsNone (hash : ℕ) (f : F) : Type 0 where
     pub asked : List ℕ
     pub search : IsSearch slots hash asked

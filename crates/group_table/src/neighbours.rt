@@ -1,4 +1,4 @@
-//! Tests whether each run of 16 neighbouring buckets that includes bucket b contains an empty bucket.
+//! Considers all runs of 16 neighbouring buckets that include bucket b: does each contain an empty bucket?
 ghost use Rattle.std.specs.Prelude.{◌≡◌, ◌≢◌, ◌+◌, ◌-◌, ◌%◌, ◌^◌, ◌<◌, Bool, if◌then◌else◌, nat_lt, slice_index};
 ghost use Rattle.std.specs.Prelude.{MatchBool};
 ghost use Rattle.group_table.specs.Bytes.{empty_byte};
@@ -36,7 +36,8 @@ fn ones_if_less(low: u32, high: u16) -> usize
     (difference >> 32).cast_unsigned() as usize
 }
 
-// Each run contains an empty bucket if fewer than 16 used buckets lie between the nearest empty buckets around b.
+// Each run contains an empty bucket if fewer than 16 used (full or deleted) buckets lie between the nearest empty
+// buckets around b.
 #[inline]
 pub(crate) fn ones_if_empty_neighbours(control: &Control, b: usize) -> usize
     requires bucket { b < buckets_of control.now }
