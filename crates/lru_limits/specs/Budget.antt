@@ -1,4 +1,4 @@
--- The limit and the sum of costs of a limiter by cost.
+-- The state of a limiter by cost: its limit, and its sum of costs.
 --     `Budget`: the limit, and the sum of the costs of the entries.
 --     `can_add limit sum c`: whether the cost c is at most the limit, and sum + c fits 64 bits.
 --     `charged b c`: the budget b with its sum raised by the cost c, or b if `can_add` is false.
@@ -94,7 +94,7 @@ pub record IsBudgeted {K V S : Type 0} (rules : Rules K V S) (offers : Offers K 
   pub over : (s : S) (n : ℕ) → rules.is_over_the_limit s n ≡ nat_lt (budget s) (account s)
   -- no callback changes the budget
   pub fixed : IsFixed rules offers budget
-  -- an accepted entry of a new key is stored unchanged, and a rejected entry is not stored
+  -- an accepted entry with a new key is stored unchanged, and a rejected entry is not stored
   pub gives : (s : S) (n : ℕ) (k : K) (v : V) (t : S) (given : Option (K × V)) → offers.on_insert s n k v t given
       → given ≡ (if accepts s k v then Some (k, v) else None)
   -- if an entry is rejected, the offer may return `None` and leave the limiter unchanged

@@ -9,7 +9,7 @@ use std::hash::Hash;
 
 /// Accepts or rejects entries, and changes no accepted entry.
 ///
-/// Every `Admission` is an [`Insertion`], and can be in [`crate::Both`]. If an `Admission` is `Copy`, a map with it has
+/// Every `Admission` is an [`Insertion`], and can be part of [`crate::Both`]. If the `Admission` is `Copy`, its map has
 /// `try_insert`. `never_changes` of `specs/Admissions.antt` defines the terms of a limiter that never changes.
 ///
 /// ```

@@ -23,7 +23,7 @@ module _ {N : Type 0} (link : ℕ → N) (none : N) where
   link_to None = none
   link_to (Some b) = link b
 
--- The buckets that the link `from`, and then the links to older entries, lead to: n buckets, or fewer if the links end.
+-- Follows the link `from`, and then the links to older entries. Lists n buckets, or fewer if the links end.
 abbrev pub along : {K V N : Type 0} → (N → ℕ) → ℕ → List (Slot (Entry K V N)) → N → List ℕ
 along number zero slots from = []
 along number (suc n) slots from = unwrap_or (option_map (λ entry. number from ∷ along number n slots entry.older)
@@ -61,7 +61,7 @@ module _ {K V N : Type 0} (number : N → ℕ) where
   SetsOlder = SetsLink (λ entry. entry.older) (λ entry. entry.newer)
 
 module _ {N : Type 0} (number : N → ℕ) (none : N) (links : List N) where
-  -- the link to the new bucket of an entry, computed from the link to the old bucket of the entry
+  -- the link to an entry's new bucket, computed from the link l to its old bucket
   abbrev pub moved_link : N → N
   moved_link l = slice_index_or links (number l) none
 

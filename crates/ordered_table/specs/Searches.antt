@@ -1,4 +1,4 @@
--- For which buckets of a table with links a search by a hash calls its closure.
+-- Which pairs of an `OrderedTable` a search by a hash passes to its closure.
 use Rattle.std.specs.Prelude.{◌≡◌, ℕ, Bool, true, false, List, [], ◌∷◌, ◌++◌, Some, Contains}
 use Rattle.std.specs.List.{FoldsTo}
 use Rattle.std.specs.Borrow.{Bor}

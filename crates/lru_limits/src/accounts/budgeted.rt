@@ -32,7 +32,7 @@ pub trait Budgeted<K, V>: Summing<K, V> {
     fn set_budget(&mut self, budget: u64)
         ensures { self.new ≡ rebudgeted budget self.old };
 
-    /// Returns whether `on_insert` would accept this entry of a new key.
+    /// Returns whether `on_insert` would accept this entry with a new key.
     fn has_room_for(&self, key: &K, value: &V) -> bool
         ensures { result ≡ accepts_new self.now key.now value.now };
 
