@@ -21,8 +21,8 @@ module _ {K V F : Type 0} (closure : Mut F (Bor K × (Bor V × Unit {0})) Bool) 
   Refuses f pairs g = FoldsTo (λ p pair q. Asks p pair false q) f pairs g
 
 module _ {K V : Type 0} (eq : K → K → Bool) (hash_of : K → ℕ) (all : List (K × V)) (hash : ℕ) where
-  -- The candidates are pairs of the map, and no two candidates have equal keys. The hash of each key has the tag (the
-  -- top 7 bits) of `hash`.
+  -- The candidates are pairs of the map, and no two candidates have equal keys. The hash of each candidate's key has
+  -- the tag (the top 7 bits) of `hash`.
   pub record AreCandidates (pairs : List (K × V)) : Type 0 where
     pub distinct : IsDistinct eq (keys_of pairs)
     pub there : (pair : K × V) → Contains pairs pair → Contains all pair

@@ -94,7 +94,7 @@ exchanged rules offers names i v c pair =
     else (Ok false, with_removed rules offers names pair i v c)
 
 -- What an insert into a list of pairs returns, and the list and the limiter after the insert. `Tells s pair report`
--- means that the table may report `report` after `on_insert` returned `pair`. After `on_insert`, the limiter is s.
+-- means that the table may report `report` after `on_insert` returned `pair` and left the limiter s.
 module _ {K V S I : Type 0} (rules : Rules K V S) (offers : Offers K V S I) (names : I → K → Bool)
     (Tells : S → K × V → Report → Type 0) (i : I) (v : V) (old : Contents K V S) (result : Result Bool AllocError)
     (new : Contents K V S) where

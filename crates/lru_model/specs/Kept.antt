@@ -78,7 +78,7 @@ pub record LeavesTheNewest {K V : Type 0} (eq : K → K → Bool) (most : ℕ) (
   pub newest : OnOk result (new ≡ take most ((stored_key (eq key) key old, value) ∷ without (eq key) old))
   pub others : OnErr result (new ≡ take (most - 1) old)
 
--- half as many entries as the largest table with links of 32 bits may hold
+-- half of the capacity of the largest table with links of 32 bits
 abbrev pub most_exact_length : ℕ
 most_exact_length = 939524096
 

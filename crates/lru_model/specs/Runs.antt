@@ -122,8 +122,7 @@ module _ {K V S H : Type 0} {IsStep : State K V S H → State K V S H → Type 0
   EachStep (goes_on {old} mid step sized run) = Holds old mid step × EachStep run
 
 module _ {K V S H : Type 0} (rules : Rules K V S) (hash_of : H → K → ℕ) where
-  -- Calls other than an insert, a get that inserts, or an update, and writes of values, and changes of the limiter, one
-  -- after another. Such a run is also a `Run` for any type I of inserted keys (`run_without_insert` in
-  -- `proofs/EveryCall`).
+  -- A run of calls that neither insert nor update a key, writes of values, and changes of the limiter. Such a run is
+  -- also a `Run` for any type I of inserted keys (`run_without_insert` in `proofs/EveryCall`).
   abbrev pub RunWithoutInsert : (new old : State K V S H) → Type 0
   RunWithoutInsert = Run (AnyStep rules no_offers no_keys hash_of)

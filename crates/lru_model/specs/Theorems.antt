@@ -1,5 +1,5 @@
 -- Definitions for the laws in `src/laws`: what an insert evicts and stores, what the result of an insert says, the cost
--- of moves, and the bytes of a map with one limit for its table and what its entries own.
+-- of moves, and the bytes of a map whose limit covers its table and what its entries own.
 use Rattle.std.specs.Prelude.{◌≡◌, ℕ, ◌+◌, ◌-◌, ◌*◌, ◌/◌, ◌^◌, ◌≤◌, ◌<◌, Bool, true, false, List, ◌∷◌, length}
 use Rattle.std.specs.Prelude.{sum_by, not}
 use Rattle.std.specs.List.{filter}
@@ -22,7 +22,7 @@ CountsInsertions old new = new.insertions < 2 ^ 64 - 1 → new.moved < 2 ^ 64 - 
 
 module _ {K V S H : Type 0} where
   -- The count `moved`, plus the potential, rises by at most 2 for each stored entry. This bound holds until the count
-  -- `placed` stops at its maximum. No entry is counted as rehashed by a shrink.
+  -- `placed` stops at its maximum. The count `shrunk` does not change.
   pub record PaysByStoring (old new : State K V S H) : Type 0 where
     pub placed : old.counts.placed ≤ new.counts.placed
     pub shrunk : new.counts.shrunk ≡ old.counts.shrunk

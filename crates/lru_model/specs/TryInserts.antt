@@ -1,4 +1,4 @@
--- What `try_insert` does: it inserts a new pair only if nothing has to be evicted for it.
+-- What `try_insert` does: it inserts a new pair only if no pair has to be evicted.
 use Rattle.std.specs.Prelude.{◌≡◌, ℕ, ◌+◌, ◌<◌, ◌∷◌, Bool, true, false, not, if◌then◌else◌, length, Some, None}
 use Rattle.std.specs.Prelude.{Result, Ok, Err, OnOk, OnErr, IfErr}
 use Rattle.lru_limits.specs.Rules.{Rules}

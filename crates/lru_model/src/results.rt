@@ -24,7 +24,7 @@ use thiserror::Error;
 pub struct Inserted<V> {
     /// Whether the key is in the map after the insert.
     pub kept: bool,
-    /// If the key was there, the value that the map does not keep.
+    /// The value that the map does not keep, if the key was there.
     pub unkept: Option<V>,
 }
 

@@ -28,7 +28,7 @@ pub fn more_places_never_miss_more<K: Eq>()
     ensures { (n m : ℕ) (past trace : List K) → n ≤ m → misses K.eq m past trace ≤ misses K.eq n past trace }
 {}
 
-/// LRU is competitive, whatever both caches contain at first. Take an LRU cache of k ≥ h places, and any policy with h
+/// LRU is competitive, whatever the caches contain at first. Take an LRU cache of k ≥ h places, and any policy with h
 /// places, which may know the whole trace. The policy begins with the keys `first`, and pays `paid` times.
 ///
 /// - If the policy stores each referenced key, and may load keys ahead, LRU misses at most
@@ -73,10 +73,10 @@ pub fn a_smaller_cache_is_included<K: Eq>()
 {}
 
 /// One list of places holds the keys of the LRU caches of every size, even if keys are removed: the cache of n places
-/// contains exactly the keys in the first n places (`keys`). A removed key leaves a free place. A reference takes the
-/// newest place that is free or contains the key. If this place is free, the old place of the key becomes free. So a
-/// reference finds its key if fewer than n places come before it (`finds`). Without other calls, references miss as often
-/// as in a trace (`misses`).
+/// contains exactly the keys in the first n places (`keys`). A removed key leaves a free place. A reference puts its
+/// key in front, and uses up the first place that is free or contains the key. If this place was free, the old place of
+/// the key becomes free. So the cache of n places contains a key if fewer than n places come before the key (`finds`).
+/// If all calls are references, they miss as often as a trace of the same keys (`misses`).
 pub fn deletes_leave_places<K: Eq>()
     ensures keys { (n : ℕ) (calls : List (KeyCall K)) (places : List (Option K)) → AllByRecursion IsNoPromotion calls →
         keys_in (take n (place_calls K.eq calls places)) ≡ after_calls K.eq n calls (keys_in (take n places)) }
@@ -98,7 +98,8 @@ pub fn a_larger_budget_never_misses_more<K: Eq>()
 
 /// Suppose that equal keys cost the same. If a cache with the limit n contains the first keys of the recency list, up
 /// to a cost of n, it still does after any trace, even if a key alone costs more than n (`keys`). The cache misses
-/// exactly at the references that need more than n, and at the first reference to each key (`misses`).
+/// exactly at the references to keys that need more than n (`needs`), and at the first reference to each key
+/// (`misses`).
 pub fn a_budget_keeps_the_newest<K: Eq>()
     ensures keys { (cost : K → ℕ) (n : ℕ) (past trace : List K) → EqualCosts K.eq cost →
         cached_within K.eq cost n (affordable cost n (recency K.eq past)) trace
@@ -109,9 +110,9 @@ pub fn a_budget_keeps_the_newest<K: Eq>()
 {}
 
 /// A policy that stores each referenced key pays at least as often as MIN misses, whether it loads keys ahead (`loads`)
-/// or only on demand (`demands`). A policy that need not store referenced keys pays at least as often as MIN with
-/// bypass misses (`bypasses`). All these policies have n places, and begin with no keys. If MIN has a place, it stores
-/// each referenced key (`min`). MIN with bypass is a policy that need not store referenced keys (`bypass`).
+/// or only on demand (`demands`). The misses of MIN with bypass are at most the payments of any policy that need not
+/// store referenced keys (`bypasses`). All these policies have n places, and begin with no keys. If MIN has a place, it
+/// stores each referenced key (`min`). MIN with bypass is a policy that need not store referenced keys (`bypass`).
 pub fn min_is_best<K: Eq>()
     ensures loads { (n : ℕ) (trace left : List K) (paid : ℕ) → Served (Loads K.eq n) left [] trace paid →
         min_misses K.eq n trace ≤ paid }
