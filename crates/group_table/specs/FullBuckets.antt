@@ -1,4 +1,4 @@
--- Which buckets a walk over the full buckets of a table has not yet visited. No public clause cites this module.
+-- Which buckets a walk over the full buckets of a table has not yet visited. No public contract uses this module.
 use Rattle.std.specs.Prelude.{ℕ, ◌+◌, ◌<◌, ◌≤◌, ◌↔◌, List, slice_index}
 use Rattle.group_table.specs.Bytes.{IsTag, IsFreeByte}
 use Rattle.group_table.specs.Control.{buckets_of, IsCircle}

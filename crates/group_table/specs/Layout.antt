@@ -1,4 +1,4 @@
--- How the fields of a `Table` represent its buckets. No public clause cites this module.
+-- How the fields of a `Table` represent its buckets. No public contract uses this module.
 use Rattle.std.specs.Prelude.{◌≡◌, ℕ, ◌+◌, ◌-◌, ◌^◌, ◌<◌, ◌≤◌, ◌⊎◌, max, List, [], ◌∷◌, length, Option, Some, None}
 use Rattle.std.specs.Prelude.{if◌then◌else◌, nat_lt, nat_eq, slice_index, slice_index_or, slice_set, count_by}
 use Rattle.group_table.specs.Sizes.{IsPowerFromFour, full_capacity}

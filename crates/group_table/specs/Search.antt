@@ -28,14 +28,14 @@ module _ {T : Type 0} (slots : List (Slot T)) (hash : ℕ) where
     pub distinct : AllPairs ◌≢◌ asked
 
 module _ {T F : Type 0} (closure : Mut F (Bor T × Unit {0}) Bool) (slots : List (Slot T)) where
-  -- a call of f with the entry in bucket b may return `answer` and turn f into g
+  -- a call of f with the entry in bucket b may return `answer` and change f into g
   pub record Answers (f : F) (b : ℕ) (answer : Bool) (g : F) : Type 0 where
     pub entry : T
     pub there : entry_at slots b ≡ Some entry
     pub called : CalledAt closure f entry answer g
 
-  -- f was called with the entries in the buckets `asked`, in this order, and rejected each entry; after these calls, f
-  -- is g
+  -- f was called with the entries in the buckets `asked`, in this order, and rejected each entry; these calls change f
+  -- into g
   abbrev pub RejectsEach : F → List ℕ → F → Type 0
   RejectsEach f asked g = FoldsTo (λ p b q. Answers p b false q) f asked g
 

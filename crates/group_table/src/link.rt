@@ -1,4 +1,4 @@
-//! `LinkType`: the integer types of links.
+//! `LinkType`: the integer types that links may have.
 ghost use Rattle.std.specs.Prelude.{◌≡◌, ◌<◌, ℕ};
 ghost use Rattle.group_table.specs.Link.{IsLinkType};
 

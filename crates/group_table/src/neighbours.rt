@@ -47,8 +47,8 @@ pub(crate) fn ones_if_empty_neighbours(control: &Control, b: usize) -> usize
         × MatchBool empty (HasEmptyNeighbours (IsEmptyAt control.now) (buckets_of control.now) b)
         (IsHemmedIn (IsEmptyAt control.now) (buckets_of control.now) b) }
 {
-    // `used` has a bit for each used bucket from b up to the next empty bucket. `used` is less than the mask of the
-    // empty buckets before b if and only if fewer than 16 used buckets are in a row around b. Comparing the masks takes
+    // `used` has a bit for each used bucket from b up to the next empty bucket. This number is less than the mask of
+    // the empty buckets before b exactly if fewer than 16 used buckets are in a row around b. Comparing the masks takes
     // fewer instructions than two counts and their sum.
     let used = lanes_below(empty_from(control, b));
     ones_if_less(used, empty_before(control, b))

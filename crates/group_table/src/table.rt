@@ -110,7 +110,8 @@ impl<T> Table<T> {
         if buckets == 0 {
             return Ok(Table::new(alloc));
         }
-        // Allocates the entries first, so that a table too large for the memory fails before a byte is written.
+        // Allocates the entries first: if the table is too large for the memory, the call fails before it writes a
+        // byte.
         let entries = Entries::with_places(alloc, buckets)?;
         let control = match Control::with_buckets(alloc, buckets) {
             Ok(control) => control,
@@ -131,9 +132,9 @@ impl<T> Table<T> {
 
     /// Returns the bucket of the first entry that `f` accepts.
     ///
-    /// `f` is called with entries whose hashes agree with `hash` in the top 7 bits, in the order of the search. Only
-    /// tests show that `f` is called at most once with each entry. If the result is `None`, `f` rejected each entry
-    /// with this hash.
+    /// `f` is called with entries whose hashes agree with `hash` in the top 7 bits, in the order of the search. Tests,
+    /// not proofs, show that `f` is called at most once with each entry. If the result is `None`, `f` rejected each
+    /// entry with this hash.
     #[inline]
     pub fn find<F: FnMut(&T) -> bool>(&self, hash: u64, f: F) -> Option<usize>
         requires { F.IsAlwaysCallable f }

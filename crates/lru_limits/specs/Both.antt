@@ -2,7 +2,7 @@
 --     `both_rules a b`: a map is over the limit if it is over one of the two limits; a table is permitted if both
 --         limiters permit the table.
 --     `both_terms a b`: an entry is accepted if both limiters accept the entry.
---     `both-sums`: a running total of the first limiter is a running total of `Both`, too.
+--     `both-sums`: the running total of the first limiter is also a running total of `Both`.
 use Rattle.std.specs.Prelude.{◌≡◌, ◌≤◌, ◌+◌, ◌-◌, ◌&&◌, ◌||◌, ℕ, Bool, true, false, Some, None, IsTrue}
 use Rattle.std.specs.Prelude.{if◌then◌else◌, refl}
 use Rattle.std.proofs.Common.{ap, sym, ◌∙◌, arith}

@@ -46,7 +46,7 @@ pub trait Admission<K, V>: Limiter<K, V> {
 impl<K: Eq + Hash + Drop, V: Drop, L: Admission<K, V>> Insertion<K, V, K> for L {
     ghost offers = { offers_of L.terms };
 
-    // Forced inline, so that the caller uses the entry unchanged, and branches instead of selecting between `Some` and
+    // Forced inline: the caller then uses the entry unchanged, and branches instead of selecting between `Some` and
     // `None`.
     #[inline(always)]
     fn on_insert(

@@ -48,7 +48,7 @@ pub trait Limiter<K, V> {
         ensures key { key.new ≡ (rules.on_removed self.old key.old value.old).key }
         ensures value { value.new ≡ (rules.on_removed self.old key.old value.old).value };
 
-    /// Called once by each clear of the map, even if the map is empty. The drop of a `Drain` is a clear.
+    /// Called once by each clear of the map, even if the map is empty. Dropping a `Drain` counts as a clear.
     fn on_cleared(&mut self)
         ensures { self.new ≡ rules.on_cleared self.old };
 

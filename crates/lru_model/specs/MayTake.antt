@@ -18,13 +18,12 @@ MayTake {K} {V} {F} closure passes n f = (before : List (K × V)) (g : F) (pair 
     → All passes before → CalledWith closure f before g → passes pair → MayBeCalled closure g (pair.0, (pair.1, tt))
 
 module _ {K V S : Type 0} (rules : Rules K V S) where
-  -- `left` may be one of these pairs after `on_removed` of the limiter
+  -- `left` may be one of these pairs as `on_removed` leaves it
   abbrev pub IsLeftOf : List (K × V) → K × V → Type 0
   IsLeftOf pairs left = (s : S) × (pair : K × V) × Contains pairs pair × (left_of rules s (Some pair) ≡ Some left)
 
   module _ {F : Type 0} (closure : Mut F (K × (V × Unit {0})) (Unit {0})) where
-    -- If the list has n pairs, f may be called n times, each time with any pair of the list after `on_removed` of the
-    -- limiter.
+    -- If the list has n pairs, f may be called n times, each time with any pair of the list as `on_removed` leaves it.
     abbrev pub MayTakeEach : List (K × V) → F → Type 0
     MayTakeEach pairs f = MayTake closure (IsLeftOf pairs) (length pairs) f
 

@@ -27,8 +27,8 @@ module _ {K V S H I : Type 0} (rules : Rules K V S) (offers : Offers K V S I) (n
     (hash_of : H → K → ℕ) where
   -- How one call changes a map. A step of `AnyStep` may also be a change of the limiter, or a write through a
   -- reference. A call that only reads is no step. `gets` is a look-up by a hash, or by a key of any type. If the
-  -- look-up finds a pair, it promotes this pair. A get that inserts is `gets` or `inserts`. All inserted and updated
-  -- keys have one type, I.
+  -- look-up finds a pair, it promotes this pair. A get that inserts is the step `gets` or the step `inserts`. All
+  -- inserted and updated keys have one type, I.
   pub data Step (old new : State K V S H) : Type 0 where
     inserts : (key : I) (value : V) (result : Result Bool AllocError)
         → Insert rules offers names hash_of key value old result new → Step old new

@@ -86,8 +86,8 @@ pub record GivesBack (was n : ℕ) (old new : List BucketState) : Type 0 where
 abbrev pub FirstFreeIs : BucketState → ℕ → List BucketState → Type 0
 FirstFreeIs state hash states = (b : ℕ) × IsFirstFree states hash b × (bucket_at states b ≡ state)
 
--- The pair at `place` was removed, and its bucket is now free. If some run of 16 neighbouring buckets around it has no
--- empty bucket, it is deleted, and otherwise empty. The other buckets keep their states.
+-- The pair at `place` was removed, and its bucket is now free. The bucket is deleted if some run of 16 neighbouring
+-- buckets around it has no empty bucket, and otherwise empty. The other buckets keep their states.
 pub record Frees (place : Option ℕ) (old new : TableState) : Type 0 where
   pub bucket : ℕ
   pub there : place ≡ Some bucket

@@ -89,15 +89,15 @@ module _ {K V S H : Type 0} (rules : Rules K V S) where
     pub refused : CannotGrow rules st mid
 
   -- What the result of an insert says. If the result is true, the pair of the key is the newest, and the limiter is not
-  -- over its limit. If the result is false, or if it is an error, the map does not contain the key.
+  -- over its limit. If the result is false or an error, the map does not contain the key.
   abbrev pub SaysWhether : (K → Bool) → Result Bool AllocError → State K V S H → Type 0
   SaysWhether names (Ok true) new =
       IsNewest names new.pairs × (rules.is_over_the_limit new.limiter (length new.pairs) ≡ false)
   SaysWhether names result new = lookup_entry names new.pairs ≡ None
 
 module _ {K V S H I : Type 0} (rules : Rules K V S) (offers : Offers K V S I) (names : I → K → Bool) where
-  -- The pair that an insert stores. If the key was there, this pair is the stored key with the new value, both after
-  -- `on_replace` of the limiter. If the key is new, this pair is the pair that the limiter returned.
+  -- The pair that an insert stores. If the key was there, this pair is the stored key with the new value, as
+  -- `on_replace` leaves them. If the key is new, this pair is the pair that the limiter returned.
   pub data Stores (i : I) (v : V) (old : State K V S H) (pair : K × V) : Type 0 where
     left : (was : K × V) → lookup_entry (names i) old.pairs ≡ Some was
         → (replacement rules offers names was i v (contents old)).taken ≡ true →

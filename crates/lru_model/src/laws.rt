@@ -68,7 +68,7 @@ pub fn inserts_evict_the_oldest<
 {}
 
 /// If an insert finds n entries, leaves m, and passes p to its callback, m + p is at most n + 1 (`few`). An insert with
-/// a callback is also an `Insert` (`step`).
+/// a callback also satisfies `Insert` (`step`).
 pub fn inserts_pass_few<K: Eq + Hash, V, I: LookupKey<K>, L: Insertion<K, V, I>, S: KeyHasher<K>>()
     ensures few { (key : I) (value : V) (old : State K V L S) (result : Result Bool AllocError)
         (passed : List (K × V)) (new : State K V L S) →
@@ -156,9 +156,10 @@ pub fn inserts_grow_little<
 {}
 
 /// Suppose that the map has entries, but no growth left. If the first free bucket in the search for the new key is
-/// deleted, the new entry fills this bucket, without a query of the limiter or a move (`served`). If the limiter also
-/// accepts the new entry, and is not over its limit with this entry, an insert evicts nothing (`added`). Conversely, if
-/// an insertion keeps the number of buckets, and evicts and moves nothing, the first free bucket was deleted (`only`).
+/// deleted, the new entry fills this bucket: the limiter is not queried, and no entry moves (`served`). If the limiter
+/// also accepts the new entry, and is not over its limit with this entry, an insert evicts nothing (`added`).
+/// Conversely, if an insertion keeps the number of buckets, and evicts and moves nothing, the first free bucket was
+/// deleted (`only`).
 pub fn deleted_buckets_serve<
     K: Eq + Hash,
     V,

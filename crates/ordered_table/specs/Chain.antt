@@ -1,5 +1,5 @@
 -- How links keep buckets in an order: each entry contains a link to the next newer entry, and a link to the next older
--- entry. No public clause cites this module.
+-- entry. No public contract uses this module.
 use Rattle.std.specs.Prelude.{◌≡◌, ◌≢◌, ◌⊎◌, ℕ, zero, suc, ◌<◌, slice_index_or, List, [], ◌∷◌, length, map}
 use Rattle.std.specs.Prelude.{Option, Some, None, option_map, unwrap_or, Contains, AllPairs}
 use Rattle.group_table.specs.Bucket.{empty, deleted, full, Slot, IsFull, bucket_at, entry_at, entry_count}
@@ -65,7 +65,7 @@ module _ {N : Type 0} (number : N → ℕ) (none : N) (links : List N) where
   abbrev pub moved_link : N → N
   moved_link l = slice_index_or links (number l) none
 
-  -- the link is `none`, or leads to an old bucket for which `links` contains the new link
+  -- the link is `none`, or `links` contains the new link for its bucket
   abbrev pub HasPlace : N → Type 0
   HasPlace l = (l ≡ none) ⊎ (number l < length links)
 

@@ -1,4 +1,4 @@
--- How the fields of a walk over the pairs determine which pairs are left to visit. No public clause cites this module.
+-- How the fields of a walk over the pairs determine which pairs are left to visit. No public contract uses this module.
 use Rattle.std.specs.Prelude.{◌≡◌, ℕ, ◌<◌, List, [], ◌∷◌, ◌++◌, length, take, nat_eq, if◌then◌else◌, Some}
 use Rattle.ordered_table.specs.OrderedTable.{OrderedTable, IsLinked, entries_in}
 use Rattle.lru_model.specs.Lists.{first as first_bucket, last as last_bucket}
