@@ -200,8 +200,8 @@ impl<T> Table<T> {
     /// Puts an entry with this hash into the first free bucket in the order of a search, and returns the bucket. There
     /// must be growth left.
     ///
-    /// If the bucket was empty, the growth left falls by one. If the bucket was deleted, the growth left stays. `place`
-    /// allocates nothing, and moves no other entry.
+    /// If the bucket was empty, the growth left falls by one. If the bucket was deleted, the growth left is unchanged.
+    /// `place` allocates nothing, and moves no other entry.
     ///
     /// ```
     /// if table.growth_left() > 0 {

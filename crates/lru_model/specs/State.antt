@@ -71,9 +71,9 @@ pub record IsPaid (potential : ℕ) (counts : Counts) : Type 0 where
   pub moved : counts.moved ≤ 2 * counts.placed + counts.shrunk
   pub ahead : IsAhead potential counts
 
--- How the bucket states change when a map of `was` pairs keeps n pairs, and the others are removed. `growth_left` never
--- falls. For each removed pair, `growth_left` rises by at most one. In a table of up to 16 buckets, `growth_left` rises
--- by exactly one for each removed pair.
+-- How the bucket states change when a map that had `was` pairs keeps n of them. `growth_left` never falls. For each
+-- removed pair, `growth_left` rises by at most one. In a table of up to 16 buckets, `growth_left` rises by exactly one
+-- for each removed pair.
 pub record GivesBack (was n : ℕ) (old new : List BucketState) : Type 0 where
   pub table : length new ≡ length old
   pub keeps : growth_left_of old ≤ growth_left_of new

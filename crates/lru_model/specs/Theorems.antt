@@ -1,5 +1,5 @@
--- Definitions for the laws in `src/laws`: what an insert evicts and stores, what the result of an insert says, the cost
--- of moves, and the bytes of a map whose limit covers its table and what its entries own.
+-- Definitions for the laws in `src/laws`: what an insert evicts and stores, what its result says, the cost of moves,
+-- and the bytes of a map with one limit for its table and its entries.
 use Rattle.std.specs.Prelude.{◌≡◌, ℕ, ◌+◌, ◌-◌, ◌*◌, ◌/◌, ◌^◌, ◌≤◌, ◌<◌, Bool, true, false, List, ◌∷◌, length}
 use Rattle.std.specs.Prelude.{sum_by, not}
 use Rattle.std.specs.List.{filter}

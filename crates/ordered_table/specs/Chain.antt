@@ -111,19 +111,19 @@ module _ {K V N : Type 0} (number : N → ℕ) (link : ℕ → N) (none : N) whe
     pub same : length slots ≡ length before
     pub others : (c : ℕ) → c ≢ b → bucket_at slots c ≡ bucket_at before c
 
-  -- `IsChain` for the fields of the chain
+  -- `IsChain`, applied to the fields of a chain
   abbrev pub KeepsOrder : Chain K V N → List ℕ → Type 0
   KeepsOrder chain = IsChain chain.table.slots chain.newest chain.oldest
 
-  -- `IsGap` for the fields of the chain
+  -- `IsGap`, applied to the fields of a chain
   abbrev pub HasGap : Chain K V N → List ℕ → ℕ → N → N → Type 0
   HasGap chain = IsGap chain.table.slots chain.newest chain.oldest
 
-  -- the links keep an order of some buckets, and b is one of these buckets
+  -- the links keep an order of some buckets, and b is among them
   abbrev pub InChain : Chain K V N → ℕ → Type 0
   InChain chain b = (order : List ℕ) × KeepsOrder chain order × Contains order b
 
-  -- the links keep an order of some buckets, and b is none of these buckets
+  -- the links keep an order of some buckets, and b is not among them
   abbrev pub OutOfChain : Chain K V N → ℕ → Type 0
   OutOfChain chain b = (order : List ℕ) × KeepsOrder chain order × (Contains order b → ⊥)
 
