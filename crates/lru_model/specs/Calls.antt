@@ -9,21 +9,21 @@ use Rattle.lru_model.specs.Lists.{front_places, back, back_places}
 use Rattle.lru_model.specs.State.{State, buckets, Contents, contents, Leaves, after_removal}
 
 module _ {K V S H : Type 0} where
-  -- the map after the pair of the named key became the newest, if the key is there
+  -- the map after the pair of the named key, if any, became the newest
   abbrev pub promoted : (K → Bool) → State K V S H → State K V S H
   promoted names st = record st {
     pairs = front names st.pairs;
     table = record st.table { places = front_places names st.pairs st.table.places };
   }
 
-  -- the map after the pair of the named key became the oldest, if the key is there
+  -- the map after the pair of the named key, if any, became the oldest
   abbrev pub demoted : (K → Bool) → State K V S H → State K V S H
   demoted names st = record st {
     pairs = back names st.pairs;
     table = record st.table { places = back_places names st.pairs st.table.places };
   }
 
-  -- the map after the named key got this value, if the key is there
+  -- the map after the pair of the named key, if any, got this value
   abbrev pub written : (K → Bool) → V → State K V S H → State K V S H
   written names value st = record st { pairs = set_value names st.pairs value }
 

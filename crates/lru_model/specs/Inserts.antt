@@ -69,7 +69,7 @@ module _ {K V S I : Type 0} (rules : Rules K V S) (offers : Offers K V S I) (nam
   with_removed pair i v c = let r = replacement pair i v c in
       record { pairs = without (names i) c.pairs; limiter = (rules.on_removed r.limiter r.key r.old_value).limiter }
 
-  -- the value that the map does not keep after an insert, or `None` if the key was not there
+  -- the value that the map does not keep after an insert, or `None` if the key was new
   abbrev pub unkept_value : I → V → Contents K V S → Option V
   unkept_value i v c = option_map (λ pair. unkept_of (replacement pair i v c)) (lookup_entry (names i) c.pairs)
 
@@ -80,13 +80,13 @@ module _ {K V S I : Type 0} (rules : Rules K V S) (offers : Offers K V S I) (nam
   module _ {H : Type 0} (hash_of : H → K → ℕ) where
     pub data Insert (i : I) (v : V) (old : State K V S H) (result : Result Bool AllocError)
         (new : State K V S H) : Type 0 where
-      -- The key is there, and the limiter accepts the new value. The pair becomes the newest, with the new value. The
-      -- insert ends with a trim: the oldest pairs are evicted while the limiter is over its limit.
+      -- The map contains the key, and the limiter accepts the new value. The pair becomes the newest, with the new
+      -- value. The insert ends with a trim: the oldest pairs are evicted while the limiter is over its limit.
       replaced : (pair : K × V) → lookup_entry (names i) old.pairs ≡ Some pair →
           (replacement pair i v (contents old)).taken ≡ true →
           result ≡ Ok (not (is_empty new.pairs)) → Leaves old (trim rules (with_replaced pair i v (contents old))) new →
           Insert i v old result new
-      -- The key is there, and the limiter rejects the new value: the pair is removed.
+      -- The map contains the key, and the limiter rejects the new value: the pair is removed.
       not_replaced : (pair : K × V) → lookup_entry (names i) old.pairs ≡ Some pair →
           (replacement pair i v (contents old)).taken ≡ false →
           result ≡ Ok false → Leaves old (with_removed pair i v (contents old)) new →

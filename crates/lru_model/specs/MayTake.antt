@@ -32,8 +32,8 @@ module _ {K V S : Type 0} (rules : Rules K V S) where
     MayTakeRejected by f = by.taken ≡ false → MayTakeEach ((by.key, by.old_value) ∷ []) f
 
     module _ {I : Type 0} (offers : Offers K V S I) (names : I → K → Bool) where
-      -- if the key is there, the callback f may be called with each pair that an insert or an update may evict or
-      -- remove
+      -- if the map contains the key, the callback f may be called with each pair that an insert or an update may evict
+      -- or remove
       pub record MayTakeReplaced (i : I) (v : V) (c : Contents K V S) (f : F) : Type 0 where
         pub accepted : (pair : K × V) → lookup_entry (names i) c.pairs ≡ Some pair
             → (replacement rules offers names pair i v c).taken ≡ true

@@ -72,7 +72,7 @@ pub data EvictsOldest {K V : Type 0} (names : K → Bool) (refuses : K × V → 
   -- map has no pairs.
   behind : (newest : K × V) → names newest.0 ≡ true → IsFront new (newest ∷ without names old) →
       EvictsOldest names refuses old new
-  -- The inserted key was not there, and its pair is not stored. The oldest pairs may have been evicted.
+  -- The inserted key was new, and its pair is not stored. The oldest pairs may have been evicted.
   with_none : lookup_entry names old ≡ None → IsFront new old → EvictsOldest names refuses old new
   -- Only the pair of the inserted key is removed, because the limiter rejects the new value.
   without_one : (pair : K × V) → lookup_entry names old ≡ Some pair → refuses pair → new ≡ without names old →
@@ -96,7 +96,7 @@ module _ {K V S H : Type 0} (rules : Rules K V S) where
   SaysWhether names result new = lookup_entry names new.pairs ≡ None
 
 module _ {K V S H I : Type 0} (rules : Rules K V S) (offers : Offers K V S I) (names : I → K → Bool) where
-  -- The pair that an insert stores. If the key was there, this pair is the stored key with the new value, as
+  -- The pair that an insert stores. If the map contained the key, this pair is the stored key with the new value, as
   -- `on_replace` leaves them. If the key is new, this pair is the pair that the limiter returned.
   pub data Stores (i : I) (v : V) (old : State K V S H) (pair : K × V) : Type 0 where
     left : (was : K × V) → lookup_entry (names i) old.pairs ≡ Some was

@@ -35,7 +35,7 @@ module _ {K V S : Type 0} (terms : Terms K V S) (rules : Rules K V S) where
 
     module _ (eq : K → K → Bool) (hash_of : H → K → ℕ) where
       pub data TryInsert (result : Result (Unit {0}) (K × V)) (new : State K V S H) : Type 0 where
-        -- If the key is there already, or if `can_store` is false, nothing changes.
+        -- If the map already contains the key, or if `can_store` is false, nothing changes.
         there : (pair : K × V) → lookup_entry (eq key) old.pairs ≡ Some pair →
             result ≡ Err (key, value) → new ≡ old →
             TryInsert result new

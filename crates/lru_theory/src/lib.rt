@@ -58,10 +58,9 @@ pub fn loading_ahead_gains_nothing<K: Eq>()
         (demanded : ℕ) × (other : List K) × Served (Demands K.eq h) other first trace demanded × (demanded ≤ paid) }
 {}
 
-/// A cache of n places is *included* in a cache of m places if the second cache contains the keys of the first, in the
-/// same order, and at most m - n more keys. If the smaller cache is included, it is still included after any calls
-/// (`included`). So the larger cache finds each key that the smaller cache finds (`finds`), and misses no more often in
-/// a trace (`misses`). `KeyCall` lists the calls.
+/// A cache of n places is *included* in a larger cache of m places if the larger cache contains its keys, in the same
+/// order, and at most m - n more keys. Any calls (`KeyCall`) keep the smaller cache included (`included`). So the
+/// larger cache finds each key that the smaller cache finds (`finds`), and misses no more often in a trace (`misses`).
 pub fn a_smaller_cache_is_included<K: Eq>()
     ensures included { (n m : ℕ) (calls : List (KeyCall K)) (small large : List K) → n ≤ m →
         IsIncluded K.eq n m small large →
@@ -74,9 +73,9 @@ pub fn a_smaller_cache_is_included<K: Eq>()
 
 /// One list of places holds the keys of LRU caches of every size, even if keys are removed. If no call is a `promotes`,
 /// the cache of n places contains exactly the keys in the first n places (`keys`). A removed key leaves a free place. A
-/// reference puts its key in front, and uses up the first place that is free or contains the key. If this place was
-/// free, the old place of the key becomes free. So the cache of n places contains a key if fewer than n places come
-/// before the key (`finds`). If all calls are references, they miss as often as a trace of the same keys (`misses`).
+/// reference puts its key in front, in exchange for the first place that is free or contains the key. If this place was
+/// free, the old place of the key becomes free. So the cache of n places finds each key behind fewer than n places
+/// (`finds`). If all calls are references, they miss as often as in a trace (`misses`).
 pub fn deletes_leave_places<K: Eq>()
     ensures keys { (n : ℕ) (calls : List (KeyCall K)) (places : List (Option K)) → AllByRecursion IsNoPromotion calls →
         keys_in (take n (place_calls K.eq calls places)) ≡ after_calls K.eq n calls (keys_in (take n places)) }
@@ -126,10 +125,9 @@ pub fn min_is_best<K: Eq>()
         (left : List K) × Served (Bypasses K.eq n) left [] trace (bypass_misses K.eq n trace) }
 {}
 
-/// LRU is near MIN. MIN has h ≥ 1 places, and begins with no keys. LRU has k ≥ h places, and begins with any keys. LRU
-/// misses at most `k / (k + 1 - h)` times as often as MIN (`min`). If k > h, LRU misses at most `k / (k - h)` times as
-/// often as MIN with bypass (`bypass`). If LRU begins with no keys, and has h places, it misses at least as often as
-/// MIN (`least`).
+/// MIN has h ≥ 1 places, and begins with no keys. LRU has k ≥ h places, and begins with any keys. LRU misses at most
+/// `k / (k + 1 - h)` times as often as MIN (`min`). If k > h, LRU misses at most `k / (k - h)` times as often as MIN
+/// with bypass (`bypass`). If LRU begins with no keys, and has h places, it misses at least as often as MIN (`least`).
 pub fn lru_is_near_min<K: Eq>()
     ensures min { (k h : ℕ) (past trace : List K) → 0 < h → h ≤ k →
         (k + 1 - h) * misses K.eq k past trace ≤ k * min_misses K.eq h trace }
