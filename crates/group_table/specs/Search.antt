@@ -1,4 +1,4 @@
--- For which entries a search calls its closure, and what the closure returns.
+-- Which entries a search passes to its closure, and what the closure returns.
 use Rattle.std.specs.Prelude.{◌≡◌, ◌≢◌, ℕ, ◌/◌, ◌<◌, ◌≤◌, Bool, true, false, List, [], ◌∷◌, ◌++◌, length, map, filter}
 use Rattle.std.specs.Prelude.{Some, Contains, AllPairs, IsTrue}
 use Rattle.std.specs.List.{range_with_len, FoldsTo}

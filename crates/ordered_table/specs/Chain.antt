@@ -99,8 +99,8 @@ module _ {K V N : Type 0} (number : N → ℕ) (link : ℕ → N) (none : N) whe
     pub all : (b : ℕ) → IsFull slots b → Contains order b
     pub count : entry_count slots ≡ length order
 
-  -- Bucket b, with these two links, is about to be taken out of the chain `order`. The slot of b may be free already.
-  -- No other slot has changed.
+  -- Bucket b is about to be taken out of the chain `order`. Its two links are `newer` and `older`. The slot of b may be
+  -- free already. No other slot has changed.
   pub record IsGap (slots : List (Slot (Entry K V N))) (newest oldest : N) (order : List ℕ) (b : ℕ) (newer older : N)
       : Type 0 where
     pub before : List (Slot (Entry K V N))

@@ -77,7 +77,7 @@ impl<K, V, N: LinkType> OrderedTable<K, V, N> {
                 *last = b;
             }
             // Writes this promotion into the links at once, which touches the second-oldest entry. If calls keep
-            // promoting the oldest entry, the next call reads this entry.
+            // promoting the oldest entry, the next call reads the entry touched here.
             None if self.linked.oldest() == b => self.linked.promote(b),
             None => self.promoted = Some(b),
         }
