@@ -58,7 +58,7 @@ pub fn loading_ahead_gains_nothing<K: Eq>()
         (demanded : ℕ) × (other : List K) × Served (Demands K.eq h) other first trace demanded × (demanded ≤ paid) }
 {}
 
-/// A cache of n places is *included* in a larger cache of m places if the larger cache contains its keys, in the same
+/// A cache of n places is *included* in a cache of m ≥ n places if the larger cache contains its keys, in the same
 /// order, and at most m - n more keys. Any calls (`KeyCall`) keep the smaller cache included (`included`). So the
 /// larger cache finds each key that the smaller cache finds (`finds`), and misses no more often in a trace (`misses`).
 pub fn a_smaller_cache_is_included<K: Eq>()
@@ -74,8 +74,8 @@ pub fn a_smaller_cache_is_included<K: Eq>()
 /// One list of places holds the keys of LRU caches of every size, even if keys are removed. If no call is a `promotes`,
 /// the cache of n places contains exactly the keys in the first n places (`keys`). A removed key leaves a free place. A
 /// reference puts its key in front, in exchange for the first place that is free or contains the key. If this place was
-/// free, the old place of the key becomes free. So the cache of n places finds each key behind fewer than n places
-/// (`finds`). If all calls are references, they miss as often as in a trace (`misses`).
+/// free, the old place of the key becomes free. So the cache of n places contains a key if fewer than n places come
+/// before it (`finds`). If all calls are references, they miss as often as in a trace (`misses`).
 pub fn deletes_leave_places<K: Eq>()
     ensures keys { (n : ℕ) (calls : List (KeyCall K)) (places : List (Option K)) → AllByRecursion IsNoPromotion calls →
         keys_in (take n (place_calls K.eq calls places)) ≡ after_calls K.eq n calls (keys_in (take n places)) }
