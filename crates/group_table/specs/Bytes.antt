@@ -1,4 +1,4 @@
--- The values of control bytes. The only public clauses that cite this module are in the module `group`.
+-- The values of control bytes. Only the public contracts of the module `group` use this module.
 use Rattle.std.specs.Prelude.{ℕ, ◌<◌, ◌≤◌}
 
 abbrev pub empty_byte : ℕ

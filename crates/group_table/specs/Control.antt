@@ -1,4 +1,4 @@
--- What holds for the control bytes of a table. No public clause cites this module.
+-- What holds for the control bytes of a table. No public contract uses this module.
 use Rattle.std.specs.Prelude.{◌≡◌, ℕ, ◌+◌, ◌-◌, ◌^◌, ◌<◌, ◌⊎◌, List, [], length, slice_index}
 use Rattle.group_table.specs.Sizes.{IsPowerFromFour}
 use Rattle.group_table.specs.Bytes.{empty_byte, IsFreeByte}

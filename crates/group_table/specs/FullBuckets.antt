@@ -1,12 +1,12 @@
--- Which buckets a walk over the full buckets of a table has not yet visited. No public clause cites this module.
+-- Which buckets a walk over the full buckets of a table has not yet visited. No public contract uses this module.
 use Rattle.std.specs.Prelude.{ℕ, ◌+◌, ◌<◌, ◌≤◌, ◌↔◌, List, slice_index}
 use Rattle.group_table.specs.Bytes.{IsTag, IsFreeByte}
 use Rattle.group_table.specs.Control.{buckets_of, IsCircle}
 use Rattle.group_table.specs.Lanes.{HasLane}
 use Rattle.group_table.specs.declared.full_buckets.FullBuckets.{FullBuckets}
 
--- The lanes of the walk are the full buckets of the walk's group, except buckets before `from`. No bucket from `from`
--- to the beginning of the group is full.
+-- The lanes of the walk are the full buckets of the walk's group, except buckets before `from`. No bucket between
+-- `from` and the group is full.
 pub record IsAhead (control : List ℕ) (walk : FullBuckets) (from : ℕ) : Type 0 where
   pub circle : IsCircle control
   pub within : from ≤ buckets_of control

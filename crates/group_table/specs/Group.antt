@@ -1,4 +1,4 @@
--- What a search reads in a group of 16 neighbouring buckets. A lane is a position in a group. No public clause cites
+-- What a search reads in a group of 16 neighbouring buckets. A lane is a position in a group. No public contract uses
 -- this module.
 use Rattle.std.specs.Prelude.{◌≡◌, ◌≢◌, ℕ, ◌+◌, ◌-◌, ◌%◌, ◌<◌, ◌≤◌, min, Bool, true, List, [], ◌∷◌, ◌++◌, length}
 use Rattle.std.specs.Prelude.{nat_lt, slice_index}

@@ -1,4 +1,4 @@
--- Masks of the sixteen lanes of a group. The only public clauses that cite this module are in the module `group`.
+-- Masks of the sixteen lanes of a group. Only the public contracts of the module `group` use this module.
 use Rattle.std.specs.Prelude.{ℕ, ◌≡◌, ◌+◌, ◌-◌, ◌<◌, ◌≤◌, ◌↔◌, max, List, slice_index}
 use Rattle.group_table.specs.Bytes.{empty_byte}
 use Rattle.std.specs.Int.{w16, bit_at, trailing_zeros}

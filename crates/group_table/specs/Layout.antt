@@ -1,4 +1,4 @@
--- How the fields of a `Table` represent its buckets. No public clause cites this module.
+-- How the fields of a `Table` represent its buckets. No public contract uses this module.
 use Rattle.std.specs.Prelude.{◌≡◌, ℕ, ◌+◌, ◌-◌, ◌^◌, ◌<◌, ◌≤◌, ◌⊎◌, max, List, [], ◌∷◌, length, Option, Some, None}
 use Rattle.std.specs.Prelude.{if◌then◌else◌, nat_lt, nat_eq, slice_index, slice_index_or, slice_set, count_by}
 use Rattle.group_table.specs.Sizes.{IsPowerFromFour, full_capacity}
@@ -38,7 +38,7 @@ module _ {T : Type 0} where
   Agrees byte (Some entry) = IsTag byte
   Agrees byte None = (byte ≡ deleted_byte) ⊎ (byte ≡ empty_byte)
 
-  -- the control bytes after `byte` was written twice: for bucket b, and where the control byte of b is repeated
+  -- the control bytes after `byte` was written twice: as the byte of bucket b, and as the repetition of this byte
   abbrev pub written : List ℕ → List (Option T) → ℕ → ℕ → List ℕ
   written control entries b byte = slice_set (slice_set control b byte) (b + max 16 (length entries)) byte
 

@@ -1,4 +1,4 @@
--- Entries move one by one into a fresh table. No public clause cites this module.
+-- Entries move one by one into a fresh table. No public contract uses this module.
 use Rattle.std.specs.Prelude.{◌≡◌, ℕ, ◌<◌, List, length, slice_set, slice_index_or, Option, None}
 use Rattle.group_table.specs.Bucket.{Slot, empty, bucket_at, bucket_states}
 use Rattle.group_table.specs.Probe.{filled, Reaches}

@@ -1,5 +1,4 @@
--- Runs of 16 neighbouring buckets on the circle of all buckets. A search reads a run of 16 neighbouring buckets as one
--- group.
+-- Runs of 16 neighbouring buckets on the circle of all buckets. A search reads such a run as one group.
 use Rattle.std.specs.Prelude.{◌≡◌, ℕ, ◌+◌, ◌%◌, ◌<◌}
 
 module _ (Empty : ℕ → Type 0) (buckets b : ℕ) where

@@ -35,6 +35,6 @@ module _ (states : List BucketState) (hash : ℕ) where
     pub there : probed (length states) hash step ≡ b
     pub goes_on : (before : ℕ) → before / 16 < step / 16 → state_probed before ≢ empty
 
-  -- in the order in which a search for the hash visits the buckets, b is the first bucket that is not full
+  -- b is the first bucket that is not full, in the order in which a search for the hash visits buckets
   abbrev pub IsFirstFree : ℕ → Type 0
   IsFirstFree = IsFirst (λ b. is_full (bucket_at states b)) (probed (length states) hash)

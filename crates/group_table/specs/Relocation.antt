@@ -6,7 +6,7 @@ use Rattle.group_table.specs.Bucket.{Slot, entry_at, entry_count, IsFull}
 use Rattle.group_table.specs.Fits.{Fits}
 
 module _ {N : Type 0} (number : N → ℕ) (none : N) where
-  -- the number of the new bucket to which the entry of the old bucket b moved
+  -- the new bucket of the entry that was in the old bucket b
   abbrev pub moved_to : List N → ℕ → ℕ
   moved_to links b = number (slice_index_or links b none)
 
@@ -28,7 +28,7 @@ module _ {T N : Type 0} (number : N → ℕ) (none : N) (old : ℕ → Option T)
       → Fits new moved_hash_of
 
 module _ {T N : Type 0} (number : N → ℕ) (none : N) where
-  -- `links` contains one link for each old bucket; the link says to which new bucket the entry of the old bucket moved
+  -- `links` contains one link for each old bucket: the link to the new bucket of its entry, or `none`
   pub record IsRenumbering (old new : List (Slot T)) (links : List N) : Type 0 where
     pub one_each : length links ≡ length old
     pub moves : Moves number none (entry_at old) new links

@@ -1,4 +1,4 @@
--- For which entries a search calls its closure, and what the closure returns.
+-- Which entries a search passes to its closure, and what the closure returns.
 use Rattle.std.specs.Prelude.{◌≡◌, ◌≢◌, ℕ, ◌/◌, ◌<◌, ◌≤◌, Bool, true, false, List, [], ◌∷◌, ◌++◌, length, map, filter}
 use Rattle.std.specs.Prelude.{Some, Contains, AllPairs, IsTrue}
 use Rattle.std.specs.List.{range_with_len, FoldsTo}
@@ -28,14 +28,14 @@ module _ {T : Type 0} (slots : List (Slot T)) (hash : ℕ) where
     pub distinct : AllPairs ◌≢◌ asked
 
 module _ {T F : Type 0} (closure : Mut F (Bor T × Unit {0}) Bool) (slots : List (Slot T)) where
-  -- a call of f with the entry in bucket b may return `answer` and turn f into g
+  -- a call of f with the entry in bucket b may return `answer` and change f into g
   pub record Answers (f : F) (b : ℕ) (answer : Bool) (g : F) : Type 0 where
     pub entry : T
     pub there : entry_at slots b ≡ Some entry
     pub called : CalledAt closure f entry answer g
 
-  -- f was called with the entries in the buckets `asked`, in this order, and rejected each entry; after these calls, f
-  -- is g
+  -- f was called with the entries in the buckets `asked`, in this order, and rejected each entry; these calls change f
+  -- into g
   abbrev pub RejectsEach : F → List ℕ → F → Type 0
   RejectsEach f asked g = FoldsTo (λ p b q. Answers p b false q) f asked g
 
@@ -50,8 +50,8 @@ module _ {T F : Type 0} (closure : Mut F (Bor T × Unit {0}) Bool) (slots : List
     pub accepted : Answers between b true last
 
   -- A search for the hash called f with the entries in the buckets `asked`, and f rejected each entry. `asked` contains
-  -- each bucket that has the tag of the hash, if the search reaches this bucket. For any hashes that fit the table,
-  -- `asked` contains the bucket of each entry with the searched hash.
+  -- each bucket that the search reaches and that has the tag of the hash. For any hashes that fit the table, `asked`
+  -- contains the bucket of each entry with the searched hash.
   pub record FindsNone (hash : ℕ) (f : F) : Type 0 where
     pub asked : List ℕ
     pub search : IsSearch slots hash asked

@@ -37,7 +37,7 @@ unsafe impl<T> Send for Block<T> {}
 
 unsafe impl<T> Sync for Block<T> {}
 
-// The owner of the places and of the entries in them. It has no bytes.
+// The owner of the places and of the entries in them. It is zero-sized.
 pub(crate) struct Cells<T> {
     mark: PhantomData<*const T>,
     ghost start: { Ptr },
@@ -55,7 +55,7 @@ unsafe impl<T: Send> Send for Cells<T> {}
 
 unsafe impl<T: Sync> Sync for Cells<T> {}
 
-// The right to give a block of `count` places back to its allocator. It has no bytes.
+// The right to give a block of `count` places back to its allocator. It is zero-sized.
 pub(crate) struct Deed<T, A: Allocator> {
     mark: PhantomData<*const (T, A)>,
     ghost start: { Ptr },
@@ -159,7 +159,7 @@ impl<T> Cells<T> {
         ensures places { (self.new.start ≡ self.old.start)
             × (self.new.places ≡ slice_set self.old.places b None) }
     {
-        // SAFETY: place b holds an entry, and `self` no longer counts it.
+        // SAFETY: place b holds an entry, which `self` no longer owns afterwards.
         unsafe { block.start.add(b).read() }
     }
 

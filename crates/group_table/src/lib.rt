@@ -1,7 +1,7 @@
-//! The bucket table of the LRU map, and the integer types of links to its buckets.
+//! The bucket table of the LRU map, and the integer types that links to its buckets may have.
 #![tactic(auto)]
 
-// Marks code on hot paths that is never reached.
+// Marks unreachable code on hot paths.
 macro_rules! nowhere {
     () => {{
         let none: [Option<()>; 0] = [];

@@ -1,4 +1,4 @@
-//! `LinkType`: the integer types of links.
+//! `LinkType`: the integer types that links may have.
 ghost use Rattle.std.specs.Prelude.{◌≡◌, ◌<◌, ℕ};
 ghost use Rattle.group_table.specs.Link.{IsLinkType};
 
@@ -16,7 +16,7 @@ pub trait LinkType: Copy {
     /// The number of a link.
     ghost number: { Self → ℕ };
 
-    /// The link with this number, if the number is less than the number that `MAX` has.
+    /// The link with this number, if the number is less than the number of `MAX`.
     ghost link: { ℕ → Self };
 
     /// Returns the link with this number. No bits are lost.

@@ -41,7 +41,8 @@ fitting [] slots = 0
 fitting (pair ∷ pairs) [] = 0
 fitting (pair ∷ pairs) (slot ∷ slots) = suc (fitting pairs slots)
 
--- The pair that was noted before. If no pair was noted, the result is `pair`, or `None` if the key of `pair` is `key`.
+-- The pair that was noted before. If no pair was noted, the result is `pair` if its key is not `key`, and otherwise
+-- `None`.
 abbrev pub noting_other : ℕ → Option (ℕ × ℕ) → ℕ × ℕ → Option (ℕ × ℕ)
 noting_other key None pair = if nat_eq key pair.0 then None else Some pair
 noting_other key (Some noted) pair = Some noted
@@ -68,8 +69,8 @@ pub record Inserts (key value : ℕ) (old : Map) (answer : Inserted) (place left
   pub one_evicted : old.limiter ≤ most_exact_length → length (others (nat_eq key) passed) ≤ 1
   pub returned : answer ≡ inserted_of (put_code result) (lookup (nat_eq key) old.pairs) answer.evicted
 
--- If the key is there, the pair of the key becomes the newest, and the value of this pair is returned as the old value.
--- If the key is not there, the value is inserted.
+-- If the map contains the key, the pair of the key becomes the newest, and its value is returned as the old value.
+-- Otherwise, the value is inserted.
 abbrev pub GetsOrInserts : ℕ → ℕ → Map → Inserted → Entry → Entry → Map → Type 0
 GetsOrInserts key value old answer place left new = MatchOption (lookup (nat_eq key) old.pairs)
     (Inserts key value old answer place left new)

@@ -1,4 +1,4 @@
-//! What C keeps for a map.
+//! The handle that C keeps for a map.
 ghost use Rattle.std.specs.Prelude.{◌≡◌, None, Some, IfSome, option_map};
 ghost use Rattle.lru_c.specs.Handle.{map_row, maybe_row, owns_boxed, FitsHandle};
 
@@ -94,7 +94,8 @@ impl Slot {
     }
 }
 
-/// A handle: a map on the heap, or none. The map is within its maximum length (`FitsHandle`). A contract sees the map.
+/// A handle: a map on the heap, or none. The map is within its maximum length (`FitsHandle`). Contracts represent the
+/// handle by its map.
 ///
 /// Nothing drops a handle, because its map cannot be freed without an allocator.
 #[repr(C)]

@@ -1,5 +1,5 @@
--- What a limiter accepts if it stores each accepted entry unchanged.
---     `Terms K V S`: which entries the limiter accepts, and what the limiter is after an offer.
+-- The terms of a limiter that stores each accepted entry unchanged.
+--     `Terms K V S`: which entries the limiter accepts, and the limiter after an offer.
 --     `offers_of terms`: the offers of a limiter that stores an entry unchanged if the terms accept the entry.
 --     `never_changes admits`: the terms of a limiter that never changes, and accepts each new value of a stored key.
 --     `offers_of-lawful`: the laws of `Insertion`.

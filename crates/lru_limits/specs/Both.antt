@@ -2,7 +2,7 @@
 --     `both_rules a b`: a map is over the limit if it is over one of the two limits; a table is permitted if both
 --         limiters permit the table.
 --     `both_terms a b`: an entry is accepted if both limiters accept the entry.
---     `both-sums`: a running total of the first limiter is a running total of `Both`, too.
+--     `both-sums`: the running total of the first limiter is also a running total of `Both`.
 use Rattle.std.specs.Prelude.{◌≡◌, ◌≤◌, ◌+◌, ◌-◌, ◌&&◌, ◌||◌, ℕ, Bool, true, false, Some, None, IsTrue}
 use Rattle.std.specs.Prelude.{if◌then◌else◌, refl}
 use Rattle.std.proofs.Common.{ap, sym, ◌∙◌, arith}
@@ -49,8 +49,8 @@ module _ {K V A B : Type 0} where
         then record { 0 = a.admit_in_place s.0 n k v w; 1 = b.admit_in_place s.1 n k v w } else s;
   }
 
--- `adds_if` and `exchanges_if` are the lemmas `given-adds` and `replaced-exchanges` of `Stores`, but their premise need
--- hold only if the limiter accepts the entry.
+-- `adds_if` and `exchanges_if` are the lemmas `given-adds` and `replaced-exchanges` of `Stores`, but need their premise
+-- only if the limiter accepts the entry.
 module _ {K V S : Type 0} (cost : K → V → ℕ) (account : S → ℕ) where
   adds_if : (accepts : Bool) (s s' : S) (i : K) (v : V) (t : S) (k : K) (w : V)
       → (IsTrue accepts → account s' ≡ account s + cost i v)

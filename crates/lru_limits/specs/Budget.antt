@@ -1,4 +1,4 @@
--- The limit and the sum of costs of a limiter by cost.
+-- The state of a limiter by cost: its limit, and its sum of costs.
 --     `Budget`: the limit, and the sum of the costs of the entries.
 --     `can_add limit sum c`: whether the cost c is at most the limit, and sum + c fits 64 bits.
 --     `charged b c`: the budget b with its sum raised by the cost c, or b if `can_add` is false.

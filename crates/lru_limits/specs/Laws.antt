@@ -33,8 +33,8 @@ pub record IsAccount {K V S I : Type 0} (rules : Rules K V S) (offers : Offers K
   pub adds : (s : S) (n : ℕ) (i : I) (v : V) (t : S) (k : K) (w : V) → offers.on_insert s n i v t (Some (k, w))
       → account t ≡ account s + cost k w
   pub refuses : (s : S) (n : ℕ) (i : I) (v : V) (t : S) → offers.on_insert s n i v t None → account t ≡ account s
-  -- a replacement lowers the running total by the cost of the old entry, and raises the running total by the cost of
-  -- the stored key with `kept_value`
+  -- a replacement lowers the running total by the cost of the old entry, and raises it by the cost of the stored key
+  -- with `kept_value`
   pub exchanges : (s : S) (n : ℕ) (k : K) (i : I) (v w : V) → cost k v ≤ account s →
       let r = offers.on_replace s n k i v w in account r.limiter ≡ account s - cost k v + cost r.key (kept_value r)
   -- the removal of an entry lowers the running total by the cost of the entry

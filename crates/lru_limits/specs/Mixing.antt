@@ -1,7 +1,7 @@
 -- What the hasher computes, as functions.
 --     `Mixer`: the state of the hasher and two keys: a key for words of eight bytes, and a key for a rest of fewer
 --         bytes.
---     `folded a b`: the xor of the two halves of the 128 bits of a * b.
+--     `folded a b`: the xor of the two 64-bit halves of a * b.
 --     `joined key state word`: the state of the hasher after the hasher got this word.
 --     `rest_word bytes`: a rest of fewer than eight bytes as a word, whose top byte is the number of bytes.
 --     `written h bytes`: the hasher h after the bytes were written. The hasher gets a word for each eight bytes, and a

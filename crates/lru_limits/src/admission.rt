@@ -9,7 +9,7 @@ use std::hash::Hash;
 
 /// Accepts or rejects entries, and changes no accepted entry.
 ///
-/// Every `Admission` is an [`Insertion`], and can be in [`crate::Both`]. If an `Admission` is `Copy`, a map with it has
+/// Every `Admission` is an [`Insertion`], and can be part of [`crate::Both`]. If the `Admission` is `Copy`, its map has
 /// `try_insert`. `never_changes` of `specs/Admissions.antt` defines the terms of a limiter that never changes.
 ///
 /// ```
@@ -46,7 +46,7 @@ pub trait Admission<K, V>: Limiter<K, V> {
 impl<K: Eq + Hash + Drop, V: Drop, L: Admission<K, V>> Insertion<K, V, K> for L {
     ghost offers = { offers_of L.terms };
 
-    // Forced inline, so that the caller uses the entry unchanged, and branches instead of selecting between `Some` and
+    // Forced inline: the caller then uses the entry unchanged, and branches instead of selecting between `Some` and
     // `None`.
     #[inline(always)]
     fn on_insert(

@@ -16,21 +16,21 @@ module _ {K V F : Type 0} (closure : Mut F (Bor K × (Bor V × Unit {0})) Bool) 
     pub shows : (key.now ≡ pair.0) × (value.now ≡ pair.1)
     pub called : Called closure f (key, (value, tt)) answer g
 
-  -- f was called with these pairs, one after another, and returned false for each; after these calls, f is g
+  -- f was called with these pairs, one after another, and returned false for each; these calls change f into g
   abbrev pub Refuses : F → List (K × V) → F → Type 0
   Refuses f pairs g = FoldsTo (λ p pair q. Asks p pair false q) f pairs g
 
 module _ {K V : Type 0} (eq : K → K → Bool) (hash_of : K → ℕ) (all : List (K × V)) (hash : ℕ) where
-  -- The candidates are pairs of the map, and no two candidates have equal keys. The hash of each key has the tag (the
-  -- top 7 bits) of `hash`.
+  -- The candidates are pairs of the map, and no two candidates have equal keys. The hash of each candidate's key has
+  -- the tag (the top 7 bits) of `hash`.
   pub record AreCandidates (pairs : List (K × V)) : Type 0 where
     pub distinct : IsDistinct eq (keys_of pairs)
     pub there : (pair : K × V) → Contains pairs pair → Contains all pair
     pub tags : (pair : K × V) → Contains pairs pair → hash_tag (hash_of pair.0) ≡ hash_tag hash
 
   module _ {F : Type 0} (closure : Mut F (Bor K × (Bor V × Unit {0})) Bool) where
-    -- f was called with some candidates, and with none of them twice. f returned false for each candidate in `before`,
-    -- and true for the last candidate, `pair`.
+    -- f was called with some candidates, each at most once. f returned false for each candidate in `before`, and true
+    -- for the last candidate, `pair`.
     pub record GivesByHash (f : F) (pair : K × V) : Type 0 where
       pub before : List (K × V)
       pub candidates : AreCandidates (before ++ pair ∷ [])
@@ -39,8 +39,8 @@ module _ {K V : Type 0} (eq : K → K → Bool) (hash_of : K → ℕ) (all : Lis
       pub last : F
       pub accepted : Asks closure between pair true last
 
-    -- f was called with some candidates, and with none of them twice. f returned false for each of these candidates. If
-    -- a key of the map has the searched hash, the pair of this key is one of these candidates.
+    -- f was called with some candidates, each at most once. f returned false for each of these candidates. If a key of
+    -- the map has the searched hash, the pair of this key is one of these candidates.
     pub record GivesNoneByHash (f : F) : Type 0 where
       pub asked : List (K × V)
       pub candidates : AreCandidates asked

@@ -1,6 +1,6 @@
 -- Which pairs a call passes to its callback: each evicted or removed pair, and each pair that the limiter returned but
 -- the map could not store. `on_removed` of the limiter may change a pair before the callback gets the pair. The
--- callback gets the pairs in the order of the calls of `on_removed`.
+-- callback gets the pairs in the order in which `on_removed` gets them.
 --     `rules`, `offers`: the limiter's `Rules` and `Offers` (`lru_limits`).
 --     `names i k`: the inserted key i names k.
 --     `closure`: how the callback may be called.
@@ -14,8 +14,8 @@ use Rattle.lru_model.specs.State.{State, Trims}
 use Rattle.lru_model.specs.Inserts.{Insert}
 
 module _ {K V S : Type 0} where
-  -- The rules of a limiter that also has a list in its state. `on_removed` of this limiter does what `on_removed` of
-  -- the given limiter does, and then appends the removed pair to the list. The list affects nothing else.
+  -- The given rules, for a limiter that also has a list in its state. `on_removed` appends each removed pair to the
+  -- list. The list affects nothing else.
   abbrev pub noting : Rules K V S → Rules K V (S × List (K × V))
   noting rules = record {
     is_over_the_limit = λ s n. rules.is_over_the_limit s.0 n;
@@ -31,7 +31,7 @@ module _ {K V S : Type 0} where
     };
   }
 
-  -- the offers of a limiter that also has a list in its state; an offer does not change the list
+  -- the given offers, for a limiter that also has a list in its state; an offer does not change the list
   abbrev pub noting_offers : {I : Type 0} → Offers K V S I → Offers K V (S × List (K × V)) I
   noting_offers offers = record {
     on_insert = λ s n i v t given. offers.on_insert s.0 n i v t.0 given × (t.1 ≡ s.1);
@@ -57,7 +57,7 @@ module _ {K V S : Type 0} where
     max = st.max;
   }
 
--- f was called with these pairs, one after another; after these calls, f is g
+-- f was called with these pairs, one after another; these calls change f into g
 abbrev pub CalledWith : {K V F : Type 0} → Mut F (K × (V × Unit {0})) (Unit {0}) → F → List (K × V) → F → Type 0
 CalledWith closure f pairs g = FoldsTo (λ p pair q. Called closure p (pair.0, (pair.1, tt)) tt q) f pairs g
 

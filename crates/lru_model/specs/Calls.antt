@@ -9,26 +9,26 @@ use Rattle.lru_model.specs.Lists.{front_places, back, back_places}
 use Rattle.lru_model.specs.State.{State, buckets, Contents, contents, Leaves, after_removal}
 
 module _ {K V S H : Type 0} where
-  -- the map after the pair of the named key became the newest, if the key is there
+  -- the map after the pair of the named key, if any, became the newest
   abbrev pub promoted : (K → Bool) → State K V S H → State K V S H
   promoted names st = record st {
     pairs = front names st.pairs;
     table = record st.table { places = front_places names st.pairs st.table.places };
   }
 
-  -- the map after the pair of the named key became the oldest, if the key is there
+  -- the map after the pair of the named key, if any, became the oldest
   abbrev pub demoted : (K → Bool) → State K V S H → State K V S H
   demoted names st = record st {
     pairs = back names st.pairs;
     table = record st.table { places = back_places names st.pairs st.table.places };
   }
 
-  -- the map after the named key got this value, if the key is there
+  -- the map after the pair of the named key, if any, got this value
   abbrev pub written : (K → Bool) → V → State K V S H → State K V S H
   written names value st = record st { pairs = set_value names st.pairs value }
 
 module _ {K V S : Type 0} (rules : Rules K V S) where
-  -- the removed pair after `on_removed` of the limiter, or `None` if no pair is removed
+  -- the removed pair as `on_removed` leaves it, or `None` if no pair is removed
   abbrev pub left_of : S → Option (K × V) → Option (K × V)
   left_of s pair = option_map (λ p. ((rules.on_removed s p.0 p.1).key, (rules.on_removed s p.0 p.1).value)) pair
 
@@ -41,8 +41,8 @@ module _ {K V S : Type 0} (rules : Rules K V S) where
   pop_first c = after_removal rules (first c.pairs) (without_first c.pairs) c.limiter
 
 module _ {K V S H : Type 0} (rules : Rules K V S) where
-  -- If `gone` is a pair, this pair is removed, and the result is this pair after `on_removed` of the limiter. If `gone`
-  -- is `None`, the result is `None`. The pairs `left` stay.
+  -- If `gone` is a pair, this pair is removed, and the result is this pair as `on_removed` leaves it. If `gone` is
+  -- `None`, the result is `None`. The pairs `left` stay.
   pub record TakesOut (gone : Option (K × V)) (left : List (K × V)) (old : State K V S H) (result : Option (K × V))
       (new : State K V S H) : Type 0 where
     pub pair : result ≡ left_of rules old.limiter gone
@@ -58,7 +58,7 @@ module _ {K V S H : Type 0} (rules : Rules K V S) where
   abbrev pub PopNewest : State K V S H → Option (K × V) → State K V S H → Type 0
   PopNewest old = TakesOut (first old.pairs) (without_first old.pairs) old
 
-  -- The pair of the named key is removed. The call returns the value of the pair after `on_removed` of the limiter.
+  -- The pair of the named key is removed. The call returns the value of the pair as `on_removed` leaves it.
   pub record Remove (names : K → Bool) (old : State K V S H) (result : Option V) (new : State K V S H) : Type 0 where
     pub value : result ≡ option_map (λ p. p.1) (left_of rules old.limiter (lookup_entry names old.pairs))
     pub state : Leaves old (removal rules names (contents old)) new

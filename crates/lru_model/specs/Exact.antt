@@ -1,4 +1,4 @@
--- How an insert changes a list of pairs and a limiter. If memory lasts, the list, the limiter, the result of
+-- How an insert changes a list of pairs and a limiter. If no allocation fails, the list, the limiter, the result of
 -- `on_insert` and the report of the table determine how the insert ends.
 use Rattle.std.specs.Prelude.{◌≡◌, ◌≢◌, ℕ, ◌+◌, ◌-◌, ◌/◌, ◌<◌, ◌≤◌, nat_lt, nat_le, Bool, true, false, not}
 use Rattle.std.specs.Prelude.{if◌then◌else◌, ◌∷◌, length, Option, Some, None, MatchOption, Result, Ok, IsErr}
@@ -94,7 +94,7 @@ exchanged rules offers names i v c pair =
     else (Ok false, with_removed rules offers names pair i v c)
 
 -- What an insert into a list of pairs returns, and the list and the limiter after the insert. `Tells s pair report`
--- means that the table may report `report` after `on_insert` returned `pair`. After `on_insert`, the limiter is s.
+-- means that the table may report `report` after `on_insert` returned `pair` and left the limiter s.
 module _ {K V S I : Type 0} (rules : Rules K V S) (offers : Offers K V S I) (names : I → K → Bool)
     (Tells : S → K × V → Report → Type 0) (i : I) (v : V) (old : Contents K V S) (result : Result Bool AllocError)
     (new : Contents K V S) where
@@ -129,7 +129,7 @@ module _ {K V S I : Type 0} (rules : Rules K V S) (offers : Offers K V S I) (nam
   InsertsInList = InsertsGiven (λ s pair. at_once)
 
   module _ {H : Type 0} (old : State K V S H) where
-    -- an insert into the map `old`, if the table of `old` makes the report
+    -- an insert into the map `old`, with a report that the table of `old` may make
     abbrev pub InsertsAsReported : (H → K → ℕ) → I → V → Result Bool AllocError → Contents K V S → Type 0
     InsertsAsReported hash_of i v = InsertsBy rules offers names (λ s pair report. (ready : State K V S H)
         × Leaves (record old { limiter = s }) (make_room rules (record { pairs = old.pairs; limiter = s })) ready
@@ -140,7 +140,7 @@ module _ {K V S I : Type 0} (rules : Rules K V S) (offers : Offers K V S I) (nam
     InsertsInSmallTable i v = InsertsGiven (λ s pair. small_report rules old
         (make_room rules (record { pairs = old.pairs; limiter = s }))) i v (contents old)
 
--- the limiter and the arguments determine what `on_insert` returns, and what the limiter is after `on_insert`
+-- the limiter and the arguments determine the result of `on_insert`, and the limiter after it
 abbrev pub IsDetermined : {K V S I : Type 0} → Offers K V S I → Type 0
 IsDetermined {K} {V} {S} {I} offers = (s : S) (n : ℕ) (i : I) (v : V) (t u : S) (given other : Option (K × V)) →
     offers.on_insert s n i v t given → offers.on_insert s n i v u other → (t ≡ u) × (given ≡ other)

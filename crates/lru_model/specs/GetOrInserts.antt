@@ -1,5 +1,5 @@
--- What `ensure_newest` and `get_or_insert` do: they look up a key, and insert the key if the key is not there. In their
--- fallible forms, the closure may fail.
+-- What `ensure_newest` and `get_or_insert` do: they look up a key, and insert the key if the map does not contain it.
+-- In their fallible forms, the closure may fail.
 --     `makes v`: the closure may return v.
 use Rattle.std.specs.Prelude.{◌≡◌, ℕ, Bool, true, false, length, Some, None, Result, Ok, Err, OnErr, IsErrOf}
 use Rattle.std.specs.declared.alloc.AllocError.{AllocError}
@@ -14,8 +14,8 @@ use Rattle.lru_model.specs.declared.results.GetOrInsertError.TheVariants.{Memory
 
 module _ {K V S H I : Type 0} (rules : Rules K V S) (offers : Offers K V S I) (names : I → K → Bool)
     (hash_of : H → K → ℕ) where
-  -- If the key is there, the pair of the key becomes the newest. If the key is not there, the key is inserted with a
-  -- value that the closure returns. The result says whether the key is there after the call.
+  -- If the map contains the key, the pair of the key becomes the newest. Otherwise, the key is inserted with a value
+  -- that the closure returns. The result says whether the map contains the key afterwards.
   pub data MakesNewest (makes : V → Type 0) (i : I) (old : State K V S H) (result : Result Bool AllocError)
       (new : State K V S H) : Type 0 where
     got : (w : V) → lookup (names i) old.pairs ≡ Some w →
@@ -30,8 +30,8 @@ module _ {K V S H I : Type 0} (rules : Rules K V S) (offers : Offers K V S I) (n
   IsOutOfMemoryFor makes i old new = (v : V) × makes v × IsOutOfMemory rules offers names hash_of i v old new
 
 module _ {K V S H E : Type 0} (rules : Rules K V S) where
-  -- If the result is true, the pair of the key is the newest, and if the key was inserted, the limiter is not over its
-  -- limit. If the result is false, or if it is an error, the key is not there.
+  -- If the result is true, the pair of the key is the newest. If the key was also inserted, the limiter is not over its
+  -- limit. If the result is false or an error, the map does not contain the key.
   abbrev pub SaysNewest : (K → Bool) → State K V S H → Result Bool E → State K V S H → Type 0
   SaysNewest names old (Ok true) new = IsNewest names new.pairs
       × (lookup names old.pairs ≡ None → rules.is_over_the_limit new.limiter (length new.pairs) ≡ false)

@@ -39,7 +39,7 @@ module _ {K V S H : Type 0} (rules : Rules K V S) where
   PlacesAndTrims hash_of pair old result new = (outcome : Outcome) × (landed : State K V S H)
       × Place rules hash_of pair old outcome landed × Settles outcome landed result new
 
-  -- `PlacesAndTrims` after `make_room`
+  -- `make_room`, and then `PlacesAndTrims`
   abbrev pub PlacesNew : (H → K → ℕ) → K × V → State K V S H → Result Bool AllocError → State K V S H → Type 0
   PlacesNew hash_of pair old result new = (ready : State K V S H) × Leaves old (make_room rules (contents old)) ready
       × PlacesAndTrims hash_of pair ready result new
@@ -49,11 +49,11 @@ module _ {K V S I : Type 0} (rules : Rules K V S) (offers : Offers K V S I) (nam
   abbrev pub replacement : K × V → I → V → Contents K V S → Replaced K V S
   replacement pair i v c = offers.on_replace c.limiter (length c.pairs) pair.0 i pair.1 v
 
-  -- the key of the pair and the new value, both after `on_replace` of the limiter
+  -- the key of the pair and the new value, as `on_replace` leaves them
   abbrev pub with_new_value : K × V → I → V → Contents K V S → K × V
   with_new_value pair i v c = let r = replacement pair i v c in (r.key, r.new_value)
 
-  -- the key of the pair and the old value, both after `on_replace` of the limiter
+  -- the key of the pair and the old value, as `on_replace` leaves them
   abbrev pub with_old_value : K × V → I → V → Contents K V S → K × V
   with_old_value pair i v c = let r = replacement pair i v c in (r.key, r.old_value)
 
@@ -69,25 +69,24 @@ module _ {K V S I : Type 0} (rules : Rules K V S) (offers : Offers K V S I) (nam
   with_removed pair i v c = let r = replacement pair i v c in
       record { pairs = without (names i) c.pairs; limiter = (rules.on_removed r.limiter r.key r.old_value).limiter }
 
-  -- the value that the map does not keep after an insert, or `None` if the key was not there
+  -- the value that the map does not keep after an insert, or `None` if the key was new
   abbrev pub unkept_value : I → V → Contents K V S → Option V
   unkept_value i v c = option_map (λ pair. unkept_of (replacement pair i v c)) (lookup_entry (names i) c.pairs)
 
-  -- If a new key is offered, `on_insert` of the limiter may return `given` (a pair to store, or `None`). After this
-  -- `on_insert`, the limiter is s.
+  -- If a new key is offered, `on_insert` may return `given` (a pair to store, or `None`), and leave the limiter s.
   abbrev pub MayGive : I → V → Contents K V S → S → Option (K × V) → Type 0
   MayGive i v c s given = offers.on_insert c.limiter (length c.pairs) i v s given
 
   module _ {H : Type 0} (hash_of : H → K → ℕ) where
     pub data Insert (i : I) (v : V) (old : State K V S H) (result : Result Bool AllocError)
         (new : State K V S H) : Type 0 where
-      -- The key is there, and the limiter accepts the new value. The pair becomes the newest, with the new value. The
-      -- insert ends with a trim: the oldest pairs are evicted while the limiter is over its limit.
+      -- The map contains the key, and the limiter accepts the new value. The pair becomes the newest, with the new
+      -- value. The insert ends with a trim: the oldest pairs are evicted while the limiter is over its limit.
       replaced : (pair : K × V) → lookup_entry (names i) old.pairs ≡ Some pair →
           (replacement pair i v (contents old)).taken ≡ true →
           result ≡ Ok (not (is_empty new.pairs)) → Leaves old (trim rules (with_replaced pair i v (contents old))) new →
           Insert i v old result new
-      -- The key is there, and the limiter rejects the new value: the pair is removed.
+      -- The map contains the key, and the limiter rejects the new value: the pair is removed.
       not_replaced : (pair : K × V) → lookup_entry (names i) old.pairs ≡ Some pair →
           (replacement pair i v (contents old)).taken ≡ false →
           result ≡ Ok false → Leaves old (with_removed pair i v (contents old)) new →

@@ -22,8 +22,8 @@ module _ {K V S H I : Type 0} (rules : Rules K V S) (offers : Offers K V S I) (n
         result ≡ Ok (not (is_empty new.pairs)) →
         new.pairs ++ reverse passed ≡ pair ∷ without (names i) old.pairs →
         LosesNothing i v old result passed new
-    -- The key is there, and the limiter rejects the new value. Only the pair of this key is passed to the callback,
-    -- with the old value.
+    -- The map contains the key, and the limiter rejects the new value. Only the pair of this key is passed to the
+    -- callback, with the old value.
     value_rejected : (was : K × V) → lookup_entry (names i) old.pairs ≡ Some was →
         (replacement rules offers names was i v (contents old)).taken ≡ false →
         result ≡ Ok false →
@@ -78,7 +78,7 @@ pub record LeavesTheNewest {K V : Type 0} (eq : K → K → Bool) (most : ℕ) (
   pub newest : OnOk result (new ≡ take most ((stored_key (eq key) key old, value) ∷ without (eq key) old))
   pub others : OnErr result (new ≡ take (most - 1) old)
 
--- half as many entries as the largest table with links of 32 bits may hold
+-- half of the capacity of the largest table with links of 32 bits
 abbrev pub most_exact_length : ℕ
 most_exact_length = 939524096
 

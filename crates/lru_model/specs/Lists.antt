@@ -78,7 +78,7 @@ module _ {K V : Type 0} where
   abbrev pub next_newer : (K → Bool) → List (K × V) → Option (K × V)
   next_newer names pairs = option_and_then (λ i. last_of i pairs) (position (λ pair. names pair.0) pairs)
 
-  -- the list with `entry` in place of the pair of the named key
+  -- the list with `entry` instead of the named key's pair
   abbrev pub set_entry : (K → Bool) → K × V → List (K × V) → List (K × V)
   set_entry names entry [] = []
   set_entry names entry (pair ∷ pairs) = if names pair.0 then entry ∷ pairs else pair ∷ set_entry names entry pairs

@@ -18,13 +18,12 @@ MayTake {K} {V} {F} closure passes n f = (before : List (K × V)) (g : F) (pair 
     → All passes before → CalledWith closure f before g → passes pair → MayBeCalled closure g (pair.0, (pair.1, tt))
 
 module _ {K V S : Type 0} (rules : Rules K V S) where
-  -- `left` may be one of these pairs after `on_removed` of the limiter
+  -- `left` may be one of these pairs as `on_removed` leaves it
   abbrev pub IsLeftOf : List (K × V) → K × V → Type 0
   IsLeftOf pairs left = (s : S) × (pair : K × V) × Contains pairs pair × (left_of rules s (Some pair) ≡ Some left)
 
   module _ {F : Type 0} (closure : Mut F (K × (V × Unit {0})) (Unit {0})) where
-    -- If the list has n pairs, f may be called n times, each time with any pair of the list after `on_removed` of the
-    -- limiter.
+    -- If the list has n pairs, f may be called n times, each time with any pair of the list as `on_removed` leaves it.
     abbrev pub MayTakeEach : List (K × V) → F → Type 0
     MayTakeEach pairs f = MayTake closure (IsLeftOf pairs) (length pairs) f
 
@@ -33,8 +32,8 @@ module _ {K V S : Type 0} (rules : Rules K V S) where
     MayTakeRejected by f = by.taken ≡ false → MayTakeEach ((by.key, by.old_value) ∷ []) f
 
     module _ {I : Type 0} (offers : Offers K V S I) (names : I → K → Bool) where
-      -- if the key is there, the callback f may be called with each pair that an insert or an update may evict or
-      -- remove
+      -- if the map contains the key, the callback f may be called with each pair that an insert or an update may evict
+      -- or remove
       pub record MayTakeReplaced (i : I) (v : V) (c : Contents K V S) (f : F) : Type 0 where
         pub accepted : (pair : K × V) → lookup_entry (names i) c.pairs ≡ Some pair
             → (replacement rules offers names pair i v c).taken ≡ true

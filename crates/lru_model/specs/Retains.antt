@@ -22,7 +22,7 @@ module _ {K V S : Type 0} (rules : Rules K V S) where
   retained (newest ∷ older) s = answered newest (retained older s)
 
 module _ {K V F : Type 0} (closure : Mut F (Bor K × (Bor V × Unit {0})) Bool) where
-  -- f was called with these pairs, oldest first, and returned the listed flag for each; after these calls, f is g
+  -- f was called with these pairs, oldest first, and returned the listed flag for each; these calls change f into g
   abbrev pub Answers : F → List ((K × V) × Bool) → F → Type 0
   Answers f [] g = g ≡ f
   Answers f (newest ∷ older) g = (between : F) × Answers f older between × Asks closure between newest.0 newest.1 g
@@ -36,7 +36,7 @@ module _ {K V F : Type 0} (closure : Mut F (Bor K × (Bor V × Unit {0})) Bool) 
     pub answers : Answers f asked last
     pub state : Leaves old (retained rules asked old.limiter) new
 
--- a retain that passes the pairs `passed` to its callback: the removed pairs after `on_removed` of the limiter
+-- a retain that passes the pairs `passed` to its callback: the removed pairs as `on_removed` leaves them
 abbrev pub RetainPasses : {K V S H F : Type 0} → Rules K V S → Mut F (Bor K × (Bor V × Unit {0})) Bool → F
     → State K V S H → List (K × V) → State K V S H → Type 0
 RetainPasses rules closure f old passed new = Retains closure (noting rules) f (noted [] old) (noted passed new)

@@ -27,8 +27,8 @@ module _ {K V S H I : Type 0} (rules : Rules K V S) (offers : Offers K V S I) (n
     (hash_of : H → K → ℕ) where
   -- How one call changes a map. A step of `AnyStep` may also be a change of the limiter, or a write through a
   -- reference. A call that only reads is no step. `gets` is a look-up by a hash, or by a key of any type. If the
-  -- look-up finds a pair, it promotes this pair. A get that inserts is `gets` or `inserts`. All inserted and updated
-  -- keys have one type, I.
+  -- look-up finds a pair, it promotes this pair. A get that inserts is the step `gets` or the step `inserts`. All
+  -- inserted and updated keys have one type, I.
   pub data Step (old new : State K V S H) : Type 0 where
     inserts : (key : I) (value : V) (result : Result Bool AllocError)
         → Insert rules offers names hash_of key value old result new → Step old new
@@ -122,8 +122,7 @@ module _ {K V S H : Type 0} {IsStep : State K V S H → State K V S H → Type 0
   EachStep (goes_on {old} mid step sized run) = Holds old mid step × EachStep run
 
 module _ {K V S H : Type 0} (rules : Rules K V S) (hash_of : H → K → ℕ) where
-  -- Calls other than an insert, a get that inserts, or an update, and writes of values, and changes of the limiter, one
-  -- after another. Such a run is also a `Run` for any type I of inserted keys (`run_without_insert` in
-  -- `proofs/EveryCall`).
+  -- A run of calls that neither insert nor update a key, writes of values, and changes of the limiter. Such a run is
+  -- also a `Run` for any type I of inserted keys (`run_without_insert` in `proofs/EveryCall`).
   abbrev pub RunWithoutInsert : (new old : State K V S H) → Type 0
   RunWithoutInsert = Run (AnyStep rules no_offers no_keys hash_of)

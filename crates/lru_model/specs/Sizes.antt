@@ -23,8 +23,8 @@ usage entry_bytes buckets =
     else (if nat_le (bytes_of entry_bytes buckets) (2 ^ 63 - 16) then Some (bytes_of entry_bytes buckets)
     else None)
 
--- Of the tables that have fewer than `max` buckets and fit the budget, the largest uses `bytes` bytes. If there is no
--- such table, `bytes` is 0.
+-- The largest table that has fewer than `max` buckets and fits the budget uses `bytes` bytes. If there is no such
+-- table, `bytes` is 0.
 pub record IsGreatestUsage (max entry_bytes budget bytes : ℕ) : Type 0 where
   pub within : bytes ≤ budget
   pub of_table : (bytes ≡ 0)
@@ -46,10 +46,10 @@ abbrev pub table_with : ℕ → Option ℕ → Target
 table_with entry_bytes None = no_table
 table_with entry_bytes (Some buckets) = table_of buckets (usage entry_bytes buckets)
 
--- Into which table a table of `buckets` buckets grows for `pairs` pairs, if the pairs need `need` buckets. If the table
--- has fewer buckets than `need`, it grows to `need` buckets. If the table has enough buckets, and `pairs` is at most
--- half of the capacity, the table keeps its size. If `pairs` is more than half of the capacity, the number of buckets
--- is doubled. If the new table would be too large, the table does not grow (`no_table`).
+-- How a table of `buckets` buckets grows for `pairs` pairs, which need `need` buckets. If the table has fewer buckets
+-- than `need`, it grows to `need` buckets. If the table has enough buckets, and `pairs` is at most half of the
+-- capacity, the table keeps its size. If `pairs` is more than half of the capacity, the number of buckets is doubled.
+-- If the new table would be too large, the table does not grow (`no_table`).
 abbrev pub target_from : ℕ → ℕ → ℕ → ℕ → Option ℕ → Target
 target_from max entry_bytes buckets pairs None = no_table
 target_from max entry_bytes buckets pairs (Some need) =
@@ -57,7 +57,7 @@ target_from max entry_bytes buckets pairs (Some need) =
     else (if nat_le pairs (full_capacity buckets / 2) then same_table
     else table_with entry_bytes (buckets_for max (full_capacity (2 * buckets))))
 
--- the table into which a table of `buckets` buckets grows for `pairs` pairs
+-- how a table of `buckets` buckets grows for `pairs` pairs
 unfoldable pub target : ℕ → ℕ → ℕ → ℕ → Target
 target max entry_bytes buckets pairs = target_from max entry_bytes buckets pairs (buckets_for max pairs)
 

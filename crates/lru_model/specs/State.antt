@@ -71,9 +71,9 @@ pub record IsPaid (potential : ℕ) (counts : Counts) : Type 0 where
   pub moved : counts.moved ≤ 2 * counts.placed + counts.shrunk
   pub ahead : IsAhead potential counts
 
--- How the bucket states change when a map of `was` pairs keeps n pairs, and the others are removed. `growth_left` never
--- falls. For each removed pair, `growth_left` rises by at most one. In a table of up to 16 buckets, `growth_left` rises
--- by exactly one for each removed pair.
+-- How the bucket states change when a map that had `was` pairs keeps n of them. `growth_left` never falls. For each
+-- removed pair, `growth_left` rises by at most one. In a table of up to 16 buckets, `growth_left` rises by exactly one
+-- for each removed pair.
 pub record GivesBack (was n : ℕ) (old new : List BucketState) : Type 0 where
   pub table : length new ≡ length old
   pub keeps : growth_left_of old ≤ growth_left_of new
@@ -86,8 +86,8 @@ pub record GivesBack (was n : ℕ) (old new : List BucketState) : Type 0 where
 abbrev pub FirstFreeIs : BucketState → ℕ → List BucketState → Type 0
 FirstFreeIs state hash states = (b : ℕ) × IsFirstFree states hash b × (bucket_at states b ≡ state)
 
--- The pair at `place` was removed, and its bucket is free now: deleted if it was in a run of 16 neighbouring buckets none
--- of which was empty, and otherwise empty. The other buckets keep their states.
+-- The pair at `place` was removed, and its bucket is now free. The bucket is deleted if some run of 16 neighbouring
+-- buckets around it has no empty bucket, and otherwise empty. The other buckets keep their states.
 pub record Frees (place : Option ℕ) (old new : TableState) : Type 0 where
   pub bucket : ℕ
   pub there : place ≡ Some bucket
@@ -164,7 +164,7 @@ module _ {K V S H : Type 0} where
     pub growth_left : FreesGrowth old new
 
 module _ {K V S : Type 0} (rules : Rules K V S) where
-  -- the limiter after the limiter was notified of the removed pair, if a pair was removed
+  -- the limiter after it was notified of the removed pair, if a pair was removed
   abbrev pub notified_of : Option (K × V) → S → S
   notified_of None s = s
   notified_of (Some pair) s = (rules.on_removed s pair.0 pair.1).limiter

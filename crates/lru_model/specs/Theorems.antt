@@ -1,5 +1,5 @@
--- Definitions for the laws in `src/laws`: what an insert evicts and stores, what the result of an insert says, the cost
--- of moves, and the bytes of a map with one limit for its table and what its entries own.
+-- Definitions for the laws in `src/laws`: what an insert evicts and stores, what its result says, the cost of moves,
+-- and the bytes of a map with one limit for its table and its entries.
 use Rattle.std.specs.Prelude.{◌≡◌, ℕ, ◌+◌, ◌-◌, ◌*◌, ◌/◌, ◌^◌, ◌≤◌, ◌<◌, Bool, true, false, List, ◌∷◌, length}
 use Rattle.std.specs.Prelude.{sum_by, not}
 use Rattle.std.specs.List.{filter}
@@ -22,7 +22,7 @@ CountsInsertions old new = new.insertions < 2 ^ 64 - 1 → new.moved < 2 ^ 64 - 
 
 module _ {K V S H : Type 0} where
   -- The count `moved`, plus the potential, rises by at most 2 for each stored entry. This bound holds until the count
-  -- `placed` stops at its maximum. No entry is counted as rehashed by a shrink.
+  -- `placed` stops at its maximum. The count `shrunk` does not change.
   pub record PaysByStoring (old new : State K V S H) : Type 0 where
     pub placed : old.counts.placed ≤ new.counts.placed
     pub shrunk : new.counts.shrunk ≡ old.counts.shrunk
@@ -72,7 +72,7 @@ pub data EvictsOldest {K V : Type 0} (names : K → Bool) (refuses : K × V → 
   -- map has no pairs.
   behind : (newest : K × V) → names newest.0 ≡ true → IsFront new (newest ∷ without names old) →
       EvictsOldest names refuses old new
-  -- The inserted key was not there, and its pair is not stored. The oldest pairs may have been evicted.
+  -- The inserted key was new, and its pair is not stored. The oldest pairs may have been evicted.
   with_none : lookup_entry names old ≡ None → IsFront new old → EvictsOldest names refuses old new
   -- Only the pair of the inserted key is removed, because the limiter rejects the new value.
   without_one : (pair : K × V) → lookup_entry names old ≡ Some pair → refuses pair → new ≡ without names old →
@@ -89,15 +89,15 @@ module _ {K V S H : Type 0} (rules : Rules K V S) where
     pub refused : CannotGrow rules st mid
 
   -- What the result of an insert says. If the result is true, the pair of the key is the newest, and the limiter is not
-  -- over its limit. If the result is false, or if it is an error, the map does not contain the key.
+  -- over its limit. If the result is false or an error, the map does not contain the key.
   abbrev pub SaysWhether : (K → Bool) → Result Bool AllocError → State K V S H → Type 0
   SaysWhether names (Ok true) new =
       IsNewest names new.pairs × (rules.is_over_the_limit new.limiter (length new.pairs) ≡ false)
   SaysWhether names result new = lookup_entry names new.pairs ≡ None
 
 module _ {K V S H I : Type 0} (rules : Rules K V S) (offers : Offers K V S I) (names : I → K → Bool) where
-  -- The pair that an insert stores. If the key was there, this pair is the stored key with the new value, both after
-  -- `on_replace` of the limiter. If the key is new, this pair is the pair that the limiter returned.
+  -- The pair that an insert stores. If the map contained the key, this pair is the stored key with the new value, as
+  -- `on_replace` leaves them. If the key is new, this pair is the pair that the limiter returned.
   pub data Stores (i : I) (v : V) (old : State K V S H) (pair : K × V) : Type 0 where
     left : (was : K × V) → lookup_entry (names i) old.pairs ≡ Some was
         → (replacement rules offers names was i v (contents old)).taken ≡ true →

@@ -1,4 +1,4 @@
--- What `try_insert` does: it inserts a new pair only if nothing has to be evicted for it.
+-- What `try_insert` does: it inserts a new pair only if no pair has to be evicted.
 use Rattle.std.specs.Prelude.{◌≡◌, ℕ, ◌+◌, ◌<◌, ◌∷◌, Bool, true, false, not, if◌then◌else◌, length, Some, None}
 use Rattle.std.specs.Prelude.{Result, Ok, Err, OnOk, OnErr, IfErr}
 use Rattle.lru_limits.specs.Rules.{Rules}
@@ -35,7 +35,7 @@ module _ {K V S : Type 0} (terms : Terms K V S) (rules : Rules K V S) where
 
     module _ (eq : K → K → Bool) (hash_of : H → K → ℕ) where
       pub data TryInsert (result : Result (Unit {0}) (K × V)) (new : State K V S H) : Type 0 where
-        -- If the key is there already, or if `can_store` is false, nothing changes.
+        -- If the map already contains the key, or if `can_store` is false, nothing changes.
         there : (pair : K × V) → lookup_entry (eq key) old.pairs ≡ Some pair →
             result ≡ Err (key, value) → new ≡ old →
             TryInsert result new

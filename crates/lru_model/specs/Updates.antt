@@ -1,4 +1,4 @@
--- What `update` does: it offers the limiter a new value for a key that is there.
+-- What `update` does: it offers the limiter a new value for a key of the map.
 --     `names i k`: the given key i names the key k.
 use Rattle.std.specs.Prelude.{◌≡◌, Bool, true, false, List, [], Some, None}
 use Rattle.lru_limits.specs.Rules.{Rules, Offers}
@@ -19,20 +19,20 @@ module _ {K V S I : Type 0} (rules : Rules K V S) (offers : Offers K V S I) (nam
 
   pub data Update {H : Type 0} (i : I) (v : V) (old : State K V S H) (result : Updated V) (new : State K V S H)
       : Type 0 where
-    -- The key is there, and the limiter accepts the new value. The update ends with a trim: the oldest pairs are
-    -- evicted while the limiter is over its limit.
+    -- The map contains the key, and the limiter accepts the new value. The update ends with a trim: the oldest pairs
+    -- are evicted while the limiter is over its limit.
     updated : (pair : K × V) → lookup_entry (names i) old.pairs ≡ Some pair →
         (replacement rules offers names pair i v (contents old)).taken ≡ true →
         result ≡ Replaced (replacement rules offers names pair i v (contents old)).old_value →
         Leaves old (trim rules (with_updated pair i v (contents old))) new →
         Update i v old result new
-    -- The key is there, and the limiter rejects the new value: the pair is removed.
+    -- The map contains the key, and the limiter rejects the new value: the pair is removed.
     rejected : (pair : K × V) → lookup_entry (names i) old.pairs ≡ Some pair →
         (replacement rules offers names pair i v (contents old)).taken ≡ false →
         result ≡ Rejected (replacement rules offers names pair i v (contents old)).new_value →
         Leaves old (with_removed rules offers names pair i v (contents old)) new →
         Update i v old result new
-    -- The key is not there, and nothing changes.
+    -- The key is not in the map, and nothing changes.
     not_there : lookup_entry (names i) old.pairs ≡ None →
         result ≡ Absent v → new ≡ old →
         Update i v old result new

@@ -16,8 +16,8 @@ module _ {K V F : Type 0} (closure : Mut F (Bor K × (MutBor V × Unit {0})) (Un
     pub called : Called closure f (key, (value, tt)) (tt, (left, tt)) g
     pub writes : left.now ≡ w
 
-  -- f was called with the pairs of the first list, in their order, and wrote the values of the second list. After these
-  -- calls, f is g.
+  -- f was called with the pairs of the first list, in their order, and wrote the values of the second list. These calls
+  -- change f into g.
   abbrev pub WritesEach : F → List (K × V) → List (K × V) → F → Type 0
   WritesEach f [] new g = (new ≡ []) × (g ≡ f)
   WritesEach f (pair ∷ pairs) new g = (w : V) × (between : F) × (rest : List (K × V)) × Writes f pair w between

@@ -5,8 +5,7 @@ use Rattle.std.specs.Set.{remove_key}
 use Rattle.lru_theory.specs.Traces.{fault}
 
 module _ {K : Type 0} (eq : K → K → Bool) where
-  -- how many references come before the next reference to the key, or the length of the trace if there is no reference
-  -- to the key
+  -- how many references come before the next reference to the key, or the length of the trace if there is none
   abbrev pub until : K → List K → ℕ
   until key [] = 0
   until key (other ∷ trace) = if eq key other then 0 else suc (until key trace)

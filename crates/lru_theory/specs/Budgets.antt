@@ -1,4 +1,4 @@
--- LRU caches with a limit of cost.
+-- LRU caches that limit the sum of the costs of their keys.
 --     `eq`: when two keys are equal.
 --     `cost`: what each key costs.
 use Rattle.std.specs.Prelude.{◌≡◌, ℕ, ◌+◌, ◌-◌, Bool, true, not, ◌||◌, nat_le, nat_lt, if◌then◌else◌, List, [], ◌∷◌}

@@ -18,7 +18,7 @@ module _ {K : Type 0} (test : K → Bool) where
   contains_it None = false
   contains_it (Some key) = test key
 
-  -- how many places come before the first place whose key passes the test, or the number of all places
+  -- how many places come before the first place whose key passes the test, or the number of all places if no key passes
   abbrev pub place_of : List (Option K) → ℕ
   place_of [] = 0
   place_of (place ∷ places) = if contains_it place then 0 else suc (place_of places)
@@ -28,8 +28,8 @@ module _ {K : Type 0} (test : K → Bool) where
   freed [] = []
   freed (place ∷ places) = if contains_it place then None ∷ places else place ∷ freed places
 
-  -- The places without the newest place that is free or contains the key that passes the test. If this is a free place,
-  -- the place of the key becomes free.
+  -- The places without the first place that is free or whose key passes the test. If the omitted place was free, the
+  -- place of the key becomes free.
   abbrev pub vacated : List (Option K) → List (Option K)
   vacated [] = []
   vacated (None ∷ places) = freed places

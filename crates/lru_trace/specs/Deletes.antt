@@ -39,13 +39,13 @@ places_of warm trace = place_calls bytes_eq trace (place_calls bytes_eq warm [])
 
 pub record Deleting : Type 0 where
   pub names : List (String Global × ℕ)
-  -- the places, with the number of a key in place of the key
+  -- the places, with numbers instead of keys
   pub places : List (Option ℕ)
-  -- for each number of newer places, how many counted references found their key behind this number of places
+  -- for each n, how many counted references found their key behind n newer places
   pub counts : List ℕ
   pub references : ℕ
 
--- the places contain the same keys, the second list by their numbers
+-- the second list is the first list with the numbers of the keys instead of the keys
 abbrev pub AreNumbers : (List ℕ → Option ℕ) → List (Option (List ℕ)) → List (Option ℕ) → Type 0
 AreNumbers number [] [] = Unit {0}
 AreNumbers number [] (id ∷ ids) = ⊥
@@ -53,7 +53,7 @@ AreNumbers number (place ∷ places) [] = ⊥
 AreNumbers number (place ∷ places) (id ∷ ids) =
     (option_map number place ≡ option_map Some id) × AreNumbers number places ids
 
--- the curve counts the references of `trace`, a trace that comes after the warm-up `warm`
+-- the curve counts the references of `trace`, which comes after the warm-up `warm`
 pub record IsDeleteOf (warm trace : List (KeyCall (List ℕ))) (curve : Deleting) : Type 0 where
   pub placed : AreNumbers (number_in curve.names) (places_of warm trace) curve.places
   pub caches : (n : ℕ) → keys_in (take n (places_of warm trace)) ≡ cache_of n warm trace

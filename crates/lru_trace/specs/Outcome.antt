@@ -49,8 +49,8 @@ pub record NoSizesRead (from to : Option (List ℕ)) : Type 0 where
 abbrev pub SomeRead : Option (List ℕ) → Option (List ℕ) → Type 0
 SomeRead from to = (part : List ℕ) × Consumes from to part
 
--- The keys were read from the lines after the first n lines. The sum of the sizes of the entries of these keys is 2 ^
--- 64 bytes or more.
+-- The keys were read from the lines after the first n lines. The entries of these keys take 2 ^ 64 bytes or more in
+-- all.
 pub record TooLargeRead (n : ℕ) (from to : Option (List ℕ)) (options : Options) : Type 0 where
   pub input : List ℕ
   pub reads : Consumes from to input

@@ -11,7 +11,7 @@ use Rattle.lru_trace.specs.Slots.{Recent}
 abbrev pub time_in : List ℕ → ℕ → ℕ
 time_in times id = get_or times id 0
 
--- the free place with this time of the last reference
+-- the free place whose last reference was at this time
 abbrev pub free_at : List (ℕ × ℕ) → ℕ → Option ℕ
 free_at free time = lookup (is_at (nat_cmp time)) free
 
@@ -26,7 +26,7 @@ abbrev pub owns : Option ℕ → ℕ → Bool
 owns None id = false
 owns (Some own) id = nat_eq own id
 
--- the times fall along the list, from below `bound`
+-- the times are below `bound`, and fall along the list
 abbrev pub Falls : (ℕ → ℕ) → ℕ → List ℕ → Type 0
 Falls time bound [] = Unit {0}
 Falls time bound (id ∷ ids) = (time id < bound) × Falls time (time id) ids

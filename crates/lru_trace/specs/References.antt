@@ -44,7 +44,7 @@ deletes (Deletes n) line = starts_with nat_eq line (codes "- ")
 deletes Best line = false
 deletes (Sized n column) line = false
 
--- the line without the mark of a delete
+-- the line without the `- ` of a delete
 abbrev pub body : Policies → List ℕ → List ℕ
 body policies line = if deletes policies line then drop 2 line else line
 

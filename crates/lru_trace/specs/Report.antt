@@ -16,7 +16,7 @@ use Rattle.lru_trace.specs.Rows.{references_of, keys_among, expected_of, row_of,
 use Rattle.lru_trace.specs.Sizes.{sizes_from}
 use Rattle.lru_trace.specs.Svg.{missed_part, svg_text}
 
--- the text of a number of ten-thousandths, such as `0.8113`
+-- the fraction n / 10000 as decimal text, such as `0.8113`
 abbrev pub ratio_text : ℕ → List ℕ
 ratio_text n = decimal (n / 10000) ++ (codes "." ++ (decimal (n / 1000 % 10) ++ (decimal (n / 100 % 10)
     ++ (decimal (n / 10 % 10) ++ decimal (n % 10)))))

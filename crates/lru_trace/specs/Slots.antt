@@ -1,4 +1,4 @@
--- A log of references: a list of slots, each of which contains a key or is free.
+-- A log of references: a list of slots. Each slot contains a key or is free.
 use Rattle.std.specs.Prelude.{◌≡◌, ℕ, ◌^◌, ◌≤◌, ◌<◌, if◌then◌else◌, List, [], ◌∷◌, ◌++◌, length, sum, sum_by}
 use Rattle.std.specs.Prelude.{get_or, Option, Some, None, nat_eq, Vec, vec_len, vec_capacity}
 use Rattle.std.specs.Option.{option_to_list}

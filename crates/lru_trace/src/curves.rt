@@ -13,7 +13,7 @@ use crate::delete_curve::DeleteCurve;
 use crate::options::Measure;
 use std::alloc::AllocError;
 
-/// A curve whose sizes are numbers of entries, without or with deletes, or numbers of bytes.
+/// A curve for sizes in entries, without or with deletes, or for sizes in bytes.
 #[derive(Drop)]
 pub enum AnyCurve {
     Places(Curve),

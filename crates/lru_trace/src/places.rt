@@ -97,7 +97,7 @@ impl Places {
         self.distances.position(key).unwrap_or(0)
     }
 
-    /// Deletes a key: its place is free.
+    /// Deletes a key: its place becomes free.
     pub fn free(&mut self, key: usize) -> Result<(), AllocError>
         requires { is_in nat_eq key (keys_in self.old) ≡ true }
         ensures ok { OnOk result (Freed key self.old self.new) }

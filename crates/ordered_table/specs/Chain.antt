@@ -1,5 +1,5 @@
 -- How links keep buckets in an order: each entry contains a link to the next newer entry, and a link to the next older
--- entry. No public clause cites this module.
+-- entry. No public contract uses this module.
 use Rattle.std.specs.Prelude.{◌≡◌, ◌≢◌, ◌⊎◌, ℕ, zero, suc, ◌<◌, slice_index_or, List, [], ◌∷◌, length, map}
 use Rattle.std.specs.Prelude.{Option, Some, None, option_map, unwrap_or, Contains, AllPairs}
 use Rattle.group_table.specs.Bucket.{empty, deleted, full, Slot, IsFull, bucket_at, entry_at, entry_count}
@@ -23,7 +23,7 @@ module _ {N : Type 0} (link : ℕ → N) (none : N) where
   link_to None = none
   link_to (Some b) = link b
 
--- The buckets that the link `from`, and then the links to older entries, lead to: n buckets, or fewer if the links end.
+-- Follows the link `from`, and then the links to older entries. Lists n buckets, or fewer if the links end.
 abbrev pub along : {K V N : Type 0} → (N → ℕ) → ℕ → List (Slot (Entry K V N)) → N → List ℕ
 along number zero slots from = []
 along number (suc n) slots from = unwrap_or (option_map (λ entry. number from ∷ along number n slots entry.older)
@@ -61,11 +61,11 @@ module _ {K V N : Type 0} (number : N → ℕ) where
   SetsOlder = SetsLink (λ entry. entry.older) (λ entry. entry.newer)
 
 module _ {N : Type 0} (number : N → ℕ) (none : N) (links : List N) where
-  -- the link to the new bucket of an entry, computed from the link to the old bucket of the entry
+  -- the link to an entry's new bucket, computed from the link l to its old bucket
   abbrev pub moved_link : N → N
   moved_link l = slice_index_or links (number l) none
 
-  -- the link is `none`, or leads to an old bucket for which `links` contains the new link
+  -- the link is `none`, or `links` contains the new link for its bucket
   abbrev pub HasPlace : N → Type 0
   HasPlace l = (l ≡ none) ⊎ (number l < length links)
 
@@ -99,8 +99,8 @@ module _ {K V N : Type 0} (number : N → ℕ) (link : ℕ → N) (none : N) whe
     pub all : (b : ℕ) → IsFull slots b → Contains order b
     pub count : entry_count slots ≡ length order
 
-  -- Bucket b, with these two links, is about to be taken out of the chain `order`. The slot of b may be free already.
-  -- No other slot has changed.
+  -- Bucket b is about to be taken out of the chain `order`. Its two links are `newer` and `older`. The slot of b may be
+  -- free already. No other slot has changed.
   pub record IsGap (slots : List (Slot (Entry K V N))) (newest oldest : N) (order : List ℕ) (b : ℕ) (newer older : N)
       : Type 0 where
     pub before : List (Slot (Entry K V N))
@@ -111,19 +111,19 @@ module _ {K V N : Type 0} (number : N → ℕ) (link : ℕ → N) (none : N) whe
     pub same : length slots ≡ length before
     pub others : (c : ℕ) → c ≢ b → bucket_at slots c ≡ bucket_at before c
 
-  -- `IsChain` for the fields of the chain
+  -- `IsChain`, applied to the fields of a chain
   abbrev pub KeepsOrder : Chain K V N → List ℕ → Type 0
   KeepsOrder chain = IsChain chain.table.slots chain.newest chain.oldest
 
-  -- `IsGap` for the fields of the chain
+  -- `IsGap`, applied to the fields of a chain
   abbrev pub HasGap : Chain K V N → List ℕ → ℕ → N → N → Type 0
   HasGap chain = IsGap chain.table.slots chain.newest chain.oldest
 
-  -- the links keep an order of some buckets, and b is one of these buckets
+  -- the links keep an order of some buckets, and b is among them
   abbrev pub InChain : Chain K V N → ℕ → Type 0
   InChain chain b = (order : List ℕ) × KeepsOrder chain order × Contains order b
 
-  -- the links keep an order of some buckets, and b is none of these buckets
+  -- the links keep an order of some buckets, and b is not among them
   abbrev pub OutOfChain : Chain K V N → ℕ → Type 0
   OutOfChain chain b = (order : List ℕ) × KeepsOrder chain order × (Contains order b → ⊥)
 

@@ -1,4 +1,4 @@
--- How an entry is copied. No public clause cites this module.
+-- How an entry is copied. No public contract uses this module.
 use Rattle.std.specs.Prelude.{◌≡◌}
 use Rattle.ordered_table.specs.declared.linked.Entry.{Entry}
 

@@ -1,4 +1,4 @@
--- What becomes of a stored pair if the limiter is offered a new value for the pair.
+-- What becomes of a stored pair if the limiter is offered a new value.
 use Rattle.std.specs.Prelude.{◌≡◌, ℕ, Bool, Some, if◌then◌else◌}
 use Rattle.group_table.specs.Bucket.{entry_at}
 use Rattle.lru_limits.specs.Rules.{Replaced}

@@ -49,8 +49,8 @@ module _ {K V : Type 0} where
   abbrev pub hash_in : (K → ℕ) → List (Slot (K × V)) → ℕ → ℕ
   hash_in hash_of slots b = unwrap_or (option_map (λ pair. hash_of pair.0) (entry_at slots b)) 0
 
-  -- The hashes of the keys fit the table: each full bucket has the tag of the hash of the key there, and a search for
-  -- this key reaches the bucket.
+  -- The hashes of the keys fit the table: each full bucket has the tag of its key's hash, and a search for this key
+  -- reaches the bucket.
   abbrev pub KeysFit : (K → ℕ) → List (Slot (K × V)) → Type 0
   KeysFit hash_of slots = Fits slots (hash_in hash_of slots)
 

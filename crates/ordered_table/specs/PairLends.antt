@@ -12,7 +12,7 @@ abbrev pub lends_pair : (K V N : RattleType) → link_type.Ghosts N.Denot
 lends_pair K V N links t b r = follows (linked_row K V N links) V t.ghost_name r.1.ghost_name
     (λ last. with_pair t.now b (r.0.now, last))
 
--- what `lends_pair` says, for a `LinkedTable`
+-- `lends_pair` for a `LinkedTable`
 abbrev pub lends_linked_pair : (K V N : RattleType) → link_type.Ghosts N.Denot
     → MutBor (OrderedTable K.Denot V.Denot) → ℕ → Bor K.Denot × MutBor V.Denot → Fml
 lends_linked_pair K V N links t b r = follows (links_row K V N links) V t.ghost_name r.1.ghost_name

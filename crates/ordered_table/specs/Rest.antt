@@ -1,4 +1,4 @@
--- How the fields of a walk over the pairs determine which pairs are left to visit. No public clause cites this module.
+-- How the fields of a walk over the pairs determine which pairs are left to visit. No public contract uses this module.
 use Rattle.std.specs.Prelude.{◌≡◌, ℕ, ◌<◌, List, [], ◌∷◌, ◌++◌, length, take, nat_eq, if◌then◌else◌, Some}
 use Rattle.ordered_table.specs.OrderedTable.{OrderedTable, IsLinked, entries_in}
 use Rattle.lru_model.specs.Lists.{first as first_bucket, last as last_bucket}
@@ -22,7 +22,7 @@ module _ {K V : Type 0} (t : OrderedTable K V) where
     pub after : List ℕ
     pub order : t.order ≡ before ++ (middle ++ after)
     pub count : length middle ≡ left
-    -- If a bucket is left, `front` is the first bucket that is left, and `back` is the last bucket that is left. If no
-    -- bucket is left, `front` and `back` may be any numbers.
+    -- If buckets are left, `front` is the first of them, and `back` is the last. If no bucket is left, `front` and
+    -- `back` may be any numbers.
     pub first : 0 < left → first_bucket middle ≡ Some front
     pub last : 0 < left → last_bucket middle ≡ Some back

@@ -1,4 +1,4 @@
--- For which buckets of a table with links a search by a hash calls its closure.
+-- Which pairs of an `OrderedTable` a search by a hash passes to its closure.
 use Rattle.std.specs.Prelude.{◌≡◌, ℕ, Bool, true, false, List, [], ◌∷◌, ◌++◌, Some, Contains}
 use Rattle.std.specs.List.{FoldsTo}
 use Rattle.std.specs.Borrow.{Bor}
@@ -9,7 +9,7 @@ use Rattle.group_table.specs.Search.{IsSearch}
 use Rattle.lru_model.specs.ByHash.{Asks}
 
 module _ {K V F : Type 0} (closure : Mut F (Bor K × (Bor V × Unit {0})) Bool) (slots : List (Slot (K × V))) where
-  -- f was called with the pair in bucket b, and returned `answer`; after this call, f is g
+  -- f was called with the pair in bucket b, and returned `answer`; this call changed f into g
   pub record AnswersPair (f : F) (b : ℕ) (answer : Bool) (g : F) : Type 0 where
     pub pair : K × V
     pub there : entry_at slots b ≡ Some pair

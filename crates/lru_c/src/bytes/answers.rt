@@ -9,7 +9,7 @@ pub struct Value {
     pub found: bool,
 }
 
-/// Where the bytes of a value are. They belong to the map.
+/// The address and the length of a value. Its bytes belong to the map.
 #[repr(C)]
 #[derive(Clone, Copy)]
 pub struct Lent {

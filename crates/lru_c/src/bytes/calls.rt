@@ -23,7 +23,7 @@ fn weight_of(key: usize, value: usize) -> u64
         .saturating_add(OVERHEAD)
 }
 
-// Returns the weight of the entry of a key, or 0 if the key is not there.
+// Returns the weight of a key's entry, or 0 if the map does not contain the key.
 #[tactic(auto, using(crate::proofs::RoomyPuts::weight_split))]
 fn weight_in(map: &BytesMap, key: &[u8]) -> u64
     requires within { IsWithinBudget map.now }
@@ -139,7 +139,7 @@ pub fn peek(map: &BytesMap, key: &[u8], buffer: &mut [u8]) -> Value
 }
 
 /// Stores the address and the length of a key's value in `lent`, and makes the key's entry the newest. Returns whether
-/// the key is there.
+/// the map contains the key.
 pub fn lend(map: &mut BytesMap, key: &[u8], lent: &mut Lent) -> bool
     ensures lends { Lends (lookup (names_bytes key.now) map.old.pairs) result lent.old lent.new }
     ensures promoted { map.new ≡ promoted (names_bytes key.now) map.old }
@@ -177,8 +177,8 @@ pub fn pop_oldest(map: &mut BytesMap, key: &mut [u8], value: &mut [u8]) -> Poppe
     }
 }
 
-/// If a put of the key `own` and a value of this length has to evict another entry, makes the entry of `own` the
-/// newest, and pops the oldest entry.
+/// If a put of the key `own` with a value of this length must evict another entry, makes the entry of `own` the newest,
+/// and pops the oldest entry.
 pub fn pop_for(
     map: &mut BytesMap,
     own: &[u8],

@@ -1,4 +1,4 @@
-//! What C keeps for a map of byte strings.
+//! The handle that C keeps for a map of byte strings.
 ghost use Rattle.std.specs.Prelude.{◌≡◌, None, Some, IfSome, option_map};
 ghost use Rattle.lru_c.specs.Bytes.{IsWithinBudget};
 ghost use Rattle.lru_c.specs.BytesHandle.{bytes_row, maybe_bytes_row};
@@ -12,7 +12,7 @@ use std::marker::{Model, PhantomData};
 use std::mem::replace;
 use std::ptr::null_mut;
 
-/// The weight of an entry in addition to its key and its value: the bytes of a bucket.
+/// What an entry weighs besides its key and its value: the bytes of a bucket.
 pub const OVERHEAD: u64 = 64;
 
 pub type BytesMap = LruMap<Vec<u8>, Vec<u8>, ByWeight<64>>;

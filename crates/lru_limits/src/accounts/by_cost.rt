@@ -6,7 +6,7 @@ use crate::admission::Admission;
 use crate::limiter::Limiter;
 use std::marker::Model;
 
-/// Limits the sum of the costs of the values. A contract sees the limiter as its limit and its running total.
+/// Limits the sum of the costs of the values. Contracts represent the limiter by its limit and its running total.
 ///
 /// `ByCost` rejects an entry or a new value if the cost of the value alone is above the limit, or if the sum would pass
 /// `u64::MAX`. After `ByCost` accepts an entry, the map evicts its oldest entries until the sum of the costs is within

@@ -26,7 +26,7 @@ pub fn calls_keep_maps<K: Eq + Hash, V, I: LookupKey<K>, L: Insertion<K, V, I>, 
         IsMap K.eq old → IsSized new → IsMap K.eq new }
 {}
 
-/// If the running total of the limiter is the sum of the costs of the entries, it is still their sum after each `Step`.
+/// If the running total of the limiter is the sum of the costs of the entries, it is still this sum after each `Step`.
 /// The premise `IsAccount` is a law of `Summing`.
 pub fn calls_keep_sums<K: Eq + Hash, V, I: LookupKey<K>, L: Insertion<K, V, I>, S: KeyHasher<K>>()
     ensures { (cost : K → V → ℕ) (account : L → ℕ) → IsAccount L.rules L.offers cost account →
@@ -94,8 +94,8 @@ pub fn calls_add_one_pair<
         length new.pairs ≤ length old.pairs + 1 }
 {}
 
-/// Of the entries whose keys a call does not name, the call evicts only the oldest, and keeps the others in their
-/// order. The law excludes `pop_newest`, which removes the newest entry.
+/// A call evicts only the oldest of the entries whose keys it does not name, and keeps the others in their order. The
+/// law excludes `pop_newest`, which removes the newest entry.
 ///
 /// A call names the key that it inserts, updates, looks up or removes, and the key whose value it writes. A retain
 /// names the keys that its closure rejects.

@@ -11,9 +11,9 @@ ghost use Rattle.lru_model.specs.Theorems.{PaysForMoves, UsesAtMost, IsSummed, o
 use lru_limits::{Budgeted, Insertion, KeyHasher, Limiter, LookupKey};
 use std::hash::Hash;
 
-/// If `IsMap` holds of a map, it still holds after any calls, and any writes through the references that they lend.
-/// `IsMap` implies the clause `paid` of `inserts_pay_for_moves`, and that no two keys are equal. In a `Run`, the table
-/// is sound after each call, as the clause `map` of each call ensures.
+/// If `IsMap` holds of a map, it still holds after any calls, and any writes through references into the map. `IsMap`
+/// implies the clause `paid` of `inserts_pay_for_moves`, and that no two keys are equal. In a `Run`, the table is sound
+/// after each call, as the clause `map` of each call ensures.
 pub fn runs_keep_maps<K: Eq + Hash, V, I: LookupKey<K>, L: Insertion<K, V, I>, S: KeyHasher<K>>()
     ensures map { (old new : State K V L S) →
         Run (AnyStep L.rules L.offers I.names S.hash_of) new old →
@@ -56,7 +56,7 @@ pub fn runs_evict_the_oldest<
         IsFront (others test new.pairs) (others test old.pairs) }
 {}
 
-/// `inserts_evict_the_oldest` holds of each insert of a run, also if a get inserts, whatever the other calls of the run
+/// `inserts_evict_the_oldest` holds of each insert of a run, including each get that inserts, whatever the other calls
 /// are.
 pub fn each_insert_of_a_run_evicts_the_oldest<
     K: Eq + Hash,

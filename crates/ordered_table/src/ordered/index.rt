@@ -7,7 +7,7 @@ use group_table::LinkType;
 impl<K, V, N: LinkType> OrderedTable<K, V, N> {
     /// Returns the bucket at this index in the order, if there is one. The newest bucket has index 0.
     ///
-    /// Cost: `O(index)`, and `O(1)` if there is none.
+    /// Cost: `O(index)`, and `O(1)` if the index is too large.
     pub fn at_index(&self, index: usize) -> Option<usize>
         ensures at { result ≡ slice_get self.now.order index }
         ensures full { IfSome result (IsFull self.now.slots) }

@@ -1,5 +1,5 @@
-//! The order of a table whose newest bucket is `promoted`, if this is not `None`. In the links, `promoted` may still be
-//! elsewhere.
+//! The order of a table with a pending promotion. The bucket `promoted`, if any, counts as the newest, but may still be
+//! elsewhere in the links.
 ghost use Rattle.std.specs.Prelude.{◌≡◌, ◌<◌, ℕ, length, Some, None, IfSome};
 ghost use Rattle.group_table.specs.Bucket.{IsFull};
 ghost use Rattle.lru_model.specs.Lists.{first as first_bucket, last as last_bucket};
