@@ -55,12 +55,12 @@ where
         self.map.map.insert_with(Offered(key), value, &mut discard)
     }
 
-    /// Inserts as [`More::insert_full`](crate::More::insert_full) does. Proved: what is proved of `insert`, and the
+    /// Inserts as [`More::insert_full`](crate::More::insert_full) does. Proved: the same as for `insert`, and the
     /// returned value.
     ///
     /// # Errors
     ///
-    /// As of `insert`. The callback got the new entry then.
+    /// As for `insert`. The callback got the new entry then.
     #[inline]
     pub fn insert_full<'a>(
         self,
@@ -74,12 +74,12 @@ where
         self.map.map.insert_full(Offered(key), value, &mut lost)
     }
 
-    /// Lends the value of a key as the newest. If the key is absent, first inserts it. Proved: what is proved of
-    /// `LruMap::get` and of `insert`.
+    /// Lends the value of a key as the newest. If the key is absent, first inserts it. Proved: the same as for
+    /// `LruMap::get` and `insert`.
     ///
     /// # Errors
     ///
-    /// The closure's error, and nothing has changed; or out of memory, as of `insert`.
+    /// `Caller`: the closure's error; nothing has changed. `Memory`: as for `insert`.
     #[inline]
     pub fn get_or_insert<'a, E>(
         self,
@@ -110,7 +110,7 @@ where
         }
     }
 
-    /// Clones the map as `clone` does. Proved: what is proved of `More::try_clone`.
+    /// Clones the map as `clone` does. Proved: the same as for `More::try_clone`.
     ///
     /// # Errors
     ///
@@ -125,8 +125,8 @@ where
         Ok(LruMap { map: self.map.map.try_clone()? })
     }
 
-    /// Moves the entries into the smallest table that holds them. Returns whether it moved them. Proved: what is proved
-    /// of `More::shrink_to_fit`.
+    /// Moves the entries into the smallest table that holds them. Returns whether it moved them. Proved: the same as
+    /// for `More::shrink_to_fit`.
     ///
     /// # Errors
     ///

@@ -160,7 +160,7 @@ impl<K: Debug, V: Debug, S> Debug for LruCache<K, V, S> {
     }
 }
 
-// An iterator shows what is left.
+// The `Debug` of an iterator shows what is left.
 macro_rules! shows {
     ($($name:ty: $field:ident;)*) => {$(
         impl<K: Debug, V: Debug> Debug for $name {

@@ -51,7 +51,7 @@ where
     pub(crate) drain: proved::Drain<'a, K, V, Calls<L>, S>,
 }
 
-/// An iterator that owns a map and takes its entries out, the newest first. Proved: what is proved of [`Drain`].
+/// An iterator that owns a map and takes its entries out, the newest first. Proved: the same as for [`Drain`].
 pub struct IntoIter<K, V, L: Limiter<K, V>, S> {
     entries: proved::IntoIter<K, V, Calls<L>, S>,
 }

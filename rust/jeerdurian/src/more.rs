@@ -70,7 +70,7 @@ where
     /// ```
     fn find_entry(&mut self, key: &(impl Hash + PartialEq<K> + ?Sized)) -> Option<OccupiedEntry<'_, K, V, L, S>>;
 
-    /// Returns a handle on the entry with this hash that the closure accepts. Proved: what is proved of
+    /// Returns a handle on the entry with this hash that the closure accepts. Proved: the same as for
     /// [`LruMap::get_by_hash`], except the promotion.
     fn find_entry_by_hash(
         &mut self,
@@ -113,8 +113,8 @@ where
     /// entry.
     fn retain(&mut self, keep: impl FnMut(&K, &V) -> bool);
 
-    /// Does what `retain` does, and passes each removed entry to a callback before it calls `keep` again. Proved: what
-    /// is proved of `retain`, and that the callback gets each removed entry once.
+    /// Does what `retain` does, and passes each removed entry to a callback before it calls `keep` again. Proved: the
+    /// same as for `retain`, and that the callback gets each removed entry once.
     fn retain_with(&mut self, keep: impl FnMut(&K, &V) -> bool, removed: impl FnMut(K, V));
 
     /// Removes the oldest entry if the closure accepts it. Proved: otherwise nothing changes.
@@ -127,7 +127,7 @@ where
         L::KeyToInsert<'a>: Hash + PartialEq<K>;
 
     /// Does what `insert_with` does. If the key was there, also returns the old value, or the new value if the limiter
-    /// rejects it. Out of memory, returns no value. Proved: what is proved of `insert_with`, and the returned value.
+    /// rejects it. Out of memory, returns no value. Proved: the same as for `insert_with`, and the returned value.
     fn insert_full<'a>(&mut self, key: L::KeyToInsert<'a>, value: V, lost: impl FnMut(K, V)) -> Inserted<V>
     where
         L::KeyToInsert<'a>: Hash + PartialEq<K>;
@@ -158,7 +158,7 @@ where
         L::KeyToInsert<'a>: Hash + PartialEq<K>;
 
     /// Updates as [`update`](Self::update) does, and passes each entry that the map evicts or removes to a callback.
-    /// Proved: what is proved of `update`, and that the callback gets each of these entries once, in order.
+    /// Proved: the same as for `update`, and that the callback gets each of these entries once, in order.
     ///
     /// ```
     /// use jeerdurian::{ByCost, LruMap, More, Updated};
@@ -177,8 +177,8 @@ where
     /// empty, and only the oldest entries are gone.
     fn trim(&mut self);
 
-    /// Trims as [`trim`](Self::trim) does, and passes each evicted entry to a callback, the oldest first. Proved: what
-    /// is proved of `trim`, and that the callback gets each evicted entry once.
+    /// Trims as [`trim`](Self::trim) does, and passes each evicted entry to a callback, the oldest first. Proved: the
+    /// same as for `trim`, and that the callback gets each evicted entry once.
     ///
     /// ```
     /// use jeerdurian::{ByLength, LruMap, More};
@@ -193,11 +193,11 @@ where
     fn trim_with(&mut self, evicted: impl FnMut(K, V));
 
     /// Sets the limiter, and evicts the oldest entries while it is over its limit. Returns the old limiter. The map
-    /// does not compute a running total for the new limiter. Proved: what is proved of `trim`, under the new limiter.
+    /// does not compute a running total for the new limiter. Proved: the same as for `trim`, under the new limiter.
     fn set_limiter(&mut self, limiter: L) -> L;
 
     /// Sets the limiter as [`set_limiter`](Self::set_limiter) does, and passes each evicted entry to a callback, the
-    /// oldest first. Proved: what is proved of `trim_with`, under the new limiter.
+    /// oldest first. Proved: the same as for `trim_with`, under the new limiter.
     ///
     /// ```
     /// use jeerdurian::{ByLength, LruMap, More};

@@ -297,7 +297,7 @@ where
     ///
     /// # Errors
     ///
-    /// As of `set_budget`.
+    /// As for `set_budget`.
     ///
     /// ```
     /// # let mut cache = jeerdurian::tenants::TenantCache::<u64, u64, u64>::new();

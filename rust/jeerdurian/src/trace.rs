@@ -142,7 +142,7 @@ impl ByteCurve {
     ///
     /// # Errors
     ///
-    /// As `refer`.
+    /// As for `refer`.
     pub fn warm_up(&mut self, key: &str, bytes: u64) -> Result<(), SizeError> {
         self.0.warm_up(key, bytes)
     }
@@ -213,7 +213,7 @@ impl Best {
     ///
     /// # Errors
     ///
-    /// As `min_misses`.
+    /// As for `min_misses`.
     ///
     /// ```
     /// # use jeerdurian::trace::Curve;
@@ -385,7 +385,7 @@ pub fn report(mut reader: impl BufRead, mut writer: impl Write) -> Result<TraceE
 ///
 /// # Errors
 ///
-/// As `report`.
+/// As for `report`.
 ///
 /// ```
 /// use jeerdurian::trace::{TraceEnd, report_with_best};
@@ -403,7 +403,7 @@ pub fn report_with_best(mut reader: impl BufRead, mut writer: impl Write) -> Res
 ///
 /// # Errors
 ///
-/// As `report`. `TooLarge`: the sizes of all keys sum to 2^64 or more.
+/// As for `report`. `TooLarge`: the sizes of all keys sum to 2^64 or more.
 ///
 /// ```
 /// use jeerdurian::trace::{Column, Form, Options, Policies, TraceEnd, report_as};

@@ -292,7 +292,7 @@ impl<B: Copy, D: BlockDevice<B>, S: BuildHasher> PageCache<B, D, S> {
     ///
     /// # Errors
     ///
-    /// As `read`. The closure is not called then.
+    /// As for `read`. The closure is not called then.
     ///
     /// ```
     /// # use jeerdurian::caches::{FileDevice, PageCache};
@@ -326,7 +326,7 @@ impl<B: Copy, D: BlockDevice<B>, S: BuildHasher> PageCache<B, D, S> {
     ///
     /// # Errors
     ///
-    /// As of `read`, and `Broken` also if the page is cached. The block is not replaced then.
+    /// As for `read`, and `Broken` also if the page is cached. The block is not replaced then.
     ///
     /// ```
     /// # use jeerdurian::caches::{FileDevice, PageCache};
@@ -362,7 +362,7 @@ impl<B: Copy, D: BlockDevice<B>, S: BuildHasher> PageCache<B, D, S> {
     ///
     /// # Errors
     ///
-    /// As `read`.
+    /// As for `read`.
     ///
     /// ```
     /// # use jeerdurian::caches::{FileDevice, PageCache, PageError};

@@ -32,7 +32,7 @@ impl u8x16 {
         if cfg!(any(debug_assertions, feature = "checked")) {
             assert!(bytes.len() >= 16);
         }
-        // SAFETY: a group of control bytes begins at most at the last bucket, and 16 bytes follow the last bucket's.
+        // SAFETY: a group of control bytes begins at most at the last bucket, whose byte is followed by 16 bytes.
         u8x16(unsafe { *bytes.as_ptr().cast() })
     }
 

@@ -103,7 +103,7 @@ where
     ///
     /// # Errors
     ///
-    /// As of `put`. The evicted entries are counted.
+    /// As for `put`. The evicted entries are counted.
     pub fn put_counted<T>(&mut self, name: &T, key: K, value: V) -> Result<bool, TenantError>
     where
         N: Borrow<T>,
@@ -112,11 +112,12 @@ where
         self.cache.put_counted(&Borrowed(name), key, value)
     }
 
-    /// Does what `get_or_put` does, and counts a hit; or a miss, and what `put_counted` counts.
+    /// Does what `get_or_put` does. Counts a hit, or counts a miss and what `put_counted` counts.
     ///
     /// # Errors
     ///
-    /// As of `put`. If the error is `Memory`, the closure was called, and the miss and the evicted entries are counted.
+    /// As for `put`. If the error is `Memory`, the closure was called, and the miss and the evicted entries are
+    /// counted.
     pub fn get_or_put_counted<T>(
         &mut self,
         name: &T,

@@ -46,7 +46,7 @@ where
     ///
     /// # Errors
     ///
-    /// As of `put`.
+    /// As for `put`.
     ///
     /// ```
     /// # let mut cache = jeerdurian::tenants::TenantCache::<u64, u64, u64>::new();
@@ -69,7 +69,7 @@ where
     ///
     /// # Errors
     ///
-    /// As of `put`. After `Memory` the callback got the key and the value.
+    /// As for `put`. After `Memory` the callback got the key and the value.
     ///
     /// ```
     /// # let mut cache = jeerdurian::tenants::TenantCache::<u64, u64, u64>::new();
@@ -122,7 +122,7 @@ where
     ///
     /// # Errors
     ///
-    /// As of `put`. If the error is `Memory`, the closure was called.
+    /// As for `put`. If the error is `Memory`, the closure was called.
     ///
     /// ```
     /// # let mut cache = jeerdurian::tenants::TenantCache::<u64, u64, u64>::new();
