@@ -15,7 +15,7 @@
  *   used. A handle may be moved, as by memcpy, if the old place is not used any more.
  * - No pointer is null, except one whose length is 0. A handle is writable and aligned. A pointer with a length points
  *   to that number of elements. What a pointer points to has been written before, as by an initializer, even if the
- *   call only writes it. What a call writes overlaps nothing else of the call.
+ *   call only writes it. Memory that a call writes overlaps no other argument of the call.
  * - There is one call on a handle at a time. A thread that takes a handle over from another thread synchronises with
  *   that thread.
  * - No call comes from a signal handler, or from the forked child of a process with threads.
@@ -80,7 +80,7 @@ struct lru_inserted {
 };
 
 /* What lru_insert, lru_get_or_insert, lru_put and lru_bytes_put return. */
-#define LRU_STORED 0u        /* the key is there; unless lru_get_or_insert found it, it has the value */
+#define LRU_STORED 0u        /* the key is there, with the new value unless lru_get_or_insert found it */
 #define LRU_REJECTED 1u      /* the key is not there, although no allocation failed: the entry does not fit */
 #define LRU_OUT_OF_MEMORY 2u /* there was no memory: tested, as a contract names no cause */
 #define LRU_NO_MAP 3u        /* the handle has no map */
@@ -160,14 +160,14 @@ void lru_set_max_length(struct lru *lru, uint32_t max_length);
 /* Removes all entries. The map keeps the memory of its table. */
 void lru_clear(struct lru *lru);
 
-/* Returns the number of entries that the table holds for sure without taking memory. */
+/* Returns how many entries the table is sure to hold without taking more memory. */
 size_t lru_capacity(struct lru *lru);
 
 /* Returns the number of bytes of the table. */
 size_t lru_memory_usage(struct lru *lru);
 
-/* Makes the table large enough for `additional` more entries. Returns whether it is: false says that there was no
- * memory (tested), or that no table is large enough. The entries stay in any case. */
+/* Makes the table large enough for `additional` more entries. Returns whether it is large enough: false says that there
+ * was no memory (tested), or that no table is large enough. The entries stay in any case. */
 bool lru_reserve(struct lru *lru, size_t additional);
 
 /* Shrinks the table to the fewest buckets that hold the entries. If there was no memory for the smaller table

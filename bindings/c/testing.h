@@ -1,4 +1,4 @@
-/* What the random calls share: random numbers, requests for memory that are refused, and a check that ends a test. */
+/* What the tests by random calls share: random numbers, a malloc that can fail, and a check that ends a test. */
 #ifndef TESTING_H
 #define TESTING_H
 
@@ -7,7 +7,7 @@
 #include <stdint.h>
 #include <stdio.h>
 
-/* If fail_each is not 0, each such request is refused; so is any of more than 2^40 bytes. Linked with --wrap=malloc. */
+/* If fail_each is n > 0, every nth request is refused. Requests above 2^40 bytes always are. Needs --wrap=malloc. */
 static unsigned long fail_each, asked, refused;
 void *__real_malloc(size_t size);
 void *__wrap_malloc(size_t size);

@@ -1,6 +1,6 @@
-//! Makes the same random calls on schnellru and on jeerdurian, with one hasher, and compares after each call what it
-//! returned, the order, the limiter's callbacks, the memory, the capacity, and how many hashes it computed: one for the
-//! key, and one for each entry that moved.
+//! Makes the same random calls on schnellru and on jeerdurian, with one hasher. After each call, compares the result,
+//! the order, the limiter's callbacks, the memory, the capacity, and the number of hashes: one for the key, and one for
+//! each entry that moved.
 //!
 //!     calls [CALLS [SEED]]       about so many calls in all; prints a line for each limiter
 use std::cell::Cell;
@@ -61,7 +61,7 @@ pub trait Engine {
     fn seen(&mut self, answer: String, hashes: u64) -> Seen;
 }
 
-/// What a call shows. A panic, as of `reserve_or_panic`, is an answer.
+/// What a call shows. A panic, such as the panic of `reserve_or_panic`, is an answer.
 fn made(engine: &mut dyn Engine, call: Call) -> Seen {
     HASHES.set(0);
     let answer = catch_unwind(AssertUnwindSafe(|| engine.call(call))).unwrap_or("panic".into());
@@ -94,9 +94,10 @@ fn reserved(call: Call) -> Option<usize> {
     }
 }
 
-/// How two sights of the same call differ, if they do. What docs/DIFFERENCES.md lists is named without capitals.
+/// How both crates differ on a call, if they do. The names of differences that docs/DIFFERENCES.md lists have no
+/// capitals.
 fn difference(call: Call, up: &mut Seen, here: &Seen) -> Option<&'static str> {
-    // schnellru asks once more after it evicted the last entry.
+    // schnellru calls `is_over_the_limit` once more after it evicted the last entry.
     if here.order.is_empty() && up.log.len() == here.log.len() + 1 && up.log.last().is_some_and(|it| it == "over 0") {
         up.log.pop();
     }

@@ -1,4 +1,4 @@
-// One of both crates, named `krate`, behind a common form. `calls.rs` includes this file twice.
+// One of the two crates, named `krate`, behind a common interface. `calls.rs` includes this file for each.
 use super::{Call, Engine, Hasher, Seen, reserved};
 use krate::{ByLength, ByMemoryUsage, Limiter, LruMap, Unlimited, UnlimitedCompact};
 
@@ -105,7 +105,7 @@ fn shown(x: impl std::fmt::Debug) -> String {
     format!("{x:?}")
 }
 
-/// Takes from both ends of an iterator, as the bits of `v` say.
+/// Takes items from both ends of an iterator; the bits of `v` say from which end.
 fn both_ends<I: ExactSizeIterator + DoubleEndedIterator>(mut it: I, v: u64) -> Vec<I::Item> {
     let mut taken = Vec::new();
     while it.len() > 0 {

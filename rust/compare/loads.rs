@@ -18,8 +18,8 @@ impl Made for schnellru::RandomState {
     }
 }
 
-// All maps of a process have the same seeds, as those of a checkout without a source of random numbers: the processor
-// foresees the branches of a fill that it has seen before.
+// All maps of a process have the same seeds, like the maps of a checkout without a source of random numbers: the
+// processor predicts the branches of a fill that it has seen before.
 impl Made for jeerdurian::RandomState {
     fn made() -> Self {
         static SEEDS: std::sync::OnceLock<jeerdurian::RandomState> = std::sync::OnceLock::new();

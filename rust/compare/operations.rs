@@ -1,8 +1,8 @@
 //! The eight loads: which operations each makes, and how their time is taken.
 //!
-//! A cache is filled, and then the operations are made; each part is timed alone. A time is the best of several rounds,
-//! in which the engines take turns. ENGINES (names with | between them) and COUNT (operations) are for counts.py, which
-//! counts the instructions of `fill` or of `operate`.
+//! A cache is filled, and then the operations are made; each part is timed alone. A time is the best of several rounds;
+//! in each round the engines take turns. ENGINES (names with | between them) and COUNT (operations) are for counts.py,
+//! which counts the instructions of `fill` or of `operate`.
 use std::hint::black_box;
 use std::time::Instant;
 
@@ -132,8 +132,8 @@ fn measure(load: &str, n: u64, rounds: usize, count: u64, capacity: usize, engin
     println!("{load} {n} {}", best.iter().map(|it| format!("{:.2}", it * 1e9)).collect::<Vec<_>>().join(" "));
 }
 
-/// Times the loads that the arguments name, ROUNDS [SIZES [LOAD..]]. `capacity_of_fill` is the capacity under which a fill
-/// with n keys runs.
+/// Times the loads that the arguments name, ROUNDS [SIZES [LOAD..]]. `capacity_of_fill` is the cache's capacity in a
+/// fill with n keys.
 pub fn time(all: &[Engine], sizes: &str, count: u64, capacity_of_fill: fn(u64) -> usize) {
     let mut args = std::env::args().skip(1);
     let rounds = args.next().and_then(|it| it.parse().ok()).unwrap_or(3);

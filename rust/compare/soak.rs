@@ -1,9 +1,9 @@
-//! Makes a billion random calls on one map of each crate, with few comparisons: what long runs alone would show.
+//! Makes a billion random calls on one map of each crate, with few comparisons, to find what only long runs show.
 //!
 //!     soak [CALLS [SEED]]
 //!
-//! The answers are compared by a sum after each million of calls, and then the order. No insert may report that the map
-//! ran out of memory. The keys change their range from round to round, so that the table grows, is rehashed and shrinks.
+//! After each million calls, compares a sum of the answers, and the order. No insert may report that the map ran out of
+//! memory. The keys change their range from round to round, so that the table grows, is rehashed and shrinks.
 use jeerdurian::More;
 
 struct Random(u64);

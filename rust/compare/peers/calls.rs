@@ -2,7 +2,7 @@
 //!
 //!     calls [CALLS [SEED]]        1,000,000 calls of each crate, if nothing else is said
 //!
-//! After each call it compares the answer, the order with the stored keys, the length, and what was dropped, in order.
+//! After each call, compares the result, the order, the stored keys, the length, and the drops in their order.
 
 use std::borrow::Borrow;
 use std::cell::RefCell;
@@ -19,7 +19,7 @@ fn dropped() -> Vec<(u32, u32)> {
     DROPS.with(|it| std::mem::take(&mut *it.borrow_mut()))
 }
 
-/// Keys are equal if their numbers are. The tag shows which of them is stored.
+/// Keys are equal if their numbers are. The tag shows which of two equal keys is stored.
 struct Key(u32, u32);
 
 impl PartialEq for Key {
@@ -80,7 +80,7 @@ impl Drop for Value {
     }
 }
 
-/// A call: its kind, the number of its key, and a number for all else.
+/// A call: its kind, the number of its key, and a number for all other choices.
 #[derive(Clone, Copy, Debug)]
 struct Call(u32, u32, u32);
 
@@ -107,7 +107,7 @@ fn written(value: Option<&mut Value>, n: u32) -> String {
     was
 }
 
-/// Takes from the front, or from the back, as the bits of `n` say, and goes on when the iterator is empty.
+/// Takes from the front or the back, as the bits of `n` say, and goes on after the iterator is empty.
 fn both_ends<T>(len: usize, n: u32, mut next: impl FnMut(bool) -> Option<T>) -> Vec<Option<T>> {
     (0..len + 2).map(|i| next((n >> (i % 9)) & 1 == 0)).collect()
 }

@@ -1,4 +1,4 @@
-// The calls of `lru` on the crate that is named `krate`. `calls.rs` includes this file twice.
+// The calls of `lru` on the crate named `krate`. `calls.rs` includes this file for the crate and for its door.
 use super::{Cache, Call, Key, State, Value, both_ends, shown, written};
 use krate::LruCache;
 

@@ -1,5 +1,4 @@
-//! Times eight loads on `lru`, on `hashlink`, and on the doors of jeerdurian in their places, in one program and with
-//! one hasher.
+//! Times eight loads on `lru`, on `hashlink`, and on their doors, in one program and with one hasher.
 //!
 //!     times ROUNDS [SIZES [LOAD..]]      prints: load size, and nanoseconds an operation for each engine
 //!

@@ -1,5 +1,5 @@
-//! Caches above the LRU map: a map that counts, functions that remember their results, a hash map in the order of
-//! insertion, and a write-back cache of the blocks of a device.
+//! Caches: an LRU map that counts, functions that remember their results, a hash map in the order of insertion, and a
+//! write-back cache of a device's blocks.
 
 mod counted;
 mod devices;

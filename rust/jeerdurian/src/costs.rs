@@ -79,7 +79,7 @@ impl<T: OwnedBytes> OwnedBytes for Vec<T> {
 }
 
 impl<T: OwnedBytes, const N: usize> OwnedBytes for [T; N] {
-    /// Returns the bytes that its items own.
+    /// Returns the bytes that the items own.
     #[inline]
     fn owned_bytes(&self) -> u64 {
         items_own(self)
@@ -87,14 +87,14 @@ impl<T: OwnedBytes, const N: usize> OwnedBytes for [T; N] {
 }
 
 impl<T: OwnedBytes> OwnedBytes for Box<[T]> {
-    /// Returns the bytes of its block, plus the bytes that its items own.
+    /// Returns the bytes of the block, plus the bytes that the items own.
     fn owned_bytes(&self) -> u64 {
         block_bytes::<T>(self.len()).saturating_add(items_own(self))
     }
 }
 
 impl OwnedBytes for Box<str> {
-    /// Returns the bytes of its block.
+    /// Returns the bytes of the block.
     #[inline]
     fn owned_bytes(&self) -> u64 {
         block_bytes::<u8>(self.len())

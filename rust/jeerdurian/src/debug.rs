@@ -1,4 +1,4 @@
-//! Impls of `Debug` for types whose keys, values or closures need not be `Debug`. They show a name and perhaps a field.
+//! Impls of `Debug` for types whose keys, values or closures need not be `Debug`. They show a name, and some a field.
 
 use crate::erased::lru_limits::LinkType;
 use crate::erased::{ordered_table, schnellru};
@@ -34,7 +34,7 @@ shows! {
     [] DefaultHasher: crate::DefaultHasher;
 }
 
-// The types that are fields of the types above, or of the types of the caches.
+// The types of fields of the types above, or of the caches.
 shows! {
     [K, V, N: LinkType] Keys: ordered_table::Keys<'_, K, V, N>, left: |it| it.len();
     [K, V, N: LinkType] Values: ordered_table::Values<'_, K, V, N>, left: |it| it.len();

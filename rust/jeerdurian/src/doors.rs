@@ -13,17 +13,17 @@ use core::hash::{BuildHasher, Hash};
 #[cfg(feature = "hashlink")]
 pub(crate) use oldest_first::OldestFirst;
 
-/// The table of a cache. Its links are as wide as memory, so they bound no cache.
+/// The table of a cache. Its links are `usize`, so they limit no cache.
 pub(crate) type Table<K, V> = OrderedTable<K, V, usize>;
 
-/// The map of a cache. It evicts nothing by itself: the door removes the oldest entry at the moment its crate does.
+/// The map of a cache. It evicts nothing by itself: the door removes the oldest entry when the door's crate does.
 pub(crate) type Map<K, V, S> = proved::LruMap<K, V, Unlimited, S>;
 
 pub(crate) fn new_map<K: Hash + Eq, V, S: BuildHasher>(hasher: S) -> Map<K, V, S> {
     Map::with_limiter_and_hasher(Global, Unlimited, hasher)
 }
 
-/// Clones a map. Without memory the program ends, as it does with both crates.
+/// Clones a map. If memory runs out, the program ends, as with both crates.
 pub(crate) fn clone_map<K: Clone, V: Clone, S: Clone>(map: &Map<K, V, S>) -> Map<K, V, S> {
     map.try_clone().unwrap_or_else(|_| out_of_memory::<K, V>())
 }
@@ -53,9 +53,9 @@ pub(crate) fn replace<K, V, S>(map: &mut Map<K, V, S>, b: usize, value: V) -> V 
     core::mem::replace(map.entries.pair_mut(b).1, value)
 }
 
-/// Inserts a key that has this hash and is not there, as the newest. Lends its entry.
+/// Inserts an absent key that has this hash, as the newest. Lends its entry.
 ///
-/// A key that lies may be there all the same. Then it is there twice, as after an insert into an `LruMap`.
+/// If the key's `Hash` or `==` is wrong, the key may be there already. Then it is there twice, as in an `LruMap`.
 #[inline]
 pub(crate) fn insert_absent<K: Hash + Eq, V, S: BuildHasher>(
     map: &mut Map<K, V, S>,
@@ -71,7 +71,7 @@ pub(crate) fn insert_absent<K: Hash + Eq, V, S: BuildHasher>(
     map.entries.entry_mut(map.entries.newest())
 }
 
-/// The entries of a table that was a map's, the oldest first.
+/// The entries of a table that was taken from a map, the oldest first.
 pub(crate) struct Taken<K, V>(pub(crate) Table<K, V>);
 
 impl<K, V> Iterator for Taken<K, V> {
@@ -100,8 +100,8 @@ impl<K, V> DoubleEndedIterator for Taken<K, V> {
 
 /// Defines the iterators of a cache, and the calls whose names and results are the same in both crates.
 ///
-/// `$first` names the entry that an iterator returns first, and `$ordered` makes an iterator that begins with it, of
-/// type `Ordered<T>`, from one that begins with the newest entry. `LruCache` has the fields `map` and `cap`.
+/// `$first` names the entry that an iterator returns first. `$ordered` turns an iterator that begins with the newest
+/// entry into an `Ordered<T>`, which begins with `$first`. `LruCache` has the fields `map` and `cap`.
 macro_rules! shared_calls {
     ($first:literal, $ordered:path, $promote:ident, $pop:ident, $pop_entry:ident, $pop_lru:ident) => {
         #[doc = concat!("An iterator over the entries of a cache, the ", $first, " first.")]

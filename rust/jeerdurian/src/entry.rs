@@ -7,13 +7,13 @@ use core::hash::{BuildHasher, Hash};
 
 /// An entry that [`More::find_entry`](crate::More::find_entry) has found. Its calls do not search again.
 ///
-/// What the docs of its calls say of the entries, of their order and of what they return is proved of the sources.
+/// What the docs of its calls say about entries, order and result is proved of the sources.
 pub struct OccupiedEntry<'a, K, V, L: Limiter<K, V>, S> {
     pub(crate) entry: proved::OccupiedEntry<'a, K, V, Calls<L>, S>,
 }
 
 impl<'a, K: Hash + PartialEq, V, L: Limiter<K, V>, S: BuildHasher> OccupiedEntry<'a, K, V, L, S> {
-    /// Returns the stored key, not the equal key that was looked up.
+    /// Returns the stored key, not the equal key of the look-up.
     #[inline]
     pub fn key(&self) -> &K {
         self.entry.key()
@@ -49,16 +49,16 @@ impl<'a, K: Hash + PartialEq, V, L: Limiter<K, V>, S: BuildHasher> OccupiedEntry
         self.entry.demote();
     }
 
-    /// Removes the entry. Returns the stored key and the value, as the limiter leaves them.
+    /// Removes the entry. Returns the stored key and the value, as the limiter left them.
     #[inline]
     pub fn remove_entry(self) -> (K, V) {
         self.entry.remove_entry()
     }
 
-    /// Removes the entry. Returns the value, as the limiter leaves it.
+    /// Removes the entry. Returns the value, as the limiter left it.
     #[inline]
     pub fn remove(self) -> V {
-        // Not `.1`: if the drop of the key panics, the value is then dropped, too.
+        // Not `.1`, so that the value is dropped, too, if the drop of the key panics.
         let (_, value) = self.remove_entry();
         value
     }

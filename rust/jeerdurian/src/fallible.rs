@@ -1,4 +1,4 @@
-//! The calls that take memory, in forms that return an error when it runs out.
+//! Forms of the calls that take memory, which return an error when it runs out.
 
 use crate::erased::lru_limits::KeyHasher;
 use crate::keys::{Named, Offered};
@@ -18,8 +18,8 @@ fn discard<K, V>(key: K, value: V) {
     drop(value);
 }
 
-/// The calls of a map that take memory, each with an error for *out of memory*. [`More::fallible`](crate::More::fallible)
-/// makes it, for one call.
+/// Forms of a map's calls that take memory, each with an error for *out of memory*.
+/// [`More::fallible`](crate::More::fallible) makes a `Fallible` for one call.
 ///
 /// ```
 /// use jeerdurian::{ByLength, LruMap, More};
@@ -40,13 +40,13 @@ where
     S: BuildHasher,
     L: Limiter<K, V>,
 {
-    /// Inserts as [`LruMap::insert`] does. Proved: `Ok(true)` exactly if the key is there, as the newest, within the
-    /// limit; an `Err` leaves the newest of the entries.
+    /// Inserts as [`LruMap::insert`] does. Proved: `Ok(true)` means that the key is there, as the newest, within the
+    /// limit, and `Ok(false)` that it is not there. After an `Err`, only the oldest entries may be gone.
     ///
     /// # Errors
     ///
-    /// Out of memory. The new entry is not in the map then, and no other entry was evicted than a successful insert
-    /// would have evicted.
+    /// Out of memory. The new entry is not in the map then. If entries were evicted, a successful insert would have
+    /// evicted them, too.
     #[inline]
     pub fn insert<'a>(self, key: L::KeyToInsert<'a>, value: V) -> Result<bool, AllocError>
     where
@@ -55,12 +55,12 @@ where
         self.map.map.insert_with(Offered(key), value, &mut discard)
     }
 
-    /// Inserts as [`More::insert_full`](crate::More::insert_full) does. Proved: as of `insert`, and the value that it
-    /// returns.
+    /// Inserts as [`More::insert_full`](crate::More::insert_full) does. Proved: the same as for `insert`, and the
+    /// returned value.
     ///
     /// # Errors
     ///
-    /// As `insert`. The callback got the new entry then.
+    /// As for `insert`. The callback got the new entry then.
     #[inline]
     pub fn insert_full<'a>(
         self,
@@ -74,12 +74,12 @@ where
         self.map.map.insert_full(Offered(key), value, &mut lost)
     }
 
-    /// Lends the value of a key as the newest, and inserts it first if the key is not there. Proved: the look-up, as of
-    /// `LruMap::get`, and the insert, as of `insert`.
+    /// Lends the value of a key as the newest. If the key is absent, first inserts it. Proved: the same as for
+    /// `LruMap::get` and `insert`.
     ///
     /// # Errors
     ///
-    /// The closure's error, and nothing has changed; or out of memory, as of `insert`.
+    /// `Caller`: the closure's error; nothing has changed. `Memory`: as for `insert`.
     #[inline]
     pub fn get_or_insert<'a, E>(
         self,
@@ -97,7 +97,7 @@ where
         }
         let value = get().map_err(GetOrInsertError::Caller)?;
         let key = Offered(key.into());
-        // A conversion need not keep the hash. If it does, the key is not there, and needs no second search.
+        // A conversion need not keep the hash. If it does, the key is absent, and no second search is needed.
         let kept = if map.hasher().hash_named(&key) == hash {
             map.insert_new(hash, key, value, &mut discard)
         } else {
@@ -110,11 +110,11 @@ where
         }
     }
 
-    /// Clones the map as `clone` does. Proved: as of the clone of `LruMap`.
+    /// Clones the map as `clone` does. Proved: the same as for `More::try_clone`.
     ///
     /// # Errors
     ///
-    /// Out of memory for the table. A `Clone` of a key or a value does not return then.
+    /// Out of memory for the table. A `Clone` of a key or a value that runs out of memory does not return.
     pub fn clone(self) -> Result<LruMap<K, V, L, S>, AllocError>
     where
         K: Clone,
@@ -125,8 +125,8 @@ where
         Ok(LruMap { map: self.map.map.try_clone()? })
     }
 
-    /// Moves the entries into the smallest table that holds them. Returns whether it moved them. Proved: as of
-    /// `More::shrink_to_fit`.
+    /// Moves the entries into the smallest table that holds them. Returns whether it moved them. Proved: the same as
+    /// for `More::shrink_to_fit`.
     ///
     /// # Errors
     ///

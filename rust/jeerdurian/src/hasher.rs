@@ -1,4 +1,4 @@
-//! The default hasher's seeds.
+//! The seeds of the default hasher.
 
 use crate::erased::lru_limits;
 use crate::erased::lru_limits::DefaultHasher;
@@ -6,12 +6,13 @@ use core::hash::BuildHasher;
 
 /// Builds the default hasher of a map from its seeds.
 ///
-/// Its algorithm is not that of `schnellru`. Proved: equal seeds and equal bytes give equal hashes.
+/// The hasher of `schnellru` has another algorithm. Proved: equal seeds and equal bytes give equal hashes.
 #[derive(Clone, Copy, Debug)]
 pub struct RandomState(lru_limits::RandomState);
 
 impl RandomState {
-    /// Takes these seeds. Call it for equal hashes in each run; if strangers choose the keys, nobody may guess the seeds.
+    /// Takes these seeds, so that each run gives equal hashes. If strangers choose the keys, they must not know the
+    /// seeds.
     ///
     /// ```
     /// use jeerdurian::RandomState;
@@ -36,7 +37,7 @@ impl BuildHasher for RandomState {
 
 #[cfg(feature = "runtime-rng")]
 impl Default for RandomState {
-    /// Takes random seeds, from those of std's hash maps.
+    /// Takes random seeds, made from the random seeds of std's hash maps.
     fn default() -> Self {
         extern crate std;
         let state = std::collections::hash_map::RandomState::new();

@@ -1,7 +1,7 @@
-//! `LruCache` with the API of the crate `hashlink` 0.8, over the map that [`LruMap`](crate::LruMap) is over.
+//! `LruCache` with the API of the crate `hashlink` 0.8, over the map that is inside [`LruMap`](crate::LruMap).
 //!
-//! In Cargo.toml, `hashlink = { package = "jeerdurian-hashlink", path = ".." }` puts it in the place of `hashlink`, for
-//! a program that uses its `LruCache` alone. The front of a cache is its oldest entry, and the back its newest.
+//! In Cargo.toml, `hashlink = { package = "jeerdurian-hashlink", path = ".." }` replaces `hashlink`, for a program that
+//! uses only its `LruCache`. The front of a cache is its oldest entry, and the back its newest.
 //!
 //! ```
 //! use jeerdurian::hashlink::LruCache;
@@ -14,8 +14,8 @@
 //! assert!(cache.iter().eq([(&"a", &11), (&"c", &3)]));
 //! ```
 //!
-//! A value moves when the table grows, so an address of it that unsafe code kept is wrong then. `hashlink` 0.8.0
-//! accepts a program that shares a `Cell` between threads. Here it does not compile:
+//! A value moves when the table grows, so unsafe code must not keep its address. `hashlink` 0.8.0 accepts a program
+//! that shares a `Cell` between threads. Here the program does not compile:
 //!
 //! ```compile_fail,E0277
 //! let mut cache = jeerdurian::hashlink::LruCache::new(1);
@@ -35,7 +35,7 @@ use core::hash::{BuildHasher, Hash};
 
 mod entry;
 
-/// The types of the module of this name in `hashlink`.
+/// The types of the module `lru_cache` of `hashlink`.
 pub mod lru_cache {
     pub use super::entry::*;
     pub use super::{Drain, IntoIter, Iter, IterMut, LruCache};
@@ -46,10 +46,10 @@ pub use lru_cache as linked_hash_map;
 /// The default hasher of a cache. Its seeds are random.
 pub type DefaultHashBuilder = crate::RandomState;
 
-/// A cache of at most `capacity` entries. A new entry evicts the oldest one, which was not used for the longest time.
+/// A cache of at most `capacity` entries. A new entry evicts the oldest entry: the least recently used.
 ///
-/// An [`entry`](Self::entry) may be inserted beyond the capacity, by one. The next call of `entry` or `raw_entry_mut`,
-/// or an insert, then evicts at most one entry.
+/// An [`entry`](Self::entry) may be inserted beyond the capacity, by one. Then the next insert, or the next call of
+/// `entry` or `raw_entry_mut`, evicts at most one entry.
 pub struct LruCache<K, V, S = DefaultHashBuilder> {
     map: Map<K, V, S>,
     cap: usize,
@@ -82,8 +82,8 @@ impl<K, V, S> LruCache<K, V, S> {
         self.drain();
     }
 
-    /// Takes the entries out, the oldest first. If the iterator is dropped, the rest is dropped. If it is forgotten,
-    /// the rest leaks, and the cache is empty and has no table.
+    /// Takes the entries out, the oldest first. Dropping the iterator drops the rest. If the iterator is forgotten, the
+    /// rest leaks, and the cache is empty and has no table.
     pub fn drain(&mut self) -> Drain<'_, K, V> {
         let entries = Taken(core::mem::replace(&mut self.map.entries, Table::new(Global)));
         Drain { entries, table: &mut self.map.entries }
@@ -96,8 +96,8 @@ impl<K: Eq + Hash, V, S: BuildHasher> LruCache<K, V, S> {
         LruCache { map: new_map(hash_builder), cap: capacity }
     }
 
-    /// Inserts a key with a value, as the newest. Returns the old value if the key was there; the stored key stays.
-    /// If the cache is above its capacity then, the oldest entry is evicted. Cost: `O(1)` expected, amortised.
+    /// Inserts a key with a value, as the newest. If the key was there, returns the old value; the stored key stays.
+    /// Then, if the cache is above its capacity, evicts the oldest entry. Cost: `O(1)` expected, amortised.
     pub fn insert(&mut self, k: K, v: V) -> Option<V> {
         match bucket_or_hash(&self.map, &k) {
             Ok(b) => {
@@ -108,7 +108,7 @@ impl<K: Eq + Hash, V, S: BuildHasher> LruCache<K, V, S> {
             }
             Err(_) if self.cap == 0 && self.is_empty() => drop((k, v)),
             Err(hash) => {
-                // The oldest entry makes room first, so that the table need not grow for the new one.
+                // The oldest entry is removed first, so that the table need not grow for the new entry.
                 let _evicted = if self.len() >= self.cap { self.remove_lru() } else { None };
                 insert_absent(&mut self.map, hash, k, v);
             }
@@ -140,7 +140,7 @@ impl<K: Eq + Hash, V, S: BuildHasher> Extend<(K, V)> for LruCache<K, V, S> {
 /// An iterator that takes the entries out of a cache, the oldest first.
 pub struct Drain<'a, K, V> {
     entries: Taken<K, V>,
-    // The place of the table, which comes back when it is empty.
+    // The cache's place for the table, which is put back when it is empty.
     table: &'a mut Table<K, V>,
 }
 
@@ -160,7 +160,7 @@ impl<K: Debug, V: Debug, S> Debug for LruCache<K, V, S> {
     }
 }
 
-// An iterator shows what is left.
+// The `Debug` of an iterator shows what is left.
 macro_rules! shows {
     ($($name:ty: $field:ident;)*) => {$(
         impl<K: Debug, V: Debug> Debug for $name {

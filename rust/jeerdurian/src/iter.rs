@@ -51,12 +51,12 @@ where
     pub(crate) drain: proved::Drain<'a, K, V, Calls<L>, S>,
 }
 
-/// An iterator that owns a map and takes the entries out of it, the newest first. Proved: as of [`Drain`].
+/// An iterator that owns a map and takes its entries out, the newest first. Proved: the same as for [`Drain`].
 pub struct IntoIter<K, V, L: Limiter<K, V>, S> {
     entries: proved::IntoIter<K, V, Calls<L>, S>,
 }
 
-// The impls of an iterator that passes each call on to its field. `last` and `count` do not walk.
+// Impls for iterators that pass each call on to a field. `last` and `count` do not walk.
 macro_rules! passes_on {
     ([$($parameters:tt)*] $name:ty, $item:ty, $field:ident) => {
         passes_on!([$($parameters)*] $name, $item, $field, where);
@@ -154,7 +154,7 @@ where
 
 /// An iterator over the entries of a map, the newest first, that lends their values for writing.
 ///
-/// The proved map lends one entry at a time. This iterator, as `schnellru`'s, lends many at once; it is not proved.
+/// The proved map lends one entry at a time. This iterator lends many at once, as in `schnellru`; it is not proved.
 pub struct IterMut<'a, K, V, L: Limiter<K, V>> {
     walk: WalkMut<'a, K, V, L::LinkType>,
 }
@@ -167,7 +167,7 @@ impl<'a, K, V, L: Limiter<K, V>> IterMut<'a, K, V, L> {
 
 passes_on!(['a, K, V, L: Limiter<K, V>] IterMut<'a, K, V, L>, (&'a K, &'a mut V), walk);
 
-/// Where a walk that lends is: the buckets of the first and of the last entry that is left, and how many are left.
+/// The state of a walk that lends: the buckets of the first and the last entry that are left, and how many are left.
 pub(crate) struct WalkMut<'a, K, V, N: LinkType> {
     entries: &'a mut OrderedTable<K, V, N>,
     front: usize,
@@ -181,8 +181,8 @@ impl<'a, K, V, N: LinkType> WalkMut<'a, K, V, N> {
         if left == 0 {
             return WalkMut { entries, front: 0, back: 0, left };
         }
-        // The links of the newest entry are written now, if its promotion waits. So a step reads only the links of the
-        // entry that it lends, and of none that an earlier step lent.
+        // If a promotion is noted, its links are written now. So a step reads only the links of the entry that it
+        // lends, and no entry that an earlier step lent.
         entries.settle();
         let (front, back) = (entries.newest(), entries.oldest());
         WalkMut { entries, front, back, left }
@@ -203,7 +203,7 @@ impl<'a, K, V, N: LinkType> WalkMut<'a, K, V, N> {
             (key, value)
         };
         // SAFETY: each step lends another entry of a table that is borrowed for 'a, and no step reads an entry that an
-        // earlier one lent.
+        // earlier step lent.
         unsafe { (&*key, &mut *value) }
     }
 }

@@ -1,10 +1,10 @@
-//! Keys as the proved map sees them: what it is looked up by, and what is offered to it.
+//! Keys as the proved map sees them: look-up keys, and keys offered to an insert.
 
 use crate::erased::lru_limits::LookupKey;
 use core::borrow::Borrow;
 use core::hash::{Hash, Hasher};
 
-/// What a key is looked up by: any type that can be compared with it, and that hashes as it does.
+/// A look-up key: any value that can be compared with the map's keys, and hashes as they do.
 pub(crate) struct Named<'a, Q: ?Sized>(pub(crate) &'a Q);
 
 impl<Q: Hash + ?Sized> Hash for Named<'_, Q> {
@@ -21,7 +21,7 @@ impl<K: PartialEq + Hash, Q: Hash + PartialEq<K> + ?Sized> LookupKey<K> for Name
     }
 }
 
-/// A key that is offered to an insert. It has no `==`, so it is no key of a map itself.
+/// A key that is offered to an insert. It has no `==` of its own, so it cannot be a map's key.
 pub(crate) struct Offered<Q>(pub(crate) Q);
 
 impl<Q: Hash> Hash for Offered<Q> {
@@ -38,7 +38,7 @@ impl<K: PartialEq + Hash, Q: Hash + PartialEq<K>> LookupKey<K> for Offered<Q> {
     }
 }
 
-/// What a key is looked up by in a cache: the key, or what it can be borrowed as, such as a `str` for a `String`.
+/// A look-up key of a cache: a key, or what a key can be borrowed as, such as a `str` for a `String`.
 pub(crate) struct Borrowed<'a, Q: ?Sized>(pub(crate) &'a Q);
 
 impl<Q: Hash + ?Sized> Hash for Borrowed<'_, Q> {

@@ -1,7 +1,7 @@
 //! An LRU map with the API and the behaviour of the crate `schnellru` 0.2.4, erased from verified sources.
 //!
-//! [`LruMap`] keeps its entries in the order of their use. A [`Limiter`] decides which entries it accepts and when it is
-//! over its limit; then the least recently used entries are evicted.
+//! [`LruMap`] keeps its entries in the order of their use. A [`Limiter`] decides which entries it accepts and when it
+//! is over its limit. While it is over its limit, the map evicts the least recently used entry.
 //!
 //! ```
 //! use jeerdurian::{ByLength, LruMap};
@@ -14,16 +14,16 @@
 //! assert!(map.peek(&"b").is_none());
 //! ```
 //!
-//! In Cargo.toml, `schnellru = { package = "jeerdurian", path = ".." }` puts it in the place of `schnellru`. The trait
+//! In Cargo.toml, `schnellru = { package = "jeerdurian", path = ".." }` replaces `schnellru` by this crate. The trait
 //! [`More`] adds the calls that `schnellru` lacks.
 //!
 //! # What is proved
 //!
-//! The table, the order of use, the limiters and the calls of the map are written in Rattle, which is Rust with contracts,
-//! and a prover checks that each function meets its contract. A script takes the contracts off, and the result is tested.
-//! What this crate adds by hand, in terms of Rust's library and of `schnellru`'s signatures, is tested and not proved. The
-//! proofs assume that the keys, the hasher and the limiter satisfy the laws of their traits; memory safety does not depend
-//! on that (`SAFETY.md`).
+//! The table, the order of use, the limiters and the calls of the map are written in Rattle, which is Rust with
+//! contracts, and a prover checks that each function meets its contract. A script removes the contracts, and the result
+//! is tested. The code that this crate adds by hand, for Rust's library and for `schnellru`'s signatures, is tested,
+//! not proved. The proofs assume that the keys, the hasher and the limiter satisfy the laws of their traits; memory
+//! safety does not depend on this assumption (`SAFETY.md`).
 #![no_std]
 #![deny(missing_debug_implementations, missing_docs, unsafe_op_in_unsafe_fn)]
 
@@ -77,7 +77,7 @@ pub use types::{
     MoveReport, OwnedBytes, ReserveError, Unlimited, UnlimitedCompact, Updated,
 };
 
-// The unit tests of schnellru, from a file that `rust/upstream.sh` names, and what they take from its root.
+// The unit tests of schnellru, from a file that `rust/upstream.sh` names, and the names that they import from the root.
 #[cfg(all(test, upstream_tests))]
 use core::hash::{BuildHasher, Hash};
 #[cfg(all(test, upstream_tests))]

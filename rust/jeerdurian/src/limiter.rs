@@ -11,8 +11,8 @@ use core::hash::Hash;
 
 /// Decides which entries a map accepts, when it is over its limit, and whether its table may grow.
 ///
-/// The map's answers are proved for limiters whose callbacks depend on their arguments and on the limiter's state alone,
-/// which only the callbacks that take `&mut self` change. With another limiter the map gives other answers, and memory
+/// The map's answers are proved for limiters whose callbacks depend only on their arguments and the limiter's state.
+/// Only callbacks that take `&mut self` may change this state. With other limiters, answers may be wrong, but memory
 /// stays safe.
 ///
 /// ```
@@ -45,16 +45,16 @@ use core::hash::Hash;
 /// assert!(!map.insert(3, "three"));
 /// ```
 pub trait Limiter<K, V> {
-    /// What `insert` takes as a key: the key itself, or something that becomes it only if it is stored.
+    /// What `insert` takes as a key: the key itself, or something that becomes the key only if it is stored.
     type KeyToInsert<'a>;
 
-    /// The type of the links between the entries: `u8`, `u16`, `u32` or `usize`. It bounds the number of entries: 112,
-    /// 28,672, 1,879,048,192, or as many as memory holds.
+    /// The type of the links between the entries: `u8`, `u16`, `u32` or `usize`. It limits the number of entries to
+    /// 112, 28,672, 1,879,048,192, or what memory holds.
     type LinkType: LinkType + Eq + Debug;
 
     /// Returns whether a map of `length` entries is over the limit, so that its oldest entry is evicted.
     ///
-    /// It is asked before an insert of a new entry, with the length that the map will have, and after an insert.
+    /// Called before an insert of a new entry, with the length that the map will have, and after an insert.
     fn is_over_the_limit(&self, length: usize) -> bool;
 
     /// Called before a new entry is stored in a map of `length` entries. `None` rejects it.
@@ -83,10 +83,10 @@ pub trait Limiter<K, V> {
     fn on_grow(&mut self, new_memory_usage: usize) -> bool;
 }
 
-/// A limiter that says in advance what it accepts, which [`More::try_insert`](crate::More::try_insert) asks.
+/// A limiter that says in advance what it accepts. [`More::try_insert`](crate::More::try_insert) needs it.
 ///
-/// The limiters of this crate do. For the promises of `try_insert`, `accepts` returns whether `on_insert` would accept
-/// the entry as it is, and `on_stored` changes the limiter as that `on_insert` would.
+/// The limiters of this crate implement it. The promises of `try_insert` suppose that `accepts` returns whether
+/// `on_insert` would accept the entry unchanged, and that `on_stored` changes the limiter as `on_insert` would.
 pub trait Admission<K, V>: for<'a> Limiter<K, V, KeyToInsert<'a> = K> {
     /// Returns whether `on_insert` would accept this entry in a map of `length` entries.
     fn accepts(&self, length: usize, key: &K, value: &V) -> bool;
@@ -114,7 +114,7 @@ macro_rules! by_the_proved_limiter {
 
             #[inline]
             fn on_replace(&mut self, length: usize, old_key: &mut K, key: K, old: &mut V, new: &mut V) -> bool {
-                // If this drop unwinds, the total still counts the old value.
+                // Dropped first: if the drop unwinds, the total still counts the old value.
                 drop(key);
                 proved::Admission::<K, V>::admit_in_place(self, length, old_key, old, new)
             }
@@ -233,7 +233,7 @@ impl<K, V, L: Admission<K, V>> proved::Admission<K, V> for Calls<L> {
         is_accepted
     }
 
-    // A map of this crate never asks what it would replace in place.
+    // No map of this crate calls this function or the next.
     fn accepts_in_place(&self, _: usize, _: &K, _: &V, _: &V) -> bool {
         false
     }

@@ -1,4 +1,4 @@
-//! The calls that `schnellru` lacks, as a trait: inherent methods would hide those of a trait of yours.
+//! The calls that `schnellru` lacks, as a trait: inherent methods would hide the methods of your traits.
 
 use crate::entry::OccupiedEntry;
 use crate::fallible::Fallible;
@@ -10,8 +10,8 @@ use crate::rattle_std::alloc::AllocError;
 use crate::{Inserted, MoveReport, ReserveError, Updated};
 use core::hash::{BuildHasher, Hash};
 
-/// Calls of [`LruMap`] that `schnellru` lacks. Import it to use them. What their docs say of the entries, of their order
-/// and of what they return is proved of the sources, as for `LruMap`.
+/// Calls of [`LruMap`] that `schnellru` lacks. Import it to use them. What their docs say about entries, order and
+/// result is proved of the sources, as for `LruMap`.
 ///
 /// ```
 /// use jeerdurian::{ByLength, LruMap, More};
@@ -31,7 +31,7 @@ where
     S: BuildHasher,
     L: Limiter<K, V>,
 {
-    /// Returns whether a key is there. The order of use stays. Proved: true exactly if there is an entry with this key.
+    /// Returns whether a key is there. The order of use stays. Proved: the answer is exact.
     fn contains(&self, key: &(impl Hash + PartialEq<K> + ?Sized)) -> bool;
 
     /// Returns the stored key and the value of a key. The order of use stays. Proved: it is this key's entry, and
@@ -70,8 +70,8 @@ where
     /// ```
     fn find_entry(&mut self, key: &(impl Hash + PartialEq<K> + ?Sized)) -> Option<OccupiedEntry<'_, K, V, L, S>>;
 
-    /// Returns a handle on the entry with this hash that the closure accepts. Proved: as of [`LruMap::get_by_hash`], but
-    /// the entry is not promoted.
+    /// Returns a handle on the entry with this hash that the closure accepts. Proved: the same as for
+    /// [`LruMap::get_by_hash`], except the promotion.
     fn find_entry_by_hash(
         &mut self,
         hash: u64,
@@ -82,11 +82,11 @@ where
     /// changes.
     fn newest_mut(&mut self) -> Option<&mut V>;
 
-    /// Returns the entry at an index, of which 0 is the newest. Cost: `O(index)`. Proved: it is the entry at this place
+    /// Returns the entry at an index; the newest has index 0. Cost: `O(index)`. Proved: it is the entry at this place
     /// of the order, and `None` exactly if there are too few.
     fn get_index(&self, index: usize) -> Option<(&K, &V)>;
 
-    /// Returns the index of a key's entry, of which 0 is the newest. Cost: `O(len)`. Proved: it is the place of this
+    /// Returns the index of a key's entry; the newest has index 0. Cost: `O(len)`. Proved: it is the place of this
     /// key's entry in the order, and `None` exactly if there is none.
     fn get_index_of(&self, key: &(impl Hash + PartialEq<K> + ?Sized)) -> Option<usize>;
 
@@ -104,19 +104,20 @@ where
     /// Returns the values, the newest first. Proved: each value comes once, in the order of use, from either end.
     fn values(&self) -> Values<'_, K, V, L>;
 
-    /// Removes a key. Returns the stored key and its value, as the limiter leaves them. Proved: exactly this key's
-    /// entry is gone, and the limiter was notified of it.
+    /// Removes a key. Returns the stored key and its value, as the limiter left them. Proved: only this key's entry is
+    /// gone, and the limiter was notified of it.
     fn remove_entry(&mut self, key: &(impl Hash + PartialEq<K> + ?Sized)) -> Option<(K, V)>;
 
-    /// Removes the entries that `keep` rejects. It is asked once for each entry, from the oldest to the newest. Proved:
-    /// the entries that `keep` accepted stay, in their order, and the limiter was notified of each removed one.
+    /// Removes the entries that `keep` rejects. Calls `keep` once for each entry, from the oldest to the newest.
+    /// Proved: the entries that `keep` accepted stay, in their order, and the limiter was notified of each removed
+    /// entry.
     fn retain(&mut self, keep: impl FnMut(&K, &V) -> bool);
 
-    /// The same, and passes each removed entry to a callback, before `keep` is asked again. Proved: as of `retain`, and
-    /// the callback gets each removed entry once.
+    /// Does what `retain` does, and passes each removed entry to a callback before it calls `keep` again. Proved: the
+    /// same as for `retain`, and that the callback gets each removed entry once.
     fn retain_with(&mut self, keep: impl FnMut(&K, &V) -> bool, removed: impl FnMut(K, V));
 
-    /// Removes the oldest entry if the closure agrees. Proved: if the closure disagrees, nothing changes.
+    /// Removes the oldest entry if the closure accepts it. Proved: otherwise nothing changes.
     fn pop_oldest_if(&mut self, accepts: impl FnOnce(&K, &V) -> bool) -> Option<(K, V)>;
 
     /// Inserts as [`LruMap::insert`] does, and passes to a callback each entry that the map evicts, removes, or cannot
@@ -125,16 +126,15 @@ where
     where
         L::KeyToInsert<'a>: Hash + PartialEq<K>;
 
-    /// The same, and returns the value that the map does not keep if the key is there: the old one, or the new one if
-    /// the limiter rejects it. Out of memory, nothing is kept. Proved: as of `insert_with`, and the value that it
-    /// returns.
+    /// Does what `insert_with` does. If the key was there, also returns the old value, or the new value if the limiter
+    /// rejects it. Out of memory, returns no value. Proved: the same as for `insert_with`, and the returned value.
     fn insert_full<'a>(&mut self, key: L::KeyToInsert<'a>, value: V, lost: impl FnMut(K, V)) -> Inserted<V>
     where
         L::KeyToInsert<'a>: Hash + PartialEq<K>;
 
-    /// Inserts a new key if nothing has to be evicted for it: the key is absent, the limiter accepts the entry and is
-    /// within its limit with it, and a bucket takes it. Proved: after an `Ok` the map has this entry before all that it
-    /// had, and is within its limit.
+    /// Inserts an absent key if the limiter accepts the entry, nothing has to be evicted, and the table has or gets a
+    /// bucket for the entry. Proved: after an `Ok`, the new entry comes before all old entries, and the map is within
+    /// its limit.
     ///
     /// # Errors
     ///
@@ -151,14 +151,14 @@ where
     where
         L: Admission<K, V> + Copy;
 
-    /// Replaces the value of a key that is there, if the limiter accepts that. The entry keeps its place in the order.
+    /// Replaces the value of a key that is there, if the limiter accepts the new value. The entry keeps its place.
     /// Proved: the entries keep their order, and without this key nothing changes.
     fn update<'a>(&mut self, key: L::KeyToInsert<'a>, value: V) -> Updated<V>
     where
         L::KeyToInsert<'a>: Hash + PartialEq<K>;
 
     /// Updates as [`update`](Self::update) does, and passes each entry that the map evicts or removes to a callback.
-    /// Proved: what is proved of `update`, and that the callback gets each of these entries once, in order.
+    /// Proved: the same as for `update`, and that the callback gets each of these entries once, in order.
     ///
     /// ```
     /// use jeerdurian::{ByCost, LruMap, More, Updated};
@@ -177,8 +177,8 @@ where
     /// empty, and only the oldest entries are gone.
     fn trim(&mut self);
 
-    /// Trims as [`trim`](Self::trim) does, and passes each evicted entry to a callback, the oldest first. Proved: what
-    /// is proved of `trim`, and that the callback gets each evicted entry once.
+    /// Trims as [`trim`](Self::trim) does, and passes each evicted entry to a callback, the oldest first. Proved: the
+    /// same as for `trim`, and that the callback gets each evicted entry once.
     ///
     /// ```
     /// use jeerdurian::{ByLength, LruMap, More};
@@ -192,12 +192,12 @@ where
     /// ```
     fn trim_with(&mut self, evicted: impl FnMut(K, V));
 
-    /// Sets the limiter, and evicts the oldest entries while it is over its limit. Returns the old one. A running total
-    /// is the new limiter's own: it is not computed from the entries. Proved: as of `trim`, under the new limiter.
+    /// Sets the limiter, and evicts the oldest entries while it is over its limit. Returns the old limiter. The map
+    /// does not compute a running total for the new limiter. Proved: the same as for `trim`, under the new limiter.
     fn set_limiter(&mut self, limiter: L) -> L;
 
     /// Sets the limiter as [`set_limiter`](Self::set_limiter) does, and passes each evicted entry to a callback, the
-    /// oldest first. Proved: what is proved of `trim_with`, under the new limiter.
+    /// oldest first. Proved: the same as for `trim_with`, under the new limiter.
     ///
     /// ```
     /// use jeerdurian::{ByLength, LruMap, More};
@@ -213,17 +213,16 @@ where
     /// Returns the hasher. Proved: it is the hasher that the map was made with.
     fn hasher(&self) -> &S;
 
-    /// Reserves growth for at least `additional` new entries. Proved: an `Ok` leaves growth for that many entries, and
-    /// the entries stay in any case.
+    /// Reserves growth for at least `additional` new entries. Proved: an `Ok` leaves growth for these entries, and the
+    /// stored entries stay in any case.
     ///
     /// # Errors
     ///
-    /// Says why there is no such table. Nothing has changed then.
+    /// Says why the table is not large enough. Nothing has changed then.
     fn try_reserve(&mut self, additional: usize) -> Result<(), ReserveError>;
 
-    /// Moves the entries into the smallest table that holds them. Returns whether it moved them; out of memory, it
-    /// returns false. Proved: the entries and their order stay, and after true the buckets are the fewest that hold
-    /// them.
+    /// Moves the entries into the smallest table that holds them. Returns whether it moved them; false if memory ran
+    /// out. Proved: the entries and their order stay, and after true no table with fewer buckets would hold them.
     fn shrink_to_fit(&mut self) -> bool;
 
     /// Returns how many entries were stored, were moved by inserts, and were rehashed by shrinks.
@@ -235,8 +234,8 @@ where
     ///
     /// # Errors
     ///
-    /// Out of memory for the table. If a `Clone` of a key or a value runs out of memory, it cannot return an error: a
-    /// `Clone` of std ends the program.
+    /// Out of memory for the table. If a `Clone` of a key or a value runs out of memory, it cannot return an error: the
+    /// clones of std end the program.
     ///
     /// ```
     /// use jeerdurian::{ByLength, LruMap, More};
@@ -255,11 +254,11 @@ where
         L: Clone,
         S: Clone;
 
-    /// Returns the calls that need memory in forms that return an error when it runs out.
+    /// Returns forms of the calls that need memory, which return an error when it runs out.
     fn fallible(&mut self) -> Fallible<'_, K, V, L, S>;
 }
 
-/// Only [`LruMap`] has these calls, so that calls can be added.
+/// Only [`LruMap`] implements [`More`], so that calls can be added.
 pub(crate) trait Sealed {}
 
 impl<K, V, L: Limiter<K, V>, S> Sealed for LruMap<K, V, L, S> {}

@@ -47,8 +47,8 @@ pub use crate::erased::ordered_table::Walk as Entries;
 
 impl core::error::Error for TenantError {}
 
-/// A limiter of a tenant: [`ByCost`], by which an entry costs what its value costs, or [`ByWeight`], by which it costs
-/// what its key and its value cost, and a constant for the entry itself.
+/// A limiter of a tenant. With [`ByCost`], an entry costs what its value costs. With [`ByWeight`], an entry costs what
+/// its key and its value cost, plus a constant.
 ///
 /// ```
 /// use jeerdurian::ByWeight;
@@ -69,9 +69,9 @@ impl<K: Eq + Hash + Costed, V: Costed, const OVERHEAD: u64> Budget<K, V> for ByW
 /// The limiter `L` says what an entry costs (see [`Budget`]). The budgets of all tenants add up to at most the total
 /// limit, if [`set_total_limit`](Self::set_total_limit) set one.
 ///
-/// Proved: the cost of a tenant stays within its budget, the sum of all costs stays within the total limit, and what a
-/// call returns depends on the calls of its own tenant alone, except that memory may run out and that `open` and
-/// `set_budget` look at the total limit. The proofs assume that a cost never changes while its entry is stored.
+/// Proved: the cost of a tenant stays within its budget, and the sum of all costs within the total limit. What a call
+/// returns depends only on the calls of its tenant, except that memory may run out, and that `open` and `set_budget`
+/// depend on the total limit. The proofs assume that a cost never changes while its entry is stored.
 ///
 /// In the examples of the calls, `cache` has one open tenant, 1, with a budget of 3 and the entry (7, 2).
 pub struct TenantCache<N, K, V, L = ByCost, S = RandomState>
@@ -116,7 +116,7 @@ impl<N: Eq + Hash, K: Eq + Hash, V, L: Budget<K, V>> TenantCache<N, K, V, L> {
         Self::with_hasher(RandomState::default())
     }
 
-    /// Makes such a cache, whose hashers have these seeds. Equal seeds give equal hashes.
+    /// Makes a cache as `new` does, whose hashers have these seeds. Equal seeds give equal hashes.
     ///
     /// ```
     /// # use jeerdurian::tenants::TenantCache;
@@ -171,7 +171,7 @@ where
         self.cache.is_empty()
     }
 
-    /// Opens a tenant with an empty map and a budget: the greatest sum of the costs of its entries.
+    /// Opens a tenant with an empty map and a budget, which limits the sum of its entries' costs.
     ///
     /// Cost: `O(1)` expected, amortised over the tenants.
     ///
@@ -271,7 +271,7 @@ where
         self.cache.names()
     }
 
-    /// Sets the budget of a tenant. If its cost is above the budget, its oldest entries are evicted until it is not.
+    /// Sets the budget of a tenant. Evicts the tenant's oldest entries while its cost is above the budget.
     ///
     /// Cost: `O(1)` expected, and `O(1)` for each entry that is evicted.
     ///
@@ -297,7 +297,7 @@ where
     ///
     /// # Errors
     ///
-    /// As of `set_budget`.
+    /// As for `set_budget`.
     ///
     /// ```
     /// # let mut cache = jeerdurian::tenants::TenantCache::<u64, u64, u64>::new();
@@ -359,11 +359,11 @@ where
         })
     }
 
-    /// Sets what the budgets of all tenants add up to at most, or that nothing limits their sum.
+    /// Sets the total limit: the greatest sum of all budgets. `None` lifts the limit.
     ///
     /// # Errors
     ///
-    /// `OverTotal`: the sum is above the limit now. The old limit stays.
+    /// `OverTotal`: the sum of all budgets is above the new limit. The old limit stays.
     ///
     /// ```
     /// # let mut cache = jeerdurian::tenants::TenantCache::<u64, u64, u64>::new();
@@ -378,7 +378,7 @@ where
         self.cache.set_total_limit(limit)
     }
 
-    /// Returns what the budgets of all tenants add up to at most, if there is a limit.
+    /// Returns the greatest sum of all budgets, if there is a limit.
     ///
     /// ```
     /// # let mut cache = jeerdurian::tenants::TenantCache::<u64, u64, u64>::new();

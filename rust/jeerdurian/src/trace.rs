@@ -1,4 +1,4 @@
-//! Miss-ratio curves: how often LRU caches of every size miss at a trace of keys, counted in one pass.
+//! Miss-ratio curves: how often LRU caches of every size miss on a trace of keys, counted in one pass.
 //!
 //! ```
 //! use jeerdurian::trace::Curve;
@@ -18,7 +18,7 @@ use crate::rattle_std::alloc::{AllocError, Global};
 use crate::rattle_std::vec::Vec;
 use std::io::{BufRead, Sink, Write};
 
-/// The form of what is written of a trace.
+/// The form of the output for a trace.
 ///
 /// ```
 /// use jeerdurian::trace::Form;
@@ -27,7 +27,7 @@ use std::io::{BufRead, Sink, Write};
 /// ```
 pub use crate::erased::lru_trace::Form;
 
-/// A column of a line of separated text.
+/// A column of each line, and the byte that separates columns.
 ///
 /// ```
 /// use jeerdurian::trace::Column;
@@ -47,8 +47,8 @@ pub use crate::erased::lru_trace::Column;
 /// ```
 pub use crate::erased::lru_trace::Options;
 
-/// Whose misses are counted: LRU's, after a warm-up, with limits of entries or of bytes, or those of the best possible
-/// policies, too.
+/// Which misses are counted: the misses of LRU after a warm-up, with limits of entries or of bytes, or also the misses
+/// of the best possible policies.
 ///
 /// ```
 /// use jeerdurian::trace::Policies;
@@ -79,9 +79,9 @@ impl core::error::Error for TraceError {}
 
 /// The misses of a trace in LRU caches of every size, counted in one pass.
 ///
-/// Its memory is in proportion to the number of keys, however long the trace is, unless it keeps the references.
+/// Its memory is in proportion to the number of keys, not to the length of the trace, unless it keeps the references.
 ///
-/// Proved: `misses` returns how often a cache of that many places misses, for traces of at most 2^64 - 1 references.
+/// Proved: `misses(n)` returns how often a cache of n places misses, for traces of at most 2^64 - 1 references.
 ///
 /// ```
 /// use jeerdurian::trace::Curve;
@@ -104,9 +104,9 @@ pub struct Curve(proved::Curve);
 /// ```
 pub use crate::erased::lru_trace::SizeError;
 
-/// How often LRU caches with limits of bytes miss at a trace, counted in one pass.
+/// How often LRU caches with limits of bytes miss on a trace, counted in one pass.
 ///
-/// A key has the size that its first reference says. Proved: each count is exact.
+/// A key keeps the size of its first reference. Proved: each count is exact.
 ///
 /// ```
 /// use jeerdurian::trace::ByteCurve;
@@ -142,7 +142,7 @@ impl ByteCurve {
     ///
     /// # Errors
     ///
-    /// As `refer`.
+    /// As for `refer`.
     pub fn warm_up(&mut self, key: &str, bytes: u64) -> Result<(), SizeError> {
         self.0.warm_up(key, bytes)
     }
@@ -152,12 +152,12 @@ impl ByteCurve {
         self.0.references()
     }
 
-    /// Returns the number of different keys, also of the warm-up.
+    /// Returns the number of different keys, including the keys of the warm-up.
     pub fn keys(&self) -> usize {
         self.0.keys()
     }
 
-    /// Returns how many bytes all keys take together, also those of the warm-up.
+    /// Returns how many bytes all keys take together, including the keys of the warm-up.
     pub fn bytes(&self) -> u64 {
         self.0.bytes()
     }
@@ -168,7 +168,7 @@ impl ByteCurve {
     }
 }
 
-/// What the best possible policies miss, which know the rest of the trace: what [`Curve::best`] returns.
+/// The misses of the best possible policies, which know the rest of the trace. [`Curve::best`] returns it.
 ///
 /// It takes 8 bytes for each reference.
 ///
@@ -188,10 +188,10 @@ impl ByteCurve {
 pub struct Best(proved::Best);
 
 impl Best {
-    /// Returns how often MIN misses in this many places. It stores each key that is referenced, and evicts the key
-    /// whose next reference comes last.
+    /// Returns how often MIN misses in this many places. MIN stores each referenced key, and evicts the key whose next
+    /// reference comes last.
     ///
-    /// Proved: no policy that stores each key that is referenced misses less often.
+    /// Proved: no policy that stores each referenced key misses less often.
     ///
     /// # Errors
     ///
@@ -207,13 +207,13 @@ impl Best {
         self.0.min_misses(places)
     }
 
-    /// Returns how often MIN with bypass misses in this many places: it may leave out the key that is referenced.
+    /// Returns how often MIN with bypass misses in this many places. This policy need not store a referenced key.
     ///
     /// Proved: no policy misses less often.
     ///
     /// # Errors
     ///
-    /// As `min_misses`.
+    /// As for `min_misses`.
     ///
     /// ```
     /// # use jeerdurian::trace::Curve;
@@ -242,7 +242,7 @@ impl Curve {
         Ok(Curve(proved::Curve::new(Global)?))
     }
 
-    /// As `new`, and the curve keeps the references, 8 bytes for each, so that `best` can look ahead.
+    /// Makes a curve as `new` does, which keeps the references (8 bytes each), so that `best` can look ahead.
     ///
     /// # Errors
     ///
@@ -257,7 +257,7 @@ impl Curve {
         Ok(Curve(proved::Curve::keeping_references(Global)?))
     }
 
-    /// Looks ahead in the trace, for the best possible policies. Returns nothing if the curve does not keep the
+    /// Looks ahead in the trace, for the best possible policies. Returns `None` if the curve does not keep the
     /// references.
     ///
     /// # Errors
@@ -273,8 +273,8 @@ impl Curve {
         Ok(self.0.best()?.map(Best))
     }
 
-    /// Makes the curve of the keys of a reader, one in each line. Returns it with the number of lines that are no key: a
-    /// key is text of 1 to 64 bytes.
+    /// Makes the curve of the keys of a reader, one in each line. Returns the curve and the number of lines that are no
+    /// key: a key is text of 1 to 64 bytes.
     ///
     /// # Errors
     ///
@@ -360,10 +360,10 @@ fn text_of(policies: Policies) -> Options {
     Options { column: None, form: Form::Text, policies, sample: 0 }
 }
 
-/// Reads a trace, and writes how often LRU caches of each size miss at it, with a chart.
+/// Reads a trace, and writes how often LRU caches of each size miss, with a chart.
 ///
-/// The first line names sizes, and each other line is a key that is referenced: text of 1 to 64 bytes. Other lines are
-/// counted as malformed.
+/// The first line names sizes, and each other line is a referenced key: text of 1 to 64 bytes. Other lines are counted
+/// as malformed.
 ///
 /// # Errors
 ///
@@ -380,12 +380,12 @@ pub fn report(mut reader: impl BufRead, mut writer: impl Write) -> Result<TraceE
     proved::trace(Global, text_of(LRU), &mut reader, &mut writer, &mut no_progress())
 }
 
-/// As `report`, and says for each named size how often the best possible policies miss, too. It takes 16 to 32 bytes for
-/// each reference.
+/// Does what `report` does, and also writes how often the best possible policies miss at each named size. Takes 16 to
+/// 32 bytes more for each reference.
 ///
 /// # Errors
 ///
-/// As `report`.
+/// As for `report`.
 ///
 /// ```
 /// use jeerdurian::trace::{TraceEnd, report_with_best};
@@ -398,12 +398,12 @@ pub fn report_with_best(mut reader: impl BufRead, mut writer: impl Write) -> Res
     proved::trace(Global, text_of(Policies::Best), &mut reader, &mut writer, &mut no_progress())
 }
 
-/// As `report`, of a column of the lines or of a sample of the keys, after a warm-up, with limits of bytes or with the
-/// best possible policies, and in the form of the options: text, csv or a picture in svg.
+/// Does what `report` does, with options: for a column of the lines, for a sample of the keys, after a warm-up, with
+/// limits of bytes, or with the best possible policies; as text, csv or an svg picture.
 ///
 /// # Errors
 ///
-/// As `report`. `TooLarge`: the sizes of all keys sum to 2^64 or more.
+/// As for `report`. `TooLarge`: the sizes of all keys sum to 2^64 or more.
 ///
 /// ```
 /// use jeerdurian::trace::{Column, Form, Options, Policies, TraceEnd, report_as};

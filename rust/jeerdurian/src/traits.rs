@@ -12,7 +12,7 @@ where
     S: BuildHasher,
 {
     /// Returns whether both maps have equal entries in the same order. Their limiters and hashers may differ. Proved:
-    /// returns true exactly then.
+    /// the answer is exact.
     ///
     /// ```
     /// use jeerdurian::{LruMap, More, Unlimited};
@@ -43,7 +43,7 @@ where
     L: for<'a> Limiter<K, V, KeyToInsert<'a> = K>,
     S: BuildHasher,
 {
-    /// Inserts each entry as [`insert`](LruMap::insert) does. Drops each entry that the limiter rejects or that memory
+    /// Inserts each entry as [`insert`](LruMap::insert) does. Drops the entries that the limiter rejects or that memory
     /// cannot hold.
     ///
     /// ```

@@ -79,7 +79,7 @@ pub use crate::erased::lru_limits::ByWeight;
 /// ```
 pub use crate::erased::lru_limits::ByBytes;
 
-/// Two limiters of this crate, which both apply.
+/// A limiter that applies two limiters of this crate.
 ///
 /// ```
 /// use jeerdurian::{Both, ByCost, ByLength, LruMap};

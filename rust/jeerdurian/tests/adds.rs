@@ -39,13 +39,13 @@ fn costs() {
 fn owned_bytes() {
     assert_eq!([()].owned_bytes() + 4isize.owned_bytes() + 1.5f64.owned_bytes(), 0);
     assert_eq!(1i8.owned_bytes() + 2i16.owned_bytes() + 3i128.owned_bytes() + 0.5f32.owned_bytes(), 0);
-    // A block of 17 bytes takes 32, and 16 more.
+    // A block of 17 bytes counts as 32 + 16 bytes.
     let text: Box<str> = "a".repeat(17).into();
     assert_eq!((text.owned_bytes(), Box::<str>::from("").owned_bytes()), (48, 0));
     let pages: Box<[u64]> = Box::new([1; 4]);
     assert_eq!((pages.owned_bytes(), Box::<[u64]>::default().owned_bytes()), (48, 0));
     assert_eq!([text.clone(), text.clone()].owned_bytes(), 96);
-    // The block of two pointers with lengths, and both texts.
+    // A block of two pointers with lengths, and both texts.
     assert_eq!(vec![text.clone(), text.clone()].into_boxed_slice().owned_bytes(), 48 + 96);
     assert_eq!(vec![text].owned_bytes(), 32 + 48);
 }

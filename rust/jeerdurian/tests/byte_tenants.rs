@@ -59,7 +59,7 @@ fn copy(text: &String) -> String {
     copy
 }
 
-/// Makes a call on the tenants and on their own maps, and compares what they return.
+/// Makes a call on the tenants and on plain maps, and compares what they return.
 fn serve(bytes: &mut Bytes, maps: &mut BTreeMap<String, Own>, state: &mut u64) {
     let (name, key) = (text(state, 9, 30), text(state, 200, 50));
     let own = maps.get_mut(&name);
@@ -71,7 +71,7 @@ fn serve(bytes: &mut Bytes, maps: &mut BTreeMap<String, Own>, state: &mut u64) {
             match own {
                 Some(_) => assert_eq!(opened, Err(TenantError::AlreadyOpen)),
                 None if limit + owned > left => assert_eq!(opened, Err(TenantError::OverTotal)),
-                // The limit may not permit the tenant in a larger table. The table may have grown.
+                // The limit may not permit the tenant in a larger table, which may have grown nevertheless.
                 None => assert!(matches!(opened, Ok(()) | Err(TenantError::Memory))),
             }
             assert!(matches!(opened, Ok(()) | Err(TenantError::Memory)) || bytes.left() == left);
@@ -108,7 +108,7 @@ fn tenants_are_maps() {
     }
 }
 
-/// The table of tenants is as large as that of a map of as many entries. No call fails above some number of tenants.
+/// The table of n tenants is as large as the table of a map of n entries. Calls succeed for any number of tenants.
 #[test]
 fn many_tenants() {
     const LIMIT: u64 = 1 << 30;
@@ -148,7 +148,7 @@ fn a_name_takes_its_bytes() {
     assert_eq!((bytes.open(name, most), bytes.left()), (Ok(()), 0));
 }
 
-/// A refused request for memory is `Memory`, and the tenants stay.
+/// If a request for memory is refused, the call returns `Memory`, and the tenants stay.
 #[test]
 fn refused_memory() {
     let mut bytes: ByteTenants<u64, u64, u64> = ByteTenants::new(4000);

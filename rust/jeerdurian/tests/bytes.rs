@@ -38,7 +38,7 @@ impl Random {
     }
 }
 
-/// What the map of `limit` bytes holds is at most the limit, and what is held besides it is `base`.
+/// Fails if the map takes more bytes than its limit. `base` is the number of other bytes that are allocated.
 fn check(map: &Texts, base: i64, call: u64) {
     let bytes = held() - base;
     assert!(bytes <= map.limiter().limit() as i64, "call {call}: {bytes} bytes");

@@ -1,5 +1,5 @@
-//! The tenants and the ordered map, compared with plain lists, and with keys whose `==` and `Hash` say anything and panic:
-//! nothing is dropped twice or used after its drop.
+//! The tenants and the ordered map, compared with plain lists. With keys whose `==` and `Hash` return anything and
+//! panic, nothing is dropped twice or used after its drop.
 
 use jeerdurian::caches::{CountedMap, Counts, Loader, Memo, OrderedMap};
 use jeerdurian::tenants::TenantCache;
@@ -13,7 +13,7 @@ use std::panic::{AssertUnwindSafe, catch_unwind};
 thread_local! {
     /// How many keys live.
     static LIVE: Cell<i64> = const { Cell::new(0) };
-    /// The state of a generator: keys lie if it is not zero.
+    /// The state of a generator. If it is not zero, `==` and `Hash` return anything: keys *lie*.
     static LIES: Cell<u64> = const { Cell::new(0) };
 }
 
@@ -173,7 +173,7 @@ fn trim(list: &mut Vec<u64>, budget: u64) {
     }
 }
 
-/// What a call makes of the budgets and the keys of the tenants, the newest key first.
+/// Changes the budgets and the keys of plain tenants, the newest key first, as a call should.
 fn serve_lists(lists: &mut BTreeMap<u64, (u64, Vec<u64>)>, kind: u64, name: u64, n: u64) {
     match (kind, lists.get_mut(&name)) {
         (0..=2, None) => _ = lists.insert(name, (n, Vec::new())),
@@ -251,7 +251,7 @@ fn equal_ordered_maps_have_one_order() {
     assert!(map([1, 2, 3]) != map([1, 3, 2]));
 }
 
-/// Memos within a limit of bytes keep what a map within it keeps.
+/// A memo within a limit of bytes keeps what a map within this limit keeps.
 #[test]
 fn memos_count_the_bytes_of_their_entries() {
     type S = std::hash::BuildHasherDefault<std::hash::DefaultHasher>;
@@ -356,7 +356,7 @@ fn rejections_and_evictions_are_counted() {
 fn a_curve_of_bytes_is_a_simulation() {
     let limits = [0, 100, 700, 3000];
     let mut curve = ByteCurve::new(&limits).unwrap();
-    // For each limit, the keys of a cache, the newest first, and how often it missed.
+    // For each limit, the keys of a cache, the newest first, and its number of misses.
     let mut caches: Vec<(u64, Vec<u64>, u64)> = limits.iter().map(|limit| (*limit, Vec::new(), 0)).collect();
     let size = |key: u64| key * 13 % 97;
     let mut state = 3;

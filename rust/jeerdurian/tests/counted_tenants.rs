@@ -1,4 +1,4 @@
-//! The counts of tenants and of a page cache, beside a plain count.
+//! The counts of tenants and of a page cache, compared with plain counts.
 
 use jeerdurian::ByCost;
 use jeerdurian::caches::{Counts, FileDevice, PageCache};
@@ -159,7 +159,7 @@ fn counts_of_many_tenants_and_entries() {
     assert_eq!(cache.counts(&7), Ok(counts));
 }
 
-/// Each count stops at the greatest number, and calls that do not count leave it, also if they fail.
+/// Each count stops at the greatest number. Calls that do not count leave the counts unchanged, also if they fail.
 #[test]
 fn counts_stop() {
     let mut cache = Tenants::new();
@@ -189,7 +189,7 @@ fn a_closure_that_panics_counts_nothing() {
     assert_eq!((cache.counts(&1), cache.peek(&1, &7)), (counts, Ok(Some(&60))));
 }
 
-/// A cache evicts exactly the pages that were brought and are no longer cached.
+/// A cache evicted exactly the pages that were read into it and are no longer cached.
 #[test]
 fn evictions_of_a_page_cache_are_plain_counts() {
     for (capacity, blocks) in [(20, 100), (6000, 20_000)] {

@@ -1,4 +1,4 @@
-//! How often and when callbacks are called, which no clause of a contract says.
+//! How often and when callbacks are called. No contract says this.
 
 use jeerdurian::caches::{CountedMap, FileDevice, PageCache};
 use jeerdurian::tenants::{ByteTenants, Counting as CountingTenant, TenantCache};
@@ -14,7 +14,7 @@ type S = BuildHasherDefault<DefaultHasher>;
 /// A limiter of the length, the bytes and each value that logs its callbacks.
 struct Logging(usize, Log, usize);
 
-/// The greatest value that replaces another one.
+/// The greatest value that may replace another value.
 const GREATEST: u64 = 100;
 
 impl Logging {
@@ -308,7 +308,7 @@ fn counted_maps_and_tenants_hash_once() {
     assert_eq!((bytes.close(&1), builds.0.replace(0)), (Ok(0), 1));
 }
 
-/// A counted look-up hashes the name and the key once, and a counted insert looks the key up once more.
+/// A counted look-up hashes the name and the key once; a counted insert hashes the key once more.
 #[test]
 fn counted_calls_of_tenants_hash_once() {
     let builds = Builds::default();
@@ -327,7 +327,7 @@ fn counted_calls_of_tenants_hash_once() {
     assert_eq!((cache.set_counts(&1, counts), cache.take_counts(&1), builds.0.replace(0)), (Ok(()), Ok(counts), 3));
 }
 
-/// A table that stays at most half full is rehashed at its size, and never grows, by inserts of both kinds.
+/// Inserts of both kinds rehash a table that stays at most half full at its size, and never grow it.
 #[test]
 fn a_table_of_deleted_buckets_is_rehashed() {
     for is_tried in [false, true] {
@@ -347,7 +347,7 @@ fn a_table_of_deleted_buckets_is_rehashed() {
     }
 }
 
-/// A limiter that counts the entries, and is told the count by each callback that has one.
+/// A limiter that counts the entries, and compares its count with the length that callbacks get.
 #[derive(Clone, Copy)]
 struct Counting(usize);
 

@@ -1,5 +1,5 @@
-//! What no clause of a contract says of page caches and file devices: which calls a device makes of its file, and a
-//! cache of its device; which errors they return; and how much memory a cache takes.
+//! What no contract says about page caches and file devices: which calls a device makes on its file, and a cache on its
+//! device; which errors they return; and how much memory a cache takes.
 
 mod refusing;
 
@@ -22,7 +22,7 @@ enum Call {
     Sync,
 }
 
-/// A file that lists its calls. It contains the bytes that were written, at any place.
+/// A file that lists its calls. It contains the written bytes, at any offset.
 #[derive(Default)]
 struct Listed {
     bytes: BTreeMap<u64, u8>,
@@ -31,7 +31,7 @@ struct Listed {
     len: u64,
     /// How many bytes a read or a write moves at most.
     most: usize,
-    /// The next call that is equal to this call fails, once.
+    /// The next call that equals this call fails, once.
     fails: Option<Call>,
     calls: RefCell<Vec<Call>>,
 }
@@ -95,7 +95,7 @@ impl Durable for Listed {
     }
 }
 
-/// Numbers of blocks of 16 bytes that a file has a place for.
+/// Numbers of blocks of 16 bytes whose offsets a file can have.
 const PLACES: [u64; 8] = [0, 1, 999, 20_001, 1 << 28, (1 << 32) + 5, 1 << 52, (1 << 60) - 2];
 
 /// Writes and reads blocks. Each call seeks the place of its block once, and then moves the block once.
@@ -120,8 +120,8 @@ fn each_block_is_moved_once_at_its_place() {
     calls_are_at_their_places(HashedFileDevice::<_, 16>::new(file(), u64::MAX), |it| it.file());
 }
 
-/// Files that move few bytes in a call: blocks are whole nevertheless. A block that the file lacks, even in part, fails
-/// with `File`, and so does a call whose seek, read or write fails. Such a call is not made again.
+/// If a file moves few bytes in a call, blocks are whole nevertheless. If the file lacks a part of a block, or a seek,
+/// read or write fails, the call fails with `File`, and is not made again.
 fn calls_fail_with_their_file<D: BlockDevice<[u8; 16], Error = FileError>>(
     new: fn(Listed) -> D,
     file: fn(&D) -> &Listed,
@@ -151,7 +151,7 @@ fn blocks_are_moved_whole_or_fail() {
     calls_fail_with_their_file(|file| HashedFileDevice::<_, 16>::new(file, 99), |it| it.file());
 }
 
-/// A block with another byte is damaged, and so is a block in the place of another.
+/// A block with a changed byte is damaged, and so is a block in the place of another block.
 #[test]
 fn a_block_without_its_checksum_is_damaged() {
     let mut device = HashedFileDevice::<_, 16>::new(Listed::new(16), 1 << 40);
@@ -171,7 +171,7 @@ fn a_block_without_its_checksum_is_damaged() {
 }
 
 /// A sync flushes the file, and then makes it durable. After one of these calls failed, the device makes no more calls.
-/// A new cache over it is broken, too.
+/// A new cache over this device is broken, too.
 #[test]
 fn a_sync_that_fails_is_the_last_call() {
     for (fails, calls) in [(None, 2), (Some(Call::Flush), 1), (Some(Call::Sync), 2)] {
@@ -272,8 +272,8 @@ fn a_cache_calls_its_device_only_if_it_has_to() {
     assert_eq!(unclosed.cache.discard().0.get(), [0, 1, 0]);
 }
 
-/// While memory lasts, no number of pages makes a call fail. A page takes a number of 8 bytes, and at most 16, besides
-/// its entry in the map.
+/// While memory lasts, calls succeed for any number of pages. In addition to its entry in the map, each page takes 8 to
+/// 16 bytes for its number.
 #[test]
 fn caches_of_many_pages() {
     let bytes = held();
@@ -305,7 +305,7 @@ fn a_page_is_dirty_if_its_closure_panics() {
     assert_eq!(cache.discard().0.get(), [1, 1, 1]);
 }
 
-/// A cache whose work panics is dropped, and its device.
+/// If the work panics, the cache and its device are dropped.
 #[test]
 fn a_cache_is_dropped_if_its_work_panics() {
     let bytes = held();

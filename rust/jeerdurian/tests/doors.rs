@@ -1,5 +1,5 @@
-//! What the own tests of the crates `lru` and `hashlink`, and the random calls of `peers.sh`, do not show of the doors:
-//! keys that lie, callbacks that panic, iterators that are forgotten, extreme capacities, types of no size.
+//! What `peers.sh` does not test of the doors: keys whose `==` and `Hash` are wrong, callbacks that panic, iterators
+//! that are forgotten, extreme capacities, types of no size.
 #![cfg(all(feature = "lru", feature = "hashlink"))]
 
 mod common;
@@ -11,7 +11,7 @@ use std::cell::Cell;
 
 type Payload = [u8; 3];
 
-/// A cache as its lives below use it.
+/// The calls of a cache that these tests need.
 trait Cache {
     fn make(capacity: usize) -> Self;
     fn call(&mut self, kind: u64, n: u64);
@@ -100,7 +100,7 @@ impl Cache for hashlink::LruCache<Key<Payload>, Value<Payload>, Builder> {
     }
 }
 
-/// A cache's life. If nothing panics, nothing leaks.
+/// Makes, uses and drops a cache. If nothing panics, nothing leaks.
 fn life<C: Cache>(seed: u64, lies: u64, panics: u64) {
     world(|it| *it = Default::default());
     let mut next = common::numbers(seed);

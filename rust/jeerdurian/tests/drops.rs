@@ -66,7 +66,7 @@ fn what_calls_evict_is_dropped() {
 
 type Map = LruMap<Live, Live, UnlimitedCompact>;
 
-/// Makes a call with a closure that owns a value, which it accepts, rejects or fails with.
+/// Makes a call with a closure that owns a value. The closure accepts, rejects or fails.
 fn ask(map: &mut Map, call: u64, owned: Live) {
     let accepts = owned.0 == 0;
     // Without the reference, the closure would own only a copy of the number.
@@ -89,7 +89,7 @@ fn ask(map: &mut Map, call: u64, owned: Live) {
     }
 }
 
-/// A closure is dropped, whether it is called or not, and whatever it returns: on a map of one entry, and of none.
+/// A closure is dropped, whether it is called or not, and whatever it returns, on a map with one entry or none.
 #[test]
 fn closures_are_dropped() {
     for case in 0..36 {
@@ -102,7 +102,8 @@ fn closures_are_dropped() {
     }
 }
 
-/// Inserts an entry, and offers the key again with another value. Returns whether each is in the map.
+/// Inserts an entry, and offers the key again with another value. Returns for each insert whether the key is in the
+/// map.
 fn offers<L: for<'a> Limiter<Live, Live, KeyToInsert<'a> = Live>>(limiter: L) -> [bool; 2] {
     let mut map = LruMap::new(limiter);
     let kept = [5, 6].map(|n| {
@@ -186,7 +187,7 @@ fn takes(n: u64) -> impl FnMut(Live, Live) {
     move |_, _| _ = &owned
 }
 
-/// Callbacks that get the entries that leave are dropped, whether they are called or not.
+/// Callbacks that get evicted and removed entries are dropped, whether they are called or not.
 #[test]
 fn callbacks_are_dropped() {
     let mut cache: TenantCache<u64, Live, Live> = TenantCache::new();
@@ -204,7 +205,7 @@ fn callbacks_are_dropped() {
     assert!(cache.close_with(&1, takes(0)).is_ok() && is_alive(map.len()));
 }
 
-/// Tenants of many entries pass on or drop each of them, the oldest first.
+/// Tenants with many entries pass on or drop each entry, the oldest first.
 #[test]
 fn many_entries_of_a_tenant_are_dropped() {
     let mut cache: TenantCache<u64, Live, Live> = TenantCache::new();

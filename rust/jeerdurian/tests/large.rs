@@ -31,7 +31,7 @@ impl Drop for Counted {
 
 type Map = LruMap<u64, Counted, UnlimitedCompact>;
 
-/// A map, and when each key was used last; zero if it is not there.
+/// A map, and for each key the time of its last use; zero if the key is not there.
 struct Pair {
     map: Map,
     used: Vec<u64>,
@@ -54,7 +54,7 @@ impl Pair {
         self.used[n as usize] = 0;
     }
 
-    /// Fails unless the map contains what was used, the last used first, and nothing else lives.
+    /// Fails unless the map contains exactly the used keys, the last used first, and no other value lives.
     fn check(&self, map: &Map, others: u64) {
         let mut last = u64::MAX;
         for (key, value) in map.iter() {
@@ -94,7 +94,7 @@ fn life(n: u64) {
     assert_eq!(LIVE.get(), 0);
 }
 
-/// A copy is alike, and its entries are its own.
+/// A copy equals its original, and has its own entries.
 fn copies(pair: &Pair) {
     let mut copy = pair.map.clone();
     let len = copy.len() as u64;

@@ -1,6 +1,6 @@
-//! Keys whose `==` and `Hash` say anything, limiters that do anything, callbacks and drops that panic at random, and
-//! iterators that are forgotten: the map stays one, and nothing is dropped twice or used after its drop. And a writer
-//! that lies to a report.
+//! Keys whose `==` and `Hash` return anything, limiters that do anything, callbacks and drops that panic at random, and
+//! forgotten iterators: the map stays whole, and nothing is dropped twice or used after its drop. Also a report to a
+//! writer that returns wrong counts.
 
 mod common;
 
@@ -61,7 +61,7 @@ where
     lent.iter_mut().for_each(|(key, value)| value.number = key.number);
 }
 
-/// A map's life. Nothing leaks unless a callback panics or something is forgotten.
+/// Makes, uses and drops a map. Nothing leaks unless a callback panics or something is forgotten.
 fn life<P: Default + Clone + 'static, N>(seed: u64, lies: bool, panics: u64)
 where
     Limit<N>: for<'a> Limiter<Key<P>, Value<P>, KeyToInsert<'a> = Key<P>>,
@@ -135,7 +135,7 @@ fn panicking_and_lying_callbacks() {
     lives(true, 30);
 }
 
-/// A writer that says that it wrote more than it was given.
+/// A writer that returns more bytes than it got.
 struct Boaster;
 
 impl std::io::Write for Boaster {

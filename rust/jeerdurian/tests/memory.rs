@@ -1,4 +1,4 @@
-//! Each request for memory is refused in turn: the entries and their order stay, and all memory comes back.
+//! Each request for memory is refused in turn: the entries and their order stay, and all memory is freed.
 
 mod refusing;
 
@@ -24,7 +24,7 @@ fn entries(map: &Map) -> Vec<(u64, [u64; 2])> {
     map.iter().map(|(k, v)| (*k, *v)).collect()
 }
 
-/// Refuses each request of a call in turn. `call` returns whether it succeeded; then one entry more may be there.
+/// Refuses each request of a call in turn. `call` returns whether it succeeded; if so, it may have added one entry.
 fn refuse_each(full: u64, holes: u64, requests: u64, call: impl Fn(&mut Map) -> bool) {
     for n in 1.. {
         let (bytes, alignments) = (held(), aligned());
@@ -142,7 +142,7 @@ fn each_form_that_may_fail_returns_its_error() {
     refuse_each(56, 50, 3, |map| map.fallible().shrink_to_fit().is_ok());
 }
 
-/// Refuses each request of a call in turn. `call` returns whether it succeeded, and succeeds if it is made again.
+/// Refuses each request of a call in turn. `call` returns whether it succeeded; a second try must succeed.
 fn errs<T>(requests: u64, new: impl Fn() -> T, call: impl Fn(&mut T) -> bool) {
     for n in 1..=requests + 1 {
         let mut it = new();
@@ -187,8 +187,8 @@ fn caches_out_of_memory_return_errors() {
     errs(4, || Curve::new().unwrap(), |curve| curve.refer("a").is_ok());
 }
 
-/// Page caches that are closed or discarded, tenants that evict, and are closed or dropped, and references to the same
-/// keys.
+/// Page caches that are closed or discarded; tenants that evict, and are closed or dropped; curves with repeated
+/// references.
 #[test]
 fn caches_give_their_memory_back() {
     let bytes = held();
@@ -215,7 +215,7 @@ fn caches_give_their_memory_back() {
     assert_eq!(held(), bytes);
 }
 
-/// Lines, keys, counts and texts.
+/// Refuses the requests for lines, keys, counts and texts.
 #[test]
 fn a_report_out_of_memory_returns_an_error() {
     let run = |n| refused(n, || report(&b"1 2\na\nb\na\n"[..], std::io::sink()));
@@ -223,7 +223,7 @@ fn a_report_out_of_memory_returns_an_error() {
     assert!(last > 10 && run(last as u64 + 1).0.is_ok());
 }
 
-/// What a map holds is its usage with links of 64 bits, too.
+/// A map's `memory_usage` is what the map allocated, also with links of 64 bits.
 #[test]
 fn usage_counts_the_links() {
     type Long = LruMap<u32, u32, Unlimited>;
@@ -237,7 +237,7 @@ fn usage_counts_the_links() {
     }
 }
 
-/// What a copy took comes back if a clone panics.
+/// If a clone panics, what the copy allocated is freed.
 #[test]
 fn a_clone_that_panics_leaks_no_memory() {
     struct Item(#[allow(dead_code)] Box<u64>);

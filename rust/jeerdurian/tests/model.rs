@@ -14,7 +14,7 @@ impl Random {
     }
 }
 
-/// The entries, the newest first, and the most there may be.
+/// The entries, the newest first, and their greatest number.
 #[derive(Default)]
 struct List {
     pairs: Vec<(String, u64)>,
@@ -85,7 +85,7 @@ fn step(map: &mut LruMap<String, u64>, list: &mut List, kind: u64, k: &str, v: u
     }
 }
 
-/// The same for calls that `step` lacks.
+/// Does what `step` does, for the calls that `step` lacks.
 fn step_more(map: &mut LruMap<String, u64>, list: &mut List, kind: u64, k: &str, v: u64) {
     let hash = map.hasher().hash_one(k);
     let at = list.at(k);
@@ -181,7 +181,7 @@ fn other_calls_as_of_a_list() {
     }
 }
 
-/// A closure that fails changes nothing, though the map is over its limit, or its table is full.
+/// If a closure fails, nothing changes, even if the map is over its limit or its table is full.
 #[test]
 fn a_closure_that_fails_changes_nothing() {
     let mut map = LruMap::new(ByLength::new(14));
@@ -195,7 +195,7 @@ fn a_closure_that_fails_changes_nothing() {
     assert!(map.keys().eq(&[13, 12, 11, 10, 9]));
 }
 
-/// A key that becomes another one, with another hash, is looked for again.
+/// If `Into` makes a key with another hash, this key is looked up again.
 #[test]
 fn a_conversion_may_make_another_key() {
     #[derive(Hash)]
@@ -217,7 +217,7 @@ fn a_conversion_may_make_another_key() {
     assert!(map.iter().eq([(&2, &10)]));
 }
 
-/// What a limiter rejects is not there, and the newest entry is not lent for it.
+/// A rejected entry is not there, and `get_or_insert` does not lend the newest entry in its place.
 #[test]
 fn what_is_rejected_is_not_lent() {
     let mut map: LruMap<u64, Vec<u8>, ByCost> = LruMap::new(ByCost::new(10));
@@ -274,7 +274,7 @@ impl Drop for Blob {
     }
 }
 
-/// A limiter over the total that values keep themselves.
+/// A limiter whose total is kept by the values themselves.
 struct Total(Rc<Cell<u64>>);
 
 impl Limiter<u64, Blob> for Total {
@@ -311,7 +311,7 @@ fn a_replaced_value_is_dropped_before_evictions() {
     assert_eq!((map.len(), total.get()), (4, 100));
 }
 
-/// Of an entry that the map drops, the key is dropped first.
+/// If the map drops an entry, it drops the key first.
 #[test]
 fn a_key_is_dropped_before_its_value() {
     type Log = Rc<RefCell<Vec<&'static str>>>;

@@ -1,4 +1,4 @@
-//! Page caches of many pages, and that a flush makes the blocks of each device durable.
+//! Tests page caches of many pages, and that a flush makes blocks durable on each device.
 
 use jeerdurian::caches::{BlockDevice, Durable, FileDevice, HashedFileDevice, PageCache, PageError};
 use std::io::{Cursor, Read, Result, Seek, SeekFrom, Write};
@@ -55,7 +55,7 @@ where
     cache.discard()
 }
 
-/// After a sync that failed, nothing is written, and a flush does not return `Ok`.
+/// After a sync failed, nothing is written, and no flush returns `Ok`.
 #[test]
 fn a_failed_sync_is_not_forgotten() {
     struct Syncs(u32);
@@ -123,7 +123,7 @@ fn write_back(page: &mut Kept, blocks: &mut [u64; 12], writes: &mut Vec<u64>) {
     }
 }
 
-/// Random calls compared with a plain list of pages, newest first, and with the list of the writes.
+/// Compares random calls with a plain list of pages, newest first, and with the list of the writes.
 #[test]
 fn each_dirty_page_is_written_once_in_order() {
     let mut cache = PageCache::new(Listed([0; 12], Vec::new()), 4);

@@ -1,5 +1,5 @@
-//! A pool of tenants, compared with plain lists: what each call leaves, that the total stays within the limit, and that
-//! each key is dropped once.
+//! A pool of tenants, compared with plain lists after each call. The total stays within the limit, and each key is
+//! dropped once.
 
 use jeerdurian::tenants::{TenantError, TenantPool};
 use std::borrow::Borrow;
@@ -68,8 +68,8 @@ fn find(tenants: &mut [Tenant], name: u64) -> Option<&mut Tenant> {
     tenants.iter_mut().find(|tenant| tenant.0 == name)
 }
 
-/// Evicts as the pool did. In a tie, it tries each tenant that lost its oldest entry. Returns whether the pool is what is
-/// left.
+/// Evicts from the lists as the pool did. In a tie, tries each tenant that lost its oldest entry. Returns whether the
+/// lists then equal the pool.
 fn settles(tenants: &mut [Tenant], pool: &Pool) -> bool {
     if tenants.iter().map(Tenant::cost).sum::<u64>() <= LIMIT {
         return tenants.iter().all(|tenant| pool.cost(&tenant.0) == Ok(tenant.cost()))
@@ -108,7 +108,7 @@ fn put(tenants: &mut [Tenant], pool: &mut Pool, name: u64, key: u64, cost: u64) 
     assert_eq!(kept, Ok(there));
 }
 
-/// Each call on a tenant that is not open says so.
+/// Each call on a tenant that is not open returns `NotOpen`.
 fn is_not_open(pool: &mut Pool, name: u64, n: u64) {
     let no = TenantError::NotOpen;
     assert_eq!(pool.get(&name, &n), Err(no));
@@ -181,7 +181,7 @@ fn pools_are_lists() {
     assert_eq!(LIVE.get(), 0);
 }
 
-/// The tenant furthest above its share is found among many, and the total is the sum.
+/// The pool finds the tenant furthest above its share among many, and the total is the sum of the costs.
 #[test]
 fn pools_of_many_tenants() {
     let mut pool: TenantPool<u64, u64, u64> = TenantPool::new(6000);

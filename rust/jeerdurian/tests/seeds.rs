@@ -1,4 +1,4 @@
-//! The hashers of each `new` have random seeds: two of them hash a key differently.
+//! Each `new` makes hashers with random seeds: two hashers hash a key differently.
 
 use jeerdurian::caches::{Loader, Memo, OrderedMap};
 use jeerdurian::tenants::{ByteTenants, TenantCache, TenantPool};
@@ -11,7 +11,7 @@ thread_local! {
     static HASH: Cell<u64> = const { Cell::new(0) };
 }
 
-/// A key that tells how it was hashed.
+/// A key that stores its last hash in `HASH`.
 #[derive(PartialEq, Eq)]
 struct Key;
 
@@ -57,7 +57,7 @@ fn each_new_takes_random_seeds() {
     is_seeded(|| ByteTenants::<Key, u64, u64>::new(9000).open(Key, 1) == Ok(()));
 }
 
-/// A cache of tenants hashes as a map of the same seeds does.
+/// A cache of tenants hashes as a map with the same seeds does.
 #[test]
 fn tenants_take_the_seeds() {
     for seed in [[0; 4], [1, 2, 3, 4]] {

@@ -1,4 +1,4 @@
-//! Signatures, auto traits, variance, layouts and constants, as those of schnellru.
+//! Tests that signatures, auto traits, variance, layouts and constants are those of schnellru.
 
 use jeerdurian::{
     ByLength, ByMemoryUsage, Drain, IntoIter, Iter, IterMut, Keys, Limiter, LruMap, OccupiedEntry, RandomState,
@@ -10,7 +10,7 @@ use std::hash::{BuildHasher, Hash};
 use std::panic::{RefUnwindSafe, UnwindSafe};
 use std::sync::{Mutex, MutexGuard};
 
-/// Answers whether a type has an auto trait: the inherent method hides the trait's.
+/// Returns whether a type has an auto trait: if it has, an inherent method hides the trait's method.
 struct Asked<T: ?Sized>(std::marker::PhantomData<T>);
 
 trait No {
@@ -49,7 +49,7 @@ macro_rules! asked {
     }};
 }
 
-/// A map has what a vector of its keys and values has, and so have its iterators.
+/// A map has the auto traits of a vector of its keys and values, and so have its iterators.
 macro_rules! alike {
     ($($type:ty),*) => {$({
         assert_eq!(asked!(LruMap<$type, u8>), asked!(Vec<$type>), stringify!($type));
@@ -66,14 +66,14 @@ fn auto_traits() {
     alike!(RefCell<u8>, UnsafeCell<u8>, *mut u8, &'static Cell<u8>, &'static mut u8, MutexGuard<'static, u8>);
 }
 
-/// Whether a type has the auto traits of another one.
+/// Tests that types have the auto traits of another type.
 macro_rules! same {
     ($other:ty: $($type:ty),* $(,)?) => {$({
         assert_eq!(asked!($type), asked!($other), stringify!($type));
     })*};
 }
 
-/// Each iterator has what a reference has, by its keys and by its values. Each cache has what a vector has.
+/// Each iterator has the auto traits of a reference to its keys and values. Each cache has the auto traits of a vector.
 macro_rules! lend_alike {
     ($($type:ty),*) => {$(
         same!(&'static Vec<$type>:
@@ -148,7 +148,7 @@ where
     map.drain().len()
 }
 
-/// Holders without bounds can derive.
+/// A struct without bounds that contains a map can derive traits.
 #[derive(Clone, Debug)]
 struct Holder<K, V, L: Limiter<K, V>>(LruMap<K, V, L>);
 
@@ -226,7 +226,7 @@ fn seeds_differ() {
     assert!(a != b || b != c);
 }
 
-/// Entries of no size that equal nothing: each is stored, and dropped once.
+/// Entries of size 0 whose keys equal nothing: each is stored, and dropped once.
 #[test]
 fn keys_and_values_of_no_size() {
     thread_local!(static LIVE: Cell<i64> = const { Cell::new(0) });

@@ -1,5 +1,5 @@
-//! What no clause of a contract says: that rehashes of large tables find memory, and what a `try_insert` into a table
-//! without growth left takes.
+//! What no contract says: that rehashes of large tables find memory, and which memory a `try_insert` requests if no
+//! growth is left.
 
 mod refusing;
 
@@ -36,7 +36,8 @@ impl BuildHasher for Thousands {
 /// A key whose hash is 28.
 const OF_HASH_28: u64 = 28_000;
 
-/// Fills 32 buckets with keys of hash 0, of which `left` stay: the other buckets are deleted, and no growth is left.
+/// Fills 32 buckets with keys of hash 0, and removes all but `left` keys. The other buckets are deleted, and no growth
+/// is left.
 fn full_of_deleted_buckets(left: u64) -> LruMap<u64, u64, UnlimitedCompact, Thousands> {
     let mut map = LruMap::with_hasher(UnlimitedCompact, Thousands::default());
     (0..28).for_each(|n| assert!(map.insert(n, n)));
@@ -45,7 +46,7 @@ fn full_of_deleted_buckets(left: u64) -> LruMap<u64, u64, UnlimitedCompact, Thou
     map
 }
 
-/// At most half full, such a table is rehashed, which takes links and control bytes. Else it grows.
+/// If such a table is at most half full, it is rehashed, which requests links and control bytes. Otherwise it grows.
 #[test]
 fn a_try_insert_without_growth_left() {
     for (left, requests) in [(0, 0), (1, 2), (13, 2), (14, 3), (27, 3)] {
@@ -82,7 +83,7 @@ fn insert<S: BuildHasher>(map: &mut LruMap<u64, u64, UnlimitedCompact, S>, form:
     }
 }
 
-/// The same of each form of an insert, which evicts nothing, whichever request is refused.
+/// Each form of an insert makes the same requests, and evicts nothing, whichever request is refused.
 #[test]
 fn inserts_without_growth_left() {
     for (left, requests) in [(0, 0), (1, 2), (13, 2), (14, 3), (27, 3)] {
@@ -110,7 +111,7 @@ fn a_counted_insert_without_memory() {
     assert_eq!(counted.counts(), Counts { insertions: 1, ..Counts::default() });
 }
 
-/// The same of a put of a tenant, which returns `Memory`.
+/// A counted `put` that runs out of memory counts what it evicted, and returns `Memory`.
 #[test]
 fn a_counted_put_without_memory() {
     let mut cache: TenantCache<u64, u64, u64, Counting<ByCost>, _> = TenantCache::with_hasher(Thousands::default());
@@ -122,7 +123,7 @@ fn a_counted_put_without_memory() {
     assert_eq!(cache.counts(&1), Ok(Counts { insertions: 1, ..Counts::default() }));
 }
 
-/// The same of a get that puts, which also counts the miss, and calls its closure before memory runs out.
+/// A counted `get_or_put` that runs out of memory also counts the miss, and calls its closure before.
 #[test]
 fn a_counted_get_or_put_without_memory() {
     let mut cache: TenantCache<u64, u64, u64, Counting<ByCost>, _> = TenantCache::with_hasher(Thousands::default());
@@ -141,7 +142,7 @@ fn a_counted_get_or_put_without_memory() {
     assert_eq!(made, 2);
 }
 
-/// A pool that runs out of memory keeps its shares, and its total is the sum.
+/// A pool that runs out of memory keeps its shares, and its total is still the sum of the costs.
 #[test]
 fn a_pool_without_memory() {
     let mut pool: TenantPool<u64, u64, u64, ByCost, _> = TenantPool::with_hasher(Thousands::default(), 28);
@@ -152,7 +153,7 @@ fn a_pool_without_memory() {
     assert_eq!((pool.cost(&1), pool.total_cost(), pool.put(&1, OF_HASH_28, 1)), (Ok(27), 27, Ok(true)));
 }
 
-/// No form of an insert fails above some number of entries.
+/// Each form of an insert succeeds for any number of entries.
 #[test]
 fn inserts_of_many_entries() {
     for form in 0..FORMS {
@@ -162,7 +163,7 @@ fn inserts_of_many_entries() {
     }
 }
 
-/// The same of an ordered map, which inserts by `try_insert`.
+/// An insert into an ordered map, which calls `try_insert`, succeeds for any number of entries.
 #[test]
 fn an_insert_into_an_ordered_map_without_growth_left() {
     for (left, requests) in [(0, 0), (1, 2), (13, 2), (14, 3), (27, 3)] {
@@ -183,7 +184,7 @@ fn an_insert_into_an_ordered_map_without_growth_left() {
     }
 }
 
-/// An ordered map of at most 300 entries, most of which are removed again, for long enough that its table is rehashed.
+/// Uses an ordered map of at most 300 entries, most of which are removed again, until its table has been rehashed.
 #[test]
 fn an_ordered_map_in_which_keys_come_and_go() {
     let mut map = OrderedMap::new();
@@ -202,7 +203,7 @@ struct Large {
 }
 
 impl Large {
-    /// A map of keys in a row, whose table has no growth left, and is then less than half full.
+    /// A map of consecutive keys. Its table was filled until no growth was left, and is now less than half full.
     fn new(buckets: u64) -> Self {
         let full = buckets / 8 * 7;
         let mut map = LruMap::with_seed(UnlimitedCompact, [1, 2, 3, 4]);
@@ -224,7 +225,7 @@ impl Large {
         }
     }
 
-    /// Inserts and pops until `insert` has the table rehashed, which leaves much growth.
+    /// Inserts and pops until `insert` rehashes the table, which leaves much growth.
     fn is_rehashed(&mut self, insert: impl Fn(&mut Self, u64)) {
         let (bytes, len) = (self.map.memory_usage(), self.map.len());
         self.use_up(0);

@@ -1,8 +1,8 @@
-//! Each iterator from both ends, and how many items it says are left.
+//! Tests each iterator from both ends, and its `len`.
 
 use jeerdurian::{LruMap, More, UnlimitedCompact};
 
-/// What an iterator says that it has left, and returns, from the front or from the back as the bits of `turns` say.
+/// Returns the `len` and the item of each step. The bits of `turns` say whether a step is from the front or the back.
 fn walk<I: ExactSizeIterator + DoubleEndedIterator>(mut it: I, turns: u64) -> Vec<(usize, Option<I::Item>)> {
     let steps = it.len() as u64 + 2;
     (0..steps).map(|n| (it.len(), if turns >> (n % 64) & 1 == 0 { it.next() } else { it.next_back() })).collect()
@@ -13,7 +13,7 @@ fn iterators_are_those_of_a_list() {
     for n in [0, 1, 2, 3, 50, 6000u64] {
         let mut map = LruMap::new(UnlimitedCompact);
         (0..n).for_each(|key| assert!(map.insert(key, key + 1)));
-        // The promotion of the newest entry waits.
+        // The promotion of the newest entry is only noted.
         assert_eq!(map.get(&(n / 2)).is_some(), n > 0);
         let mut list: Vec<(u64, u64)> = map.iter().map(|(key, value)| (*key, *value)).collect();
         for turns in [0, u64::MAX, 0x5555_5555_5555_5555, 0xcccc_cccc_cccc_cccc, 0x1f0_7c3a] {

@@ -33,7 +33,7 @@ pub fn replay() -> impl Termination {
     programs::replay::main(HostRuntime)
 }
 
-/// Prints how often LRU caches of each size miss at a trace.
+/// Prints how often LRU caches of each size miss on a trace.
 pub fn trace() -> impl Termination {
     programs::trace::main(HostRuntime)
 }

@@ -6,7 +6,7 @@ use std::cell::Cell;
 /// The bytes of a thread.
 const MOST: usize = 1 << 33;
 
-/// A block takes pieces of these bytes. The piece of a small block serves only blocks of its class later.
+/// The bytes of a piece. A block takes whole pieces; the piece of a small block later serves only blocks of its class.
 const PIECE: usize = 4096;
 
 #[global_allocator]
@@ -19,7 +19,7 @@ thread_local! {
     static FREE: [Cell<usize>; 12] = const { [const { Cell::new(0) }; 12] };
 }
 
-/// The class of a block of at most half a piece: its bytes are at most 2 to that power.
+/// The class of a block of at most half a piece: a block of class c has at most 2^c bytes.
 fn class(bytes: usize) -> Option<usize> {
     (bytes <= PIECE / 2).then(|| bytes.next_power_of_two().ilog2().clamp(3, 11) as usize)
 }
@@ -41,7 +41,7 @@ fn take(bytes: usize) -> bool {
     fits
 }
 
-/// Gives the memory of a block back, which another thread may have taken.
+/// Gives back the memory of a block. Another thread may have taken the block.
 fn give_back(bytes: usize) {
     match class(bytes) {
         Some(class) => FREE.with(|free| free[class].set(free[class].get() + 1)),
@@ -51,7 +51,7 @@ fn give_back(bytes: usize) {
 
 struct Limited;
 
-// SAFETY: the blocks are those of `System`.
+// SAFETY: all blocks come from `System`.
 unsafe impl GlobalAlloc for Limited {
     unsafe fn alloc(&self, layout: Layout) -> *mut u8 {
         if !take(layout.size()) {

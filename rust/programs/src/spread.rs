@@ -1,7 +1,8 @@
 //! How evenly the hashes of regular keys fall on the groups and the tags of a table.
 //!
-//! If the hashes were random, the keys of each of `places` would have the mean `keys / places` and the variance
-//! `keys * (places - 1) / places / places`. Each count has to be at most six standard deviations above the mean.
+//! If the hashes were random, the number of keys in each of `places` places would have the mean `keys / places` and the
+//! variance `keys * (places - 1) / places / places`. Each number must be at most six standard deviations above the
+//! mean.
 
 use crate::erased::lru_limits::RandomState;
 use crate::programs::test_helpers::Random;
@@ -27,7 +28,7 @@ fn are_even(state: &RandomState, groups: usize, keys: impl Iterator<Item = u64>)
 
 const STRIDES: [u64; 11] = [1, 3, 10, 24, 128, 1000, 16_384, 1 << 32, 1 << 50, 0x1_0000_0001, 0x9e37_79b9_7f4a_7c15];
 
-/// 14,336 keys fill 16,384 buckets as far as a table fills them.
+/// 14,336 keys are the most that a table of 16,384 buckets holds.
 #[test]
 fn of_regular_keys() {
     for seeds in [[1, 2, 3, 4], [11, 22, 33, 44]] {
@@ -44,7 +45,7 @@ fn of_regular_keys() {
     }
 }
 
-/// Zeros of each length up to 20, and other seeds.
+/// Zeros of each length up to 20, and other seeds, give distinct hashes.
 #[test]
 fn of_lengths_and_seeds() {
     let mut hashes: Vec<_> = (0..25usize)

@@ -1,4 +1,4 @@
-//! What no clause of a contract says of the erased calls that `jeerdurian` lacks.
+//! What no contract says about the erased calls that `jeerdurian` lacks.
 
 use crate::erased::lru_caches::OrderedMap;
 use crate::erased::schnellru::{ByCost, ByLength, LruMap, RandomState, UnlimitedCompact};
@@ -9,7 +9,7 @@ use std::hash::{BuildHasher, Hash, Hasher};
 
 const SEEDS: [u64; 4] = [1, 2, 3, 4];
 
-/// A table of 4 buckets holds 3 entries. The fourth, for which there is no memory, is lost, and the next one is still in
+/// A table of 4 buckets holds 3 entries. There is no memory for the fourth entry, which is lost. The fifth is still in
 /// the iterator.
 #[test]
 fn try_extend_leaves_the_iterator_behind_the_failed_entry() {
@@ -42,8 +42,8 @@ fn is_refused(map: &mut Map, form: u64, key: u64) -> bool {
     }
 }
 
-/// The requests of a first table of 4 buckets are its entries and its control bytes. A growth from 8 buckets to 16 also
-/// requests the links of the old entries.
+/// A first table of 4 buckets requests a block of entries and a block of control bytes. A growth from 8 buckets to 16
+/// also requests links of the old entries.
 #[test]
 fn each_request_of_an_insert_is_refused() {
     let cases: [(u64, &[usize]); 2] = [(0, &[96, 20]), (7, &[384, 32, 32])];
@@ -60,7 +60,7 @@ fn each_request_of_an_insert_is_refused() {
     }
 }
 
-/// The new entry costs as much as all others, which it evicts.
+/// The new entry costs as much as all other entries together, and evicts them.
 #[test]
 fn insert_and_keep_asks_for_one_entry_more_than_there_are() {
     for n in [0u64, 1, 3, 100, 2000, 50_000] {
@@ -89,7 +89,7 @@ impl PartialEq for Counted<'_> {
     }
 }
 
-/// It hashes only the entries that it moves.
+/// `insert_absent` hashes only the entries that it moves.
 #[test]
 fn insert_absent_does_not_search() {
     let (hashes, mut evicted) = (Cell::new(0), std::vec::Vec::new());

@@ -1,5 +1,5 @@
-//! Worked examples of the erased calls that `jeerdurian` lacks, writes anew, or keeps private, and that no row of
-//! `crates/rows` spells. The expected values follow from the rules of schnellru and of the pages of `docs`.
+//! Worked examples of erased calls that `jeerdurian` lacks, writes anew, or keeps private, and that no row of
+//! `crates/rows` spells. The expected values follow from the rules of schnellru and of `docs`.
 
 use crate::erased::group_table::group::{match_empty, match_free, match_tag};
 use crate::erased::lru_tenants::{TenantAnswer, TenantCache, TenantCall, TenantError, run_tenants};
@@ -131,7 +131,7 @@ fn masks_of_a_group() {
     assert_eq!((match_tag(&bytes, 0x7f), match_empty(&bytes), match_free(&bytes)), (0xffff, 0, 0));
 }
 
-/// Two tenants, whose entries are evicted and rejected apart. The first is closed, and opened again with a budget of 0.
+/// Two tenants; each evicts and rejects only its own entries. The first is closed, and opened again with a budget of 0.
 #[test]
 fn a_list_of_calls_on_two_tenants() {
     use TenantCall::{Close, Cost, Get, Open, Put};

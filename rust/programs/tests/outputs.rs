@@ -99,7 +99,7 @@ fn arguments() {
     }
 }
 
-/// How often MIN and MIN with bypass miss, by the definition: the key that comes last again is evicted.
+/// How often MIN and MIN with bypass miss, by the definition: they evict the key whose next reference comes last.
 fn best_misses(keys: &[usize], places: usize, bypass: bool) -> usize {
     let mut nexts = vec![keys.len(); keys.len()];
     let mut seen = std::collections::HashMap::new();
@@ -146,7 +146,7 @@ fn best_of_a_long_trace() {
     }
 }
 
-/// Each case of the folder `cases` of `trace`, whose reports `crates/trace/cases.py` counts.
+/// Each case of `crates/trace/cases`; `crates/trace/cases.py` computes the reports.
 #[test]
 fn cases_of_trace() {
     let folder = Path::new(env!("CARGO_MANIFEST_DIR")).join("../../crates/trace/cases");
@@ -176,8 +176,8 @@ fn status_of_trace(input: &Path, output: &str) -> Option<i32> {
     run.stdin(File::open(input).unwrap()).stdout(output).status().unwrap().code()
 }
 
-/// The statuses of `trace`, but for that of an unknown argument. A directory cannot be read, a full device cannot be
-/// written, and 400,000 keys do not fit in 30 megabytes.
+/// The statuses of `trace`, except the status for an unknown argument. A directory cannot be read, a full device cannot
+/// be written, and 400,000 keys do not fit in 30 megabytes.
 #[cfg(target_os = "linux")]
 #[test]
 fn statuses_of_trace() {

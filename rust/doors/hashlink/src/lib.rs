@@ -1,2 +1,2 @@
-//! All of `jeerdurian::hashlink`, for the renaming of a dependency.
+//! Re-exports all of `jeerdurian::hashlink`, so that Cargo.toml can rename this package to `hashlink`.
 pub use jeerdurian::hashlink::*;

@@ -20,7 +20,7 @@ pub use crate::erased::lru_caches::Counts;
 
 /// A map that counts its look-ups and its inserts.
 ///
-/// Proved: each call does what the call of the map does, and the counts are exact, until one reaches `u64::MAX`.
+/// Proved: each call does what the map's call does, and the counts are exact, up to `u64::MAX`.
 ///
 /// ```
 /// use jeerdurian::{ByLength, LruMap, caches::CountedMap};
@@ -51,7 +51,7 @@ impl<K: Eq + Hash, V, L: Limiter<K, V>, S: BuildHasher> CountedMap<K, V, L, S> {
         self.counted.counts()
     }
 
-    /// Returns the counts, and begins again with zeros.
+    /// Returns the counts, and resets them to zero.
     pub fn take_counts(&mut self) -> Counts {
         self.counted.take_counts()
     }

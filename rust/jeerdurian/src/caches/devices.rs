@@ -4,8 +4,8 @@ use crate::caches::BlockDevice;
 use crate::erased::lru_caches as proved;
 use std::io::{Read, Seek, Write};
 
-/// A file with a call that makes its bytes outlast a crash: a `File`, by `sync_data`, or a `Cursor`, for which the call
-/// does nothing. A file device calls it when it syncs, after it has flushed the writer.
+/// A file with a call that makes its bytes survive a crash. For a `File` this is `sync_data`; for a `Cursor` the call
+/// does nothing. A file device makes the call when it syncs, after it flushed the writer.
 ///
 /// ```
 /// use jeerdurian::caches::Durable;
@@ -26,7 +26,7 @@ pub use crate::erased::lru_caches::FileError;
 
 impl core::error::Error for FileError {}
 
-/// Defines a device for callers in Rust: the proved one, in the memory of Rust's allocator.
+/// Defines a device for callers in Rust: the proved device, with Rust's allocator.
 macro_rules! file_device {
     ($(#[$docs:meta])* $name:ident, $least:literal) => {
         $(#[$docs])*
@@ -46,7 +46,7 @@ macro_rules! file_device {
                 $name(proved::$name::new(file, count))
             }
 
-            /// Makes a device of all blocks that the file has whole.
+            /// Makes a device of all whole blocks of the file.
             ///
             /// # Errors
             ///
@@ -87,7 +87,7 @@ macro_rules! file_device {
                 self.len() == 0
             }
 
-            /// Returns the file, such as to read its metadata.
+            /// Returns the file, for example to read its metadata.
             ///
             /// ```
             #[doc = concat!("# use jeerdurian::caches::", stringify!($name), " as Device;")]
@@ -148,9 +148,9 @@ macro_rules! file_device {
 }
 
 file_device!(
-    /// A device of the blocks of a file, of `N` bytes each. It keeps nothing in memory but the file.
+    /// A device of the blocks of a file, of `N` bytes each. Only the file is kept in memory, no blocks.
     ///
-    /// A call fails with `File` if the file fails, if the device lacks the number, or after a `sync` that failed.
+    /// A call fails with `File` if the file fails, if the device has no such block, or after a `sync` failed.
     ///
     /// ```
     /// use jeerdurian::caches::{BlockDevice, FileDevice};
@@ -169,8 +169,9 @@ file_device!(
 file_device!(
     /// A device of the blocks of a file, of `N` bytes each, with a checksum in the last 8 bytes of each block.
     ///
-    /// A read fails with `Damaged` if the block does not have its checksum: it is torn, damaged, of another number, or
-    /// was not written by this device. The hash is known, so whoever writes the file can make a block with its checksum.
+    /// A read fails with `Damaged` if the checksum does not fit the block: the block is torn, damaged, written for
+    /// another number, or not written by this device. The hash is public, so whoever can write the file can forge a
+    /// block.
     ///
     /// ```
     /// use jeerdurian::caches::{BlockDevice, FileError, HashedFileDevice};

@@ -9,7 +9,7 @@ use core::hash::{BuildHasher, Hash};
 
 /// A function that remembers its newest results, up to a limit.
 ///
-/// Proved: each answer is a result of the function at an equal key, if the limiter stores values as they are, as all
+/// Proved: each answer is a result of the function at an equal key, if the limiter stores values unchanged. All
 /// limiters of this crate do.
 ///
 /// ```
@@ -29,7 +29,7 @@ where
 
 #[cfg(feature = "runtime-rng")]
 impl<K: Eq + Hash, V, F: Fn(&K) -> V, L: Admission<K, V>> Memo<K, V, F, L> {
-    /// Makes a memo of a function without results, with a hasher with random seeds. It takes no memory.
+    /// Makes an empty memo of a function, with a hasher with random seeds. It takes no memory.
     ///
     /// ```
     /// # use jeerdurian::{ByLength, caches::Memo};
@@ -42,7 +42,7 @@ impl<K: Eq + Hash, V, F: Fn(&K) -> V, L: Admission<K, V>> Memo<K, V, F, L> {
 }
 
 impl<K: Eq + Hash, V, F: Fn(&K) -> V, L: Admission<K, V>, S: BuildHasher> Memo<K, V, F, L, S> {
-    /// Makes a memo of a function without results, with this hasher of keys. It takes no memory.
+    /// Makes an empty memo of a function, with this hasher of keys. It takes no memory.
     ///
     /// ```
     /// # use jeerdurian::{ByLength, RandomState, caches::Memo};
@@ -74,11 +74,12 @@ impl<K: Eq + Hash, V, F: Fn(&K) -> V, L: Admission<K, V>, S: BuildHasher> Memo<K
         self.memo.is_empty()
     }
 
-    /// Returns what the function returns at a key: the stored result, or else the result of a call, which is stored.
+    /// Returns what the function returns at a key: the stored result if there is one, otherwise the result of a call,
+    /// which is then stored.
     ///
     /// If the memo runs out of memory, or a limit prevents storing the result, the result is returned anyway.
     ///
-    /// Cost: a get, and if no result is stored, a call of the function and an insert.
+    /// Cost: a get; if no result is stored, also a call of the function and an insert.
     ///
     /// ```
     /// # use jeerdurian::{ByLength, caches::Memo};
@@ -143,7 +144,7 @@ impl<K: Eq + Hash, V, F: Fn(&K) -> V, L: Admission<K, V>, S: BuildHasher> Memo<K
         self.memo.get_with(&Named(key), read)
     }
 
-    /// Removes the stored result of a key, and returns whether there was one.
+    /// Removes the stored result of a key, and returns whether it was there.
     ///
     /// ```
     /// # use jeerdurian::{ByLength, caches::Memo};
@@ -159,8 +160,7 @@ impl<K: Eq + Hash, V, F: Fn(&K) -> V, L: Admission<K, V>, S: BuildHasher> Memo<K
         self.memo.clear();
     }
 
-    /// Sets another limiter, and drops the oldest results while the new limiter is over its limit. Returns the old
-    /// limiter.
+    /// Sets a new limiter, and drops the oldest results while it is over its limit. Returns the old limiter.
     ///
     /// ```
     /// # use jeerdurian::{ByLength, caches::Memo};
@@ -176,8 +176,8 @@ impl<K: Eq + Hash, V, F: Fn(&K) -> V, L: Admission<K, V>, S: BuildHasher> Memo<K
 
 /// A memo of a function that may fail, such as a read of a file. It stores no failure.
 ///
-/// Proved: each value is a result of the function at an equal key, and a failure stores nothing, if the limiter stores
-/// values as they are, as all limiters of this crate do.
+/// Proved: a failure stores nothing, and each value is a result of the function at an equal key, if the limiter stores
+/// values unchanged. All limiters of this crate do.
 ///
 /// ```
 /// use jeerdurian::{ByLength, caches::Loader};
@@ -198,7 +198,7 @@ where
 
 #[cfg(feature = "runtime-rng")]
 impl<K: Eq + Hash, V, E, F: Fn(&K) -> Result<V, E>, L: Admission<K, V>> Loader<K, V, F, L> {
-    /// Makes a loader by a function without values, with a hasher with random seeds. It takes no memory.
+    /// Makes an empty loader that calls this function, with a hasher with random seeds. It takes no memory.
     ///
     /// ```
     /// # use jeerdurian::{ByLength, caches::Loader};
@@ -217,7 +217,7 @@ where
     L: Admission<K, V>,
     S: BuildHasher,
 {
-    /// Makes a loader by a function without values, with this hasher of keys. It takes no memory.
+    /// Makes an empty loader that calls this function, with this hasher of keys. It takes no memory.
     ///
     /// ```
     /// # use jeerdurian::{ByLength, RandomState, caches::Loader};
@@ -250,11 +250,12 @@ where
         self.loader.is_empty()
     }
 
-    /// Returns the stored value of a key, or else the result of a call of the function. A value is stored then.
+    /// Returns the stored value of a key. If there is none, calls the function, stores its value, and returns its
+    /// result.
     ///
     /// If the loader runs out of memory, or a limit prevents storing the value, the value is returned anyway.
     ///
-    /// Cost: a get, and if no value is stored, a call of the function and an insert.
+    /// Cost: a get; if no value is stored, also a call of the function and an insert.
     ///
     /// # Errors
     ///
@@ -289,7 +290,7 @@ where
         self.loader.load_with(key, read)
     }
 
-    /// Removes the stored value of a key, and returns whether there was one. The next [`load`](Self::load) of the key
+    /// Removes the stored value of a key, and returns whether it was there. The next [`load`](Self::load) of the key
     /// calls the function.
     ///
     /// ```

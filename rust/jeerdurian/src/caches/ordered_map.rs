@@ -17,9 +17,9 @@ pub use iter::{Entries, IntoEntries, Keys, Values};
 /// An insert of a key that is there keeps the key's place. A removal keeps the order of the other entries, and takes
 /// `O(1)`. The map evicts nothing: if its table cannot grow, an insert fails and changes nothing.
 ///
-/// Proved: each call changes and returns what it would of a list of the entries.
+/// Proved: each call changes and returns what the same call on a list of the entries would.
 ///
-/// In the examples of the calls, `map` contains (1, 11) and (2, 20), of which the last is the newest.
+/// In the examples of the calls, `map` contains (1, 11) and, as the newest, (2, 20).
 ///
 /// ```
 /// use jeerdurian::caches::OrderedMap;
@@ -185,8 +185,8 @@ impl<K: Eq + Hash, V, S: BuildHasher> OrderedMap<K, V, S> {
         self.map.last()
     }
 
-    /// Inserts a key with a value as the newest entry. If the key is there, its entry keeps its key and its place, and the old
-    /// value is returned.
+    /// Inserts a key with a value as the newest entry. If the key is there, its entry keeps its key and its place, and
+    /// the insert returns the old value.
     ///
     /// Cost: `O(1)` expected, amortised over the inserts. An insert that grows the table moves all entries.
     ///
@@ -284,7 +284,7 @@ impl<K: Eq + Hash, V, S: BuildHasher> OrderedMap<K, V, S> {
         self.map.move_to_back(&Borrowed(key))
     }
 
-    /// Removes the entries for which the closure returns false. It is called with each entry, oldest first.
+    /// Removes the entries for which the closure returns false. Calls the closure with each entry, oldest first.
     ///
     /// ```
     /// # let mut map = jeerdurian::caches::OrderedMap::new();
@@ -350,7 +350,7 @@ impl<K: Eq + Hash, V, S: BuildHasher> OrderedMap<K, V, S> {
     ///
     /// # Errors
     ///
-    /// There is no such table, or the map runs out of memory. Nothing has changed then.
+    /// No table is large enough, or the map runs out of memory. Nothing has changed then.
     ///
     /// ```
     /// # let mut map = jeerdurian::caches::OrderedMap::new();
@@ -362,7 +362,7 @@ impl<K: Eq + Hash, V, S: BuildHasher> OrderedMap<K, V, S> {
         self.map.try_reserve(n)
     }
 
-    /// Shrinks the table to as few buckets as hold the entries, and returns whether it had more.
+    /// Shrinks the table to the fewest buckets that hold the entries, and returns whether it had more buckets.
     ///
     /// # Errors
     ///

@@ -5,8 +5,8 @@ use crate::erased::lru_caches as proved;
 use crate::rattle_std::alloc::Global;
 use core::hash::BuildHasher;
 
-/// Why a call on a page cache failed. A call that fails changes no block that the cache shows, unless a `sync` of the
-/// device failed: later writes and flushes return `Broken` then, and so do reads and pins of pages that are not cached.
+/// Why a call on a page cache failed. A failed call changes no block that the cache shows, unless a `sync` of the
+/// device failed. After that, writes and flushes return `Broken`, and so do reads and pins of uncached pages.
 ///
 /// ```
 /// use jeerdurian::caches::PageError;
@@ -20,7 +20,7 @@ impl<E: core::error::Error> core::error::Error for PageError<E> {}
 
 /// A device of numbered blocks, such as a disk or a file. Any call may fail.
 ///
-/// What a [`PageCache`] promises is proved for devices that do as the docs of the calls say.
+/// The promises of a [`PageCache`] are proved for devices whose calls do what their docs say.
 ///
 /// ```
 /// use jeerdurian::caches::BlockDevice;
@@ -51,29 +51,29 @@ pub trait BlockDevice<B> {
     /// Why a call fails.
     type Error;
 
-    /// Returns whether the device has a block of this number. A cache asks before it reads or writes one.
+    /// Returns whether the device has a block of this number. A cache calls this before it reads or writes the block.
     fn has(&self, n: u64) -> bool;
 
-    /// Returns whether no `sync` has failed. A cache remembers a `sync` that failed in its own calls.
+    /// Returns whether all `sync`s succeeded so far. A cache itself remembers if one of its syncs failed.
     fn is_usable(&self) -> bool {
         true
     }
 
-    /// Returns a block: the one that was written last.
+    /// Returns the block that was last written at this number.
     ///
     /// # Errors
     ///
     /// The device failed. No block has changed.
     fn read(&mut self, n: u64) -> Result<B, Self::Error>;
 
-    /// Replaces a block. A crash may leave the old block, the new one, or a torn one, until a `sync`.
+    /// Replaces a block. Until a `sync`, a crash may leave the old block, the new block, or a torn block.
     ///
     /// # Errors
     ///
-    /// The device failed. That block may be anything then, and no other block has changed.
+    /// The device failed. This block may be anything then, and no other block has changed.
     fn write(&mut self, n: u64, block: &B) -> Result<(), Self::Error>;
 
-    /// Makes the blocks durable: returns `Ok` once a crash loses none of the blocks that were written before.
+    /// Makes the written blocks durable: after an `Ok`, a crash loses no block that was written before.
     ///
     /// # Errors
     ///
@@ -81,7 +81,7 @@ pub trait BlockDevice<B> {
     fn sync(&mut self) -> Result<(), Self::Error>;
 }
 
-/// A device as the proved cache calls it, and whether one of its syncs has failed.
+/// A device as the proved cache calls it, and whether one of the syncs has failed.
 struct Called<D>(D, bool);
 
 impl<B, D: BlockDevice<B>> proved::BlockDevice<B> for Called<D> {
@@ -113,14 +113,14 @@ impl<B, D: BlockDevice<B>> proved::BlockDevice<B> for Called<D> {
 
 /// A write-back cache of the blocks of a device.
 ///
-/// It keeps the pages that were used last, up to its capacity. A write changes the cached page alone: the page is dirty
-/// then, and goes to the device when it is evicted or flushed.
+/// It keeps the pages that were used last, up to its capacity. A write changes only the cached page. The page is then
+/// dirty, and is written to the device when it is evicted or flushed.
 ///
-/// Proved: after a flush that returned `Ok`, a crash leaves each block as it was shown then or was written later, if the
-/// device does as its docs say. A call that fails shows the same blocks as before. After a `sync` that failed, writes
-/// and flushes return `Broken`, and so do reads and pins of pages that are not cached.
+/// Proved: if the device does what its docs say, a crash after a flush that returned `Ok` leaves each block as it was
+/// shown at the flush, or as it was written later. A call that fails shows the same blocks as before. After a `sync`
+/// failed, writes and flushes return `Broken`, and so do reads and pins of uncached pages.
 ///
-/// A cache that is dropped loses its dirty pages without a word, so call [`close`](Self::close).
+/// A cache that is dropped loses its dirty pages silently, so call [`close`](Self::close).
 ///
 /// ```
 /// use jeerdurian::caches::{FileDevice, PageCache};
@@ -144,8 +144,8 @@ pub struct PageCache<B: Copy, D: BlockDevice<B>, S = RandomState> {
 
 #[cfg(feature = "runtime-rng")]
 impl<B: Copy, D: BlockDevice<B>> PageCache<B, D> {
-    /// Makes an empty cache of a device, for at most `capacity` pages, or for one page if that is 0. Its hasher of block
-    /// numbers has random seeds. It takes no memory.
+    /// Makes an empty cache of a device, for at most `capacity` pages; 0 counts as 1. Its hasher of block numbers has
+    /// random seeds. It takes no memory.
     ///
     /// ```
     /// # use jeerdurian::caches::{FileDevice, PageCache};
@@ -209,8 +209,8 @@ impl<B: Copy, D: BlockDevice<B>, S: BuildHasher> PageCache<B, D, S> {
         self.cache.contains(n)
     }
 
-    /// Returns how many calls that read, write or pin a page found it cached. A call that fails does not count here. The
-    /// count stays at `u64::MAX`.
+    /// Returns how many calls that read, write or pin a page found it cached. Failed calls do not count. The count
+    /// stops at `u64::MAX`.
     ///
     /// ```
     /// # use jeerdurian::caches::{FileDevice, PageCache};
@@ -223,7 +223,8 @@ impl<B: Copy, D: BlockDevice<B>, S: BuildHasher> PageCache<B, D, S> {
         self.cache.hits()
     }
 
-    /// Returns how many calls that read, write or pin a page did not find it cached, as [`hits`](Self::hits) counts.
+    /// Returns how many calls that read, write or pin a page did not find it cached, counted as by
+    /// [`hits`](Self::hits).
     ///
     /// ```
     /// # use jeerdurian::caches::{FileDevice, PageCache};
@@ -248,7 +249,7 @@ impl<B: Copy, D: BlockDevice<B>, S: BuildHasher> PageCache<B, D, S> {
         self.cache.evictions()
     }
 
-    /// Returns the device. It lacks the writes that are in dirty pages alone.
+    /// Returns the device. Writes that are only in dirty pages are not on it.
     ///
     /// ```
     /// # use jeerdurian::caches::{FileDevice, PageCache};
@@ -264,18 +265,17 @@ impl<B: Copy, D: BlockDevice<B>, S: BuildHasher> PageCache<B, D, S> {
     /// Returns a block, and makes its page the newest.
     ///
     /// A cached page is returned without the device. Otherwise the block is read from the device and cached. If the
-    /// cache is full, the oldest page that may go is evicted for it, after that page was written to the device if it is
-    /// dirty. A page may go unless it is [pinned](Self::pin) or, if the cache
-    /// [keeps dirty pages](Self::set_keeps_dirty), dirty.
+    /// cache is full, the oldest page that may go is evicted; if this page is dirty, it is first written to the device.
+    /// [Pinned](Self::pin) pages may not go, nor may dirty pages if the cache [keeps them](Self::set_keeps_dirty).
     ///
     /// Cost: `O(1)` expected, amortised over the growth of the table, and at most one read and one write of the device;
     /// if a page is evicted, also `O(k)` for k older pages that may not go.
     ///
     /// # Errors
     ///
-    /// None if the page is cached. `Broken`: a `sync` has failed. `NoBlock`: the device has no such number. `Full`: no
-    /// page may go. `Device`: the read failed, or a page could not be written back. `Memory`: out of memory for one page
-    /// more; a page may have been evicted.
+    /// None if the page is cached. `Broken`: a `sync` has failed. `NoBlock`: the device has no such block. `Full`: no
+    /// page may go. `Device`: the read failed, or a page could not be written back. `Memory`: out of memory for one
+    /// page more; a page may have been evicted.
     ///
     /// ```
     /// # use jeerdurian::caches::{FileDevice, PageCache};
@@ -292,7 +292,7 @@ impl<B: Copy, D: BlockDevice<B>, S: BuildHasher> PageCache<B, D, S> {
     ///
     /// # Errors
     ///
-    /// As `read`. The closure is not called then.
+    /// As for `read`. The closure is not called then.
     ///
     /// ```
     /// # use jeerdurian::caches::{FileDevice, PageCache};
@@ -304,11 +304,11 @@ impl<B: Copy, D: BlockDevice<B>, S: BuildHasher> PageCache<B, D, S> {
         self.cache.read_with(n, read)
     }
 
-    /// Reads the blocks of these numbers into the cache, in their order, each as `read` does.
+    /// Reads the blocks of these numbers into the cache, in order, each as `read` does.
     ///
     /// # Errors
     ///
-    /// As the first `read` that fails. The blocks before it were read.
+    /// The error of the first `read` that fails. The blocks before it were read.
     ///
     /// ```
     /// # use jeerdurian::caches::{FileDevice, PageCache};
@@ -326,7 +326,7 @@ impl<B: Copy, D: BlockDevice<B>, S: BuildHasher> PageCache<B, D, S> {
     ///
     /// # Errors
     ///
-    /// As of `read`, and `Broken` also if the page is cached. The block is not replaced then.
+    /// As for `read`, and `Broken` also if the page is cached. The block is not replaced then.
     ///
     /// ```
     /// # use jeerdurian::caches::{FileDevice, PageCache};
@@ -357,12 +357,12 @@ impl<B: Copy, D: BlockDevice<B>, S: BuildHasher> PageCache<B, D, S> {
         self.cache.write_with(n, write)
     }
 
-    /// Pins a page and makes it the newest, after it was read if it is not cached. It is not evicted until
-    /// [`unpin`](Self::unpin): one `unpin` ends any number of pins of a page. A flush writes pinned pages, too.
+    /// Pins a page, and makes it the newest. If it is not cached, first reads it. A pinned page is not evicted until
+    /// [`unpin`](Self::unpin): one `unpin` ends all pins of a page. A flush writes pinned pages, too.
     ///
     /// # Errors
     ///
-    /// As `read`.
+    /// As for `read`.
     ///
     /// ```
     /// # use jeerdurian::caches::{FileDevice, PageCache, PageError};
@@ -375,7 +375,7 @@ impl<B: Copy, D: BlockDevice<B>, S: BuildHasher> PageCache<B, D, S> {
         self.cache.pin(n)
     }
 
-    /// Ends the pin of a page, and returns whether there was one. The order of use stays.
+    /// Ends all pins of a page, and returns whether it was pinned. The order of use stays.
     ///
     /// ```
     /// # use jeerdurian::caches::{FileDevice, PageCache};
@@ -399,7 +399,7 @@ impl<B: Copy, D: BlockDevice<B>, S: BuildHasher> PageCache<B, D, S> {
         self.cache.is_pinned(n)
     }
 
-    /// Returns whether dirty pages are kept until a flush. At first they are not.
+    /// Returns whether dirty pages are kept until a flush. By default they are not.
     ///
     /// ```
     /// # use jeerdurian::caches::{FileDevice, PageCache};
@@ -411,9 +411,9 @@ impl<B: Copy, D: BlockDevice<B>, S: BuildHasher> PageCache<B, D, S> {
         self.cache.keeps_dirty()
     }
 
-    /// Sets whether dirty pages are kept until a flush. If they are, calls write to the device only to flush, so a log of
-    /// the writes can be written and synced before. A call that needs room for a page returns `Full` if each page is
-    /// dirty or pinned.
+    /// Sets whether dirty pages are kept until a flush. If they are, calls write to the device only to flush, so a log
+    /// of the writes can be written and synced before. If each page is dirty or pinned, a call that must evict a page
+    /// returns `Full`.
     ///
     /// ```
     /// # use jeerdurian::caches::{FileDevice, PageCache, PageError};
@@ -427,13 +427,13 @@ impl<B: Copy, D: BlockDevice<B>, S: BuildHasher> PageCache<B, D, S> {
         self.cache.set_keeps_dirty(keeps_dirty);
     }
 
-    /// Writes each dirty page to the device, in the order of their numbers, and then calls its `sync`. The pages stay
+    /// Writes the dirty pages to the device, in the order of their numbers, and then calls `sync`. The pages stay
     /// cached, and are clean then.
     ///
     /// # Errors
     ///
-    /// `Device`: a write or the `sync` failed. All pages stay as dirty as before. After a `sync` that failed, each flush
-    /// returns `Broken`.
+    /// `Device`: a write or the `sync` failed. Dirty pages stay dirty. After a failed `sync`, each flush returns
+    /// `Broken`.
     ///
     /// ```
     /// # use jeerdurian::caches::{FileDevice, PageCache};
@@ -464,7 +464,7 @@ impl<B: Copy, D: BlockDevice<B>, S: BuildHasher> PageCache<B, D, S> {
         self.cache.flush_page(n)
     }
 
-    /// Returns how many pages are dirty, in `O(len)`.
+    /// Returns how many pages are dirty. Cost: `O(len)`.
     ///
     /// ```
     /// # use jeerdurian::caches::{FileDevice, PageCache};

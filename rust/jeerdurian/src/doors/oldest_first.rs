@@ -1,11 +1,11 @@
-//! Walks that begin with the oldest entry, and what they and `Taken` show.
+//! Walks that begin with the oldest entry, and their `Debug` and the `Debug` of `Taken`.
 
 use super::Taken;
 use crate::erased::ordered_table::Walk;
 use crate::iter::WalkMut;
 use core::fmt::{Debug, Formatter, Result};
 
-/// A walk from the other end. Unlike `Rev`, it shows the entries that are left.
+/// A walk from the other end. Unlike the `Debug` of `Rev`, its `Debug` shows the entries that are left.
 #[derive(Clone)]
 pub(crate) struct OldestFirst<T>(pub(crate) T);
 

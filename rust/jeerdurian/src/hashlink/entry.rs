@@ -1,4 +1,4 @@
-//! The entries of a cache: of a key that is given, and of one that is only looked up (`raw`).
+//! The entries of a cache: of a given key, or of a key that is only looked up (`raw`).
 
 use super::LruCache;
 use crate::debug::shows;
@@ -10,8 +10,8 @@ use core::hash::{BuildHasher, Hash};
 use core::mem::replace;
 
 impl<K: Eq + Hash, V, S: BuildHasher> LruCache<K, V, S> {
-    /// Returns the entry of a key. It keeps its place in the order, unless a call moves it. If the cache is above its
-    /// capacity, the oldest entry is evicted first; a vacant entry may be inserted beyond the capacity, by one.
+    /// Returns the entry of a key. The entry keeps its place, unless a call moves it. If the cache is above its
+    /// capacity, first evicts the oldest entry. A vacant entry may be inserted beyond the capacity, by one.
     pub fn entry(&mut self, key: K) -> Entry<'_, K, V, S> {
         self.evict_above_capacity();
         match bucket_or_hash(&self.map, &key) {
@@ -20,7 +20,7 @@ impl<K: Eq + Hash, V, S: BuildHasher> LruCache<K, V, S> {
         }
     }
 
-    /// Looks up an entry by a key that is borrowed, or by a hash, under the rules of [`entry`](Self::entry).
+    /// Looks up an entry by a borrowed key or a hash. Evicts as [`entry`](Self::entry) does.
     pub fn raw_entry_mut(&mut self) -> RawEntryBuilderMut<'_, K, V, S> {
         self.evict_above_capacity();
         RawEntryBuilderMut { map: &mut self.map }
@@ -51,12 +51,12 @@ pub struct VacantEntry<'a, K, V, S> {
 }
 
 impl<'a, K: Eq + Hash, V, S: BuildHasher> Entry<'a, K, V, S> {
-    /// Lends the value, whose entry becomes the newest, or inserts this one.
+    /// Makes the entry the newest, and lends its value. If the key is absent, first inserts this value.
     pub fn or_insert(self, default: V) -> &'a mut V {
         self.or_insert_with(|| default)
     }
 
-    /// Lends the value, whose entry becomes the newest, or inserts what `default` returns.
+    /// Makes the entry the newest, and lends its value. If the key is absent, first inserts what `default` returns.
     pub fn or_insert_with<F: FnOnce() -> V>(self, default: F) -> &'a mut V {
         match self {
             Entry::Occupied(entry) => entry.into_newest().1,
@@ -66,7 +66,7 @@ impl<'a, K: Eq + Hash, V, S: BuildHasher> Entry<'a, K, V, S> {
 }
 
 impl<K, V, S> Entry<'_, K, V, S> {
-    /// Returns the stored key, or the given one if it is not there.
+    /// Returns the stored key, or the given key if it is absent.
     pub fn key(&self) -> &K {
         match self {
             Entry::Occupied(entry) => entry.key(),
@@ -151,19 +151,20 @@ impl<K, V> OccupiedEntry<'_, K, V> {
         replace(self.get_mut(), value)
     }
 
-    /// Replaces the stored key by the given one, and the value, and makes the entry the newest. Returns the old ones.
+    /// Replaces the stored key by the given key, and replaces the value. Makes the entry the newest. Returns the old
+    /// entry.
     pub fn insert_entry(mut self, value: V) -> (K, V) {
         self.to_back();
         self.replace_entry(value)
     }
 
-    /// Replaces the stored key by the given one, and the value. The order stays. Returns the old ones.
+    /// Replaces the stored key by the given key, and replaces the value. The order stays. Returns the old entry.
     pub fn replace_entry(mut self, value: V) -> (K, V) {
         let old = replace(self.get_mut(), value);
         (self.replace_key(), old)
     }
 
-    /// Replaces the stored key by the given one. The order stays. Returns the old key.
+    /// Replaces the stored key by the given key. The order stays. Returns the old key.
     pub fn replace_key(self) -> K {
         replace(self.entries.entry_mut(self.b).0, self.key)
     }
@@ -175,7 +176,7 @@ impl<K, V, S> VacantEntry<'_, K, V, S> {
         &self.key
     }
 
-    /// Gives the key back.
+    /// Returns the given key, and drops the handle.
     pub fn into_key(self) -> K {
         self.key
     }
@@ -208,7 +209,7 @@ pub struct RawEntryBuilderMut<'a, K, V, S> {
     map: &'a mut Map<K, V, S>,
 }
 
-/// An entry that was looked up, or the place for one.
+/// An entry that was looked up, or the place for it.
 pub enum RawEntryMut<'a, K, V, S> {
     /// The entry is there.
     Occupied(RawOccupiedEntryMut<'a, K, V>),
@@ -222,7 +223,7 @@ pub struct RawOccupiedEntryMut<'a, K, V> {
     b: usize,
 }
 
-/// The place for an entry that was looked up and is not there.
+/// The place for an entry that was looked up and is absent.
 pub struct RawVacantEntryMut<'a, K, V, S> {
     map: &'a mut Map<K, V, S>,
 }
@@ -247,7 +248,7 @@ impl<'a, K: Eq + Hash, V, S: BuildHasher> RawEntryBuilderMut<'a, K, V, S> {
 }
 
 impl<'a, K: Eq + Hash, V, S: BuildHasher> RawEntryMut<'a, K, V, S> {
-    /// Lends the entry, which becomes the newest, or inserts this one.
+    /// Makes the entry the newest, and lends it. If it is absent, first inserts this entry.
     pub fn or_insert(self, default_key: K, default_val: V) -> (&'a mut K, &'a mut V) {
         match self {
             RawEntryMut::Occupied(entry) => entry.into_newest(),
@@ -255,7 +256,7 @@ impl<'a, K: Eq + Hash, V, S: BuildHasher> RawEntryMut<'a, K, V, S> {
         }
     }
 
-    /// Lends the entry, which becomes the newest, or inserts what `default` returns.
+    /// Makes the entry the newest, and lends it. If it is absent, first inserts what `default` returns.
     pub fn or_insert_with<F: FnOnce() -> (K, V)>(self, default: F) -> (&'a mut K, &'a mut V) {
         match self {
             RawEntryMut::Occupied(entry) => entry.into_newest(),

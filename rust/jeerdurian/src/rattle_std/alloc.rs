@@ -1,4 +1,4 @@
-//! Memory by bytes and alignment, whose requests may fail.
+//! Requests for memory by bytes and alignment, which may fail.
 
 use core::alloc::Layout;
 
@@ -35,7 +35,7 @@ impl Allocator for Global {
         if bytes == 0 {
             return Ok(core::ptr::without_provenance_mut(align));
         }
-        // SAFETY: the layout has bytes.
+        // SAFETY: the size of the layout is not 0.
         let start = unsafe { ::alloc::alloc::alloc(layout) };
         if start.is_null() { Err(AllocError) } else { Ok(start) }
     }

@@ -2,7 +2,7 @@
 
 use super::alloc::AllocError;
 
-/// Rattle's `clone`, which may run out of memory. Rust's does not return then.
+/// Rattle's `clone`, which may run out of memory. Then Rust's `clone` would not return.
 pub trait TryClone: Sized {
     fn try_clone(&self) -> Result<Self, AllocError>;
 }

@@ -1,5 +1,5 @@
-//! Hash maps whose growth may fail, over Rust's, and a sorted set and map over Rust's, which abort without
-//! memory.
+//! Hash maps whose growth may fail, over Rust's `HashMap`; and a sorted set and a sorted map over Rust's, which abort
+//! if memory runs out.
 
 use super::alloc::{AllocError, Global};
 use core::borrow::Borrow;
@@ -53,16 +53,16 @@ impl<K: Ord, V> BTreeMap<K, V> {
     }
 }
 
-/// Rust's `HashMap`. Its keys need an `==` alone.
+/// Rust's `HashMap`. Its keys need only an `==`.
 pub struct HashMap<K, V, S = rust::RandomState, A = Global>(rust::HashMap<Key<K>, V, S>, PhantomData<A>);
 
-/// A key. Rust's map wants an `Eq`; if the `==` of a key is no equality, the map gives other answers, and no more.
+/// A key. Rust's map needs an `Eq`. If the `==` of a key is no equality, answers may be wrong, but memory stays safe.
 #[derive(Hash, PartialEq)]
 struct Key<K>(K);
 
 impl<K: PartialEq> Eq for Key<K> {}
 
-/// What a key is looked up by. Each value can be borrowed as itself, so this is another type than `Key`.
+/// A look-up key. Its type is not `Key`, because each value can also be borrowed as itself.
 #[derive(Hash, PartialEq)]
 #[repr(transparent)]
 struct Named<Q: ?Sized>(Q);
@@ -83,7 +83,7 @@ impl<K: Borrow<Q>, Q: ?Sized> Borrow<Named<Q>> for Key<K> {
 }
 
 impl<K, V> HashMap<K, V> {
-    /// An empty map. Its hashes are random, where Rattle's are known.
+    /// An empty map. Its hashes are random; in Rattle they are known.
     pub fn new(_: Global) -> Self {
         HashMap(rust::HashMap::default(), PhantomData)
     }

@@ -10,7 +10,7 @@ pub trait BufRead {
 
     fn consume(&mut self, n: usize);
 
-    /// Adds the bytes up to the next `byte`, with it. Returns how many, or an error if there is no memory for them.
+    /// Adds the bytes up to and including the next `byte`. Returns how many, or an error if memory cannot hold them.
     fn read_until(&mut self, byte: u8, line: &mut Vec<u8>) -> Result<usize>;
 }
 

@@ -1,5 +1,4 @@
-//! Macros of Rattle's library, and of the erasure. With the feature `checked`, and in a debug build, what is proved is
-//! tested.
+//! Macros of Rattle's library, and of the erasure. The feature `checked` and debug builds test what is proved.
 
 /// `vec![in alloc; item; n]`, which may fail.
 macro_rules! vec {
@@ -15,25 +14,25 @@ macro_rules! format {
     };
 }
 
-/// The item at an index that is proved to be within, or a part of a slice.
+/// The item at an index, or a part of a slice. The index is proved to be in range.
 macro_rules! at {
     ($items:expr, $index:expr) => {
         if cfg!(any(debug_assertions, feature = "checked")) {
             &$items[$index]
         } else {
-            // SAFETY: the index is within. `SAFETY.md` says why, for each use.
+            // SAFETY: the index is in range. `SAFETY.md` says why, for each use.
             unsafe { $items.get_unchecked($index) }
         }
     };
 }
 
-/// The same for writing.
+/// Does what `at!` does, for writing.
 macro_rules! at_mut {
     ($items:expr, $index:expr) => {
         if cfg!(any(debug_assertions, feature = "checked")) {
             &mut $items[$index]
         } else {
-            // SAFETY: the index is within. `SAFETY.md` says why, for each use.
+            // SAFETY: the index is in range. `SAFETY.md` says why, for each use.
             unsafe { $items.get_unchecked_mut($index) }
         }
     };
@@ -63,7 +62,7 @@ macro_rules! nowhere {
         if cfg!(any(debug_assertions, feature = "checked")) {
             unreachable!()
         } else {
-            // SAFETY: it is not reached. `SAFETY.md` says why, for each use.
+            // SAFETY: this is not reached. `SAFETY.md` says why, for each use.
             unsafe { ::core::hint::unreachable_unchecked() }
         }
     };

@@ -1,6 +1,6 @@
-//! The names of Rattle's library that the erased crates use, in terms of Rust's. Written by hand, and not proved.
+//! The names of Rattle's library that the erased crates use, defined by Rust's library. Written by hand, not proved.
 //!
-//! A name that means the same in both languages is Rust's own. The others differ as their modules say.
+//! A name that means the same in both languages is Rust's own. The modules of the other names say how they differ.
 #![allow(dead_code, unused_imports, unused_macros)]
 
 pub mod alloc;
@@ -17,8 +17,8 @@ pub mod vec;
 #[macro_use]
 mod macros;
 
-/// Rattle proves of an `Eq` that it is an equality. In Rust each type with an `==` may be a key, so nothing that runs
-/// relies on that law; `SAFETY.md` says what does.
+/// In Rattle, each `Eq` is proved to be an equality. In Rust each type with an `==` may be a key, so memory safety does
+/// not depend on this law (`SAFETY.md`).
 pub mod cmp {
     pub trait Eq: PartialEq {}
 
@@ -71,7 +71,7 @@ pub mod str {
     pub use core::str::*;
 }
 
-/// What Rattle's prelude has and Rust's has not.
+/// What Rattle's prelude contains and Rust's does not.
 pub mod prelude {
     pub use super::clone::{TryClone, never_fails};
     pub use super::cmp::Eq;

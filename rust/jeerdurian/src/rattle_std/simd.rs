@@ -1,4 +1,4 @@
-//! Sixteen bytes, compared at once: by SSE2, or as two words where there is none.
+//! Sixteen bytes, compared at once: by SSE2, or as two words on machines without SSE2.
 
 pub mod prelude {
     pub use super::u8x16;
@@ -32,7 +32,7 @@ impl u8x16 {
         if cfg!(any(debug_assertions, feature = "checked")) {
             assert!(bytes.len() >= 16);
         }
-        // SAFETY: a group of control bytes begins at most at the last bucket, and 16 bytes follow the last bucket's.
+        // SAFETY: a group of control bytes begins at most at the last bucket, whose byte is followed by 16 bytes.
         u8x16(unsafe { *bytes.as_ptr().cast() })
     }
 
@@ -92,8 +92,8 @@ impl u8x16 {
 
     #[inline(always)]
     pub fn simd_ge(self, other: Self) -> Mask {
-        // Bytes with different top bits are compared by these, and others by their lower bits, whose difference keeps
-        // the borrowed top bit if it is not negative.
+        // If the top bits of two bytes differ, they decide. Otherwise the lower bits decide: their difference keeps the
+        // borrowed top bit if it is not negative.
         self.by_words(other, |a, b| (a & !b) | (!(a ^ b) & ((a | TOPS) - (b & !TOPS))))
     }
 
@@ -101,7 +101,8 @@ impl u8x16 {
     #[inline(always)]
     fn by_words(self, other: Self, f: impl Fn(u64, u64) -> u64) -> Mask {
         let (a, b) = (u128::from_le_bytes(self.0), u128::from_le_bytes(other.0));
-        // The product has the top bit of byte i as bit 56 + i. No two of its terms meet, so nothing is carried.
+        // Bit 56 + i of the product is the top bit of byte i. The terms of the product overlap in no bit, so nothing is
+        // carried.
         let gathered = |found: u64| (((found & TOPS) >> 7).wrapping_mul(0x0102_0408_1020_4080) >> 56) as u16;
         let high = gathered(f((a >> 64) as u64, (b >> 64) as u64));
         Mask(gathered(f(a as u64, b as u64)) | high << 8)
@@ -116,7 +117,7 @@ const TOPS: u64 = 0x8080_8080_8080_8080;
 mod tests {
     use super::u8x16;
 
-    /// Compares each comparison with a plain loop, for each tag, over groups of random bytes and of bytes near the tag.
+    /// Tests each comparison against a plain loop, for each tag, with groups of random bytes and of bytes near the tag.
     #[test]
     fn comparisons_are_those_of_a_loop() {
         let mut random = 1u64;

@@ -4,7 +4,7 @@ use super::alloc::{AllocError, Global};
 use ::alloc::string::String;
 use core::fmt::{Arguments, Write};
 
-/// The calls of Rattle's `String` that Rust's has not.
+/// The calls of Rattle's `String` that Rust's `String` lacks.
 pub trait MadeByAlloc: Sized {
     fn new_in(alloc: Global) -> Self;
 
@@ -24,7 +24,7 @@ impl MadeByAlloc for String {
     }
 }
 
-/// A text that grows by parts, and may run out of memory between them.
+/// A text that grows part by part. Each growth may run out of memory.
 struct Growing(String);
 
 impl Write for Growing {

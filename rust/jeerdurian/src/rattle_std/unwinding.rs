@@ -21,7 +21,7 @@ impl<T, M: FnMut(&mut T)> Drop for Guard<'_, T, M> {
     }
 }
 
-/// Puts an empty value into the place of one that is half changed, of which nothing is dropped.
+/// Overwrites a half-changed value by an empty value, and drops nothing of the half-changed value.
 pub fn leak<T>(place: &mut T, empty: T) {
     core::mem::forget(core::mem::replace(place, empty));
 }

@@ -62,7 +62,7 @@ impl<T> Vec<T> {
         Ok(())
     }
 
-    /// Takes memory for n items more.
+    /// Reserves memory for n more items.
     pub fn reserve(&mut self, n: usize) -> Result<(), AllocError> {
         self.0.try_reserve(n).map_err(|_| AllocError)
     }
@@ -71,7 +71,7 @@ impl<T> Vec<T> {
         self.0.truncate(n);
     }
 
-    /// Adds an item, for which there is memory.
+    /// Adds an item without a growth: there is memory for it.
     #[inline]
     pub fn push_reserved(&mut self, item: T) {
         let n = self.0.len();

@@ -8,8 +8,8 @@ use crate::{OwnedBytes, RandomState};
 use core::borrow::Borrow;
 use core::hash::{BuildHasher, Hash};
 
-/// A cache for many tenants within one limit of bytes: for the table of tenants, their names, their tables, and what
-/// their entries own.
+/// A cache for many tenants within one limit of bytes. The bytes are the table of tenants, their names, their tables,
+/// and what their entries own.
 ///
 /// Each tenant has its own limit, which its map keeps as under [`ByBytes`](crate::ByBytes). While a table grows, the old
 /// table is not counted. The calls do what the calls of a [`TenantCache`](super::TenantCache) do.
@@ -79,7 +79,8 @@ where
         self.bytes.limit()
     }
 
-    /// Returns how many bytes are left for a further tenant: for its limit and its name, in the present table.
+    /// Returns how many bytes are left for the limit and the name of one more tenant, if the table of tenants does not
+    /// grow.
     pub fn left(&self) -> u64 {
         self.bytes.left()
     }
@@ -89,8 +90,8 @@ where
     /// # Errors
     ///
     /// The tenants are unchanged. `AlreadyOpen`, or `OverTotal`: the limit and the bytes of the name are above
-    /// [`left`](Self::left). `Memory`: a larger table of tenants is needed, and memory or the limit does not permit it,
-    /// or permits it but not this tenant in it. After `Memory` the table may be larger, so `left` may be lower.
+    /// [`left`](Self::left). `Memory`: a larger table of tenants is needed, but memory or the limit does not permit
+    /// this table, or not the tenant in it. After `Memory` the table may be larger, so `left` may be lower.
     pub fn open(&mut self, name: N, limit: u64) -> Result<(), TenantError> {
         self.bytes.open(name, limit)
     }

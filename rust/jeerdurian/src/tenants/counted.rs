@@ -20,10 +20,10 @@ use core::hash::{BuildHasher, Hash};
 
 impl<K: Eq + Hash, V, L: Budget<K, V>> Budget<K, V> for Counting<L> {}
 
-/// Calls that count, for a cache over [`Counting`]. No other call changes a count.
+/// Calls that count, for a cache over [`Counting`]. Other calls change no count.
 ///
-/// Proved of the sources: a counted call does what the call without counts does, and counts exactly, until a count
-/// reaches `u64::MAX`. It changes no count of another tenant.
+/// Proved of the sources: a counted call does what the call of the same name without `_counted` does, and counts
+/// exactly, up to `u64::MAX`. It changes no count of another tenant.
 ///
 /// ```
 /// use jeerdurian::ByCost;
@@ -58,7 +58,7 @@ where
         self.cache.counts(&Borrowed(name))
     }
 
-    /// Sets the counts of a tenant. So you can count other calls, with the calls of [`Counts`].
+    /// Sets the counts of a tenant. So you can count other calls by the methods of [`Counts`].
     ///
     /// # Errors
     ///
@@ -71,7 +71,7 @@ where
         self.cache.set_counts(&Borrowed(name), counts)
     }
 
-    /// Returns the counts of a tenant, and sets them to zeros.
+    /// Returns the counts of a tenant, and resets them to zero.
     ///
     /// # Errors
     ///
@@ -103,7 +103,7 @@ where
     ///
     /// # Errors
     ///
-    /// As of `put`. The evicted entries are counted.
+    /// As for `put`. The evicted entries are counted.
     pub fn put_counted<T>(&mut self, name: &T, key: K, value: V) -> Result<bool, TenantError>
     where
         N: Borrow<T>,
@@ -112,11 +112,12 @@ where
         self.cache.put_counted(&Borrowed(name), key, value)
     }
 
-    /// Does what `get_or_put` does, and counts a hit, or a miss and then what `put_counted` counts.
+    /// Does what `get_or_put` does. Counts a hit, or counts a miss and what `put_counted` counts.
     ///
     /// # Errors
     ///
-    /// As of `put`. If the error is `Memory`, the closure was called, and the miss and the evicted entries are counted.
+    /// As for `put`. If the error is `Memory`, the closure was called, and the miss and the evicted entries are
+    /// counted.
     pub fn get_or_put_counted<T>(
         &mut self,
         name: &T,

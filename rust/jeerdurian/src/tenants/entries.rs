@@ -40,12 +40,13 @@ where
         self.cache.put(&Borrowed(name), key, value)
     }
 
-    /// Inserts as [`put`](Self::put) does, and passes the evicted entries to the callback, oldest first. The callback also
-    /// gets the entry that is removed because its new value is rejected, and the new entry if it could not be stored.
+    /// Inserts as [`put`](Self::put) does, and passes the evicted entries to the callback, oldest first. If the new
+    /// value of a stored key is rejected, the callback gets the removed entry. If the new entry cannot be stored, the
+    /// callback gets it.
     ///
     /// # Errors
     ///
-    /// As of `put`.
+    /// As for `put`.
     ///
     /// ```
     /// # let mut cache = jeerdurian::tenants::TenantCache::<u64, u64, u64>::new();
@@ -63,12 +64,12 @@ where
         self.cache.put_with(&Borrowed(name), key, value, &mut lost)
     }
 
-    /// Inserts as [`put_with`](Self::put_with) does, and returns the value that the tenant does not keep: the replaced one,
-    /// or the new one if it is rejected.
+    /// Inserts as [`put_with`](Self::put_with) does, and also returns the replaced value, or the new value if it is
+    /// rejected.
     ///
     /// # Errors
     ///
-    /// As of `put`. After `Memory` the callback got the key and the value.
+    /// As for `put`. After `Memory` the callback got the key and the value.
     ///
     /// ```
     /// # let mut cache = jeerdurian::tenants::TenantCache::<u64, u64, u64>::new();
@@ -117,11 +118,11 @@ where
 
     /// Returns a tenant's value of a key. If the key is not there, inserts it with the value that the closure returns.
     ///
-    /// `None` says that the new entry is not there, as `false` says it of `put`.
+    /// Returns `None` if the new entry is not there afterwards, as `put` returns `false`.
     ///
     /// # Errors
     ///
-    /// As of `put`. If the error is `Memory`, the closure was called.
+    /// As for `put`. If the error is `Memory`, the closure was called.
     ///
     /// ```
     /// # let mut cache = jeerdurian::tenants::TenantCache::<u64, u64, u64>::new();
@@ -232,7 +233,7 @@ where
         self.cache.iter(&Borrowed(name))
     }
 
-    /// Removes a tenant's entries for which the closure returns false. It is called with each entry, oldest first.
+    /// Removes a tenant's entries for which the closure returns false. Calls the closure with each entry, oldest first.
     ///
     /// # Errors
     ///

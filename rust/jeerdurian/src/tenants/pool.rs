@@ -9,12 +9,12 @@ use crate::{ByCost, RandomState};
 use core::borrow::Borrow;
 use core::hash::{BuildHasher, Hash};
 
-/// A cache for many tenants that share one limit. Each tenant has a share of the limit that is its own; the rest is for
-/// whoever needs it.
+/// A cache for many tenants that share one limit. Each tenant has its own share of the limit. Any tenant may use the
+/// rest.
 ///
-/// The limiter `L` says what an entry costs (see [`Budget`]). If a [`put`](Self::put) takes the total above the limit,
-/// entries are evicted: each time the oldest entry of the tenant that is furthest above its share, the tenant of the
-/// `put` included.
+/// The limiter `L` says what an entry costs (see [`Budget`]). While a [`put`](Self::put) leaves the total above the
+/// limit, the pool evicts the oldest entry of the tenant that is furthest above its share. This may be the tenant of
+/// the `put`.
 ///
 /// Proved of the sources: the total of all costs stays within the limit. While a tenant's cost is within its share, no
 /// call of another tenant changes the tenant. The proofs assume that a cost never changes while its entry is stored.
@@ -94,7 +94,7 @@ where
         self.pool.is_empty()
     }
 
-    /// Returns the greatest total that the costs of all entries may have.
+    /// Returns the limit of the sum of all entries' costs.
     pub fn limit(&self) -> u64 {
         self.pool.limit()
     }
@@ -104,7 +104,7 @@ where
         self.pool.total_cost()
     }
 
-    /// Opens a tenant with an empty map and a share of the limit that is its own.
+    /// Opens a tenant with an empty map and its own share of the limit.
     ///
     /// Cost: `O(1)` expected, amortised over the tenants.
     ///
@@ -118,14 +118,14 @@ where
 
     /// Inserts a key with a value, as the newest entry of the tenant. Returns whether the key is there then.
     ///
-    /// An entry that alone costs more than the limit is rejected. While the total is above the limit, the tenant furthest
-    /// above its share loses its oldest entry, which may be the new one.
+    /// Rejects an entry that alone costs more than the limit. While the total is above the limit, the tenant furthest
+    /// above its share loses its oldest entry, perhaps the new entry.
     ///
     /// Cost: `O(1)` expected, amortised over the inserts, and `O(1)` for each tenant at each eviction.
     ///
     /// # Errors
     ///
-    /// `NotOpen`: nothing has changed. `Memory`: out of memory for the entry, which is not there then.
+    /// `NotOpen`: nothing has changed. `Memory`: out of memory for the entry, so the key is not there.
     pub fn put<T>(&mut self, name: &T, key: K, value: V) -> Result<bool, TenantError>
     where
         N: Borrow<T>,

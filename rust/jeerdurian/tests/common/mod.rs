@@ -1,4 +1,5 @@
-//! Keys, values, hashers and limiters that know which of them live, and that panic or lie when they are told to.
+//! Keys, values, hashers and limiters that panic on request, or *lie*: return anything. Keys and values record which of
+//! them live.
 #![allow(dead_code)]
 
 use jeerdurian::{Limiter, LruMap};
@@ -7,7 +8,7 @@ use std::collections::BTreeSet;
 use std::hash::{BuildHasher, DefaultHasher, Hash, Hasher};
 use std::panic::{AssertUnwindSafe, catch_unwind};
 
-/// What calls back into the caller's code.
+/// The kinds of callbacks into the caller's code.
 #[derive(Clone, Copy, Debug, PartialEq, Eq)]
 pub enum Kind {
     Compare,
@@ -54,11 +55,11 @@ pub const KINDS: [Kind; 17] = [
 pub struct World {
     pub live: BTreeSet<u64>,
     next: u64,
-    /// The kind that panics, and at which of its calls, counted down.
+    /// The kind of callback that panics, and after how many more of its calls.
     pub fuse: Option<(Kind, u32)>,
-    /// The state of a generator: keys and limiters lie if it is not zero.
+    /// The state of a random generator. If it is not zero, keys and limiters lie.
     pub lies: u64,
-    /// Of how many callbacks one panics, or zero.
+    /// If it is n > 0, one of n callbacks panics.
     pub panics: u64,
 }
 
@@ -70,7 +71,7 @@ pub fn world<R>(f: impl FnOnce(&mut World) -> R) -> R {
     WORLD.with(|it| f(&mut it.borrow_mut()))
 }
 
-/// A random number below `n`, or zero if nobody lies.
+/// A random number below `n`, or zero if keys and limiters do not lie.
 pub fn any(n: u64) -> u64 {
     world(|it| {
         if it.lies == 0 {
@@ -81,7 +82,7 @@ pub fn any(n: u64) -> u64 {
     })
 }
 
-/// Called by each callback: panics if it is told to.
+/// Called by each callback: panics if `fuse` or `panics` says so.
 pub fn step(kind: Kind) {
     let often = world(|it| it.panics);
     let is_due = world(|it| match &mut it.fuse {
@@ -169,7 +170,7 @@ impl<P> PartialEq for Key<P> {
 
 impl<P> Eq for Key<P> {}
 
-/// What a key to insert is made of, by `Into`.
+/// A value that `Into` turns into a key to insert.
 #[derive(Clone, Copy)]
 pub struct Seed(pub u64);
 
@@ -294,7 +295,7 @@ limit!(u8 u16 u32 usize);
 /// A map of keys and values with the same payload.
 pub type Map<P, N> = LruMap<Key<P>, Value<P>, Limit<N>, Builder>;
 
-/// Fails unless the map is a list of living entries, the same from both ends.
+/// Fails unless the map's iterators return the same living entries from both ends.
 pub fn assert_is_map<P, N, S>(map: &LruMap<Key<P>, Value<P>, Limit<N>, S>)
 where
     Limit<N>: Limiter<Key<P>, Value<P>>,
@@ -309,7 +310,7 @@ where
     });
 }
 
-/// Calls `f`. A panic that it was told to make is no failure; the text of another one fails the test.
+/// Calls `f`. Returns `None` after a requested panic; any other panic fails the test.
 pub fn told<R>(f: impl FnOnce() -> R) -> Option<R> {
     match catch_unwind(AssertUnwindSafe(f)) {
         Ok(result) => Some(result),
@@ -321,7 +322,7 @@ pub fn told<R>(f: impl FnOnce() -> R) -> Option<R> {
     }
 }
 
-/// Returns random numbers below each n that it gets, from this seed on.
+/// Makes a closure that returns a random number below its argument. The numbers depend on the seed.
 pub fn numbers(seed: u64) -> impl FnMut(u64) -> u64 {
     let mut random = seed.wrapping_mul(0x9e37_79b9_7f4a_7c15) | 1;
     move |n| {

@@ -1,4 +1,4 @@
-//! The system's allocator, which refuses one request of a thread if it is told to, and counts the bytes that it holds.
+//! The system's allocator, which counts allocated bytes, and on request refuses one request of a thread.
 
 use std::alloc::{GlobalAlloc, Layout, System};
 use std::cell::Cell;
@@ -45,13 +45,13 @@ pub fn refused<R>(n: u64, f: impl FnOnce() -> R) -> (R, bool) {
     (result, was_made)
 }
 
-/// Returns how many bytes the thread holds.
+/// Returns how many bytes the thread has allocated and not freed.
 #[allow(dead_code)]
 pub fn held() -> i64 {
     HELD.get()
 }
 
-/// Returns the sum of the alignments of the blocks that the thread holds.
+/// Returns the sum of the alignments of the blocks that the thread has allocated and not freed.
 #[allow(dead_code)]
 pub fn aligned() -> i64 {
     ALIGNED.get()

@@ -27,10 +27,10 @@ impl<const BY: u64> BuildHasher for Quotient<BY> {
     }
 }
 
-/// The hash of a number is the number.
+/// Hashes a number to itself.
 pub type Itself = Quotient<1>;
 
-/// The hash of a number below 1,000 is 0.
+/// Hashes a number to its quotient by 1,000.
 pub type Thousands = Quotient<1000>;
 
 /// A key whose hash is 28 by `Thousands`.
@@ -83,7 +83,7 @@ pub enum Event {
 
 pub use Event::{Cleared, Grow, Removed};
 
-/// Limits as `L` does, and logs some callbacks, in memory that it takes at first.
+/// Limits as `L` does, and logs some callbacks, in memory that it allocates when it is made.
 pub struct Logging<L> {
     pub limiter: L,
     pub log: Vec<Event>,

@@ -1,5 +1,5 @@
-//! Worked examples that no line of a program and no list of calls spells: iterators from both ends, copies, closures,
-//! texts as keys, limiters that log, and requests for memory that are refused.
+//! Worked examples that no row can spell: iterators from both ends, copies, closures, texts as keys, limiters that log,
+//! and refused requests for memory.
 //!
 //! The expected values follow from the rules of schnellru and of `docs/TABLE.md`.
 
@@ -140,7 +140,7 @@ fn an_iterator_that_lends_is_dropped_after_one_write() {
     assert_eq!(entries(&map), [(3, 31), (2, 20), (1, 10)]);
 }
 
-/// An iterator that lends doubles the values of even keys, in the order of use.
+/// A loop over `iter_mut` doubles the values of even keys, in the order of use.
 #[test]
 fn values_are_doubled_in_order() {
     let mut map = LruMap::with_seed(UnlimitedCompact, SEED);
@@ -228,7 +228,7 @@ fn a_copy_has_the_counts_of_its_source() {
     assert_eq!(entries(&copy), tens((1..=15).rev()));
 }
 
-/// Returns a closure that counts how often it is asked, and says yes at the n-th time.
+/// Returns a closure that counts its calls, and returns true at the n-th call.
 fn at_the<K, V>(n: u32, asked: &Cell<u32>) -> impl FnMut(&K, &V) -> bool {
     move |_, _| {
         asked.set(asked.get() + 1);
@@ -266,7 +266,7 @@ fn random_inserts_and_removals_within_512_bytes() {
     assert_eq!(map.memory_usage(), 288);
 }
 
-/// Two tenants, whose entries are evicted and rejected apart. The first is closed, and opened again with a budget of 0.
+/// Two tenants; each evicts and rejects only its own entries. The first is closed, and opened again with a budget of 0.
 #[test]
 fn calls_on_two_tenants() {
     use TenantError::{AlreadyOpen, NotOpen};

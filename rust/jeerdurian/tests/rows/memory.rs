@@ -4,8 +4,9 @@ use crate::helpers::*;
 use crate::refusing::refused;
 use jeerdurian::{ByCost, ByMemoryUsage, LruMap, More, UnlimitedCompact};
 
-/// Calls `f` on a map of its own with each request for memory refused in turn, until none is. `f` returns whether it
-/// failed, and `check` looks at the map after a failure, and makes the call again. Returns how many were refused.
+/// Calls `f` on a fresh map with the n-th request for memory refused, for n = 1, 2, .., until none is refused. `f`
+/// returns whether it failed. After a failure, `check` checks the map, and makes the call again. Returns the number of
+/// refused requests.
 fn refuse_each<M>(new: impl Fn() -> M, f: impl Fn(&mut M) -> bool, check: impl Fn(&mut M)) -> u64 {
     for n in 1.. {
         let mut map = new();

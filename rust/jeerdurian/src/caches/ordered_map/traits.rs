@@ -32,7 +32,7 @@ fn out_of_memory<K, V>() -> ! {
 }
 
 impl<K: Eq + Hash + Clone, V: Clone, S: BuildHasher + Clone> Clone for OrderedMap<K, V, S> {
-    /// Clones the entries, in their order. Without memory the program ends as `handle_alloc_error` says.
+    /// Clones the entries, in order. If memory runs out, calls `handle_alloc_error`, which ends the program.
     ///
     /// ```
     /// # use jeerdurian::caches::OrderedMap;
@@ -45,7 +45,7 @@ impl<K: Eq + Hash + Clone, V: Clone, S: BuildHasher + Clone> Clone for OrderedMa
 }
 
 impl<K: Eq + Hash, V, S: BuildHasher> Extend<(K, V)> for OrderedMap<K, V, S> {
-    /// Inserts each entry. Without memory the program ends as `handle_alloc_error` says.
+    /// Inserts each entry. If memory runs out, calls `handle_alloc_error`, which ends the program.
     ///
     /// ```
     /// # use jeerdurian::caches::OrderedMap;
