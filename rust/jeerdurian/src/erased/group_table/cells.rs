@@ -28,7 +28,7 @@ unsafe impl<T> Send for Block<T> {}
 
 unsafe impl<T> Sync for Block<T> {}
 
-// The owner of the places and of the entries in them. It has no bytes.
+// The owner of the places and of the entries in them. It is zero-sized.
 pub(crate) struct Cells<T> {
     mark: PhantomData<*const T>,
 }
@@ -38,7 +38,7 @@ unsafe impl<T: Send> Send for Cells<T> {}
 
 unsafe impl<T: Sync> Sync for Cells<T> {}
 
-// The right to give a block of `count` places back to its allocator. It has no bytes.
+// The right to give a block of `count` places back to its allocator. It is zero-sized.
 pub(crate) struct Deed<T, A: Allocator> {
     mark: PhantomData<*const (T, A)>,
 }
@@ -96,7 +96,7 @@ impl<T> Cells<T> {
 
     #[inline]
     pub(crate) fn read(&mut self, block: Block<T>, b: usize) -> T {
-        // SAFETY: place b holds an entry, and `self` no longer counts it.
+        // SAFETY: place b holds an entry, which `self` no longer owns afterwards.
         unsafe { block.start.add(b).read() }
     }
 

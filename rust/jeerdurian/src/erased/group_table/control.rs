@@ -36,7 +36,7 @@ impl Control {
         self.last == 0
     }
 
-    // With buckets, a search seldom begins at bucket 0, so the first test is mostly enough. The search needs
+    // In a table with buckets, a search seldom begins at bucket 0, so the first test usually decides. The search needs
     // `hash & last` anyway. The sum in the second test keeps the compiler from joining the tests.
     #[inline]
     pub(crate) fn is_empty_at(&self, hash: u64) -> bool {
@@ -101,8 +101,8 @@ pub(crate) fn room_taken(byte: u8) -> usize {
 #[inline]
 fn set_both(bytes: &mut [u8], last: usize, b: usize, byte: u8) {
     (*at_mut!(bytes, b)) = byte;
-    // Writes the repetition of one of the first 16 buckets. For any other bucket, this line writes the same byte again,
-    // which avoids a branch.
+    // If b is one of the first 16 buckets, writes the repetition of its byte. Otherwise, this line writes the same byte
+    // again, which avoids a branch.
     (*at_mut!(bytes, sixteen_before(b, last) + 16)) = byte;
 }
 

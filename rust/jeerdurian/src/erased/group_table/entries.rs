@@ -7,15 +7,15 @@ use crate::rattle_std::prelude::*;
 use crate::erased::group_table::cells::{Block, Cells, Deed, allocate, deallocate, fits_in_block};
 use crate::rattle_std::alloc::{AllocError, Global};
 
-// A block of places, with the right to give it back.
+// A block of places, with the right to free the block.
 struct Row<T> {
     block: Block<T>,
     cells: Cells<T>,
     deed: Deed<T, Global>,
 }
 
-// Without places, `row` is `None`. Only the control bytes know the number of places, so the caller of `free` passes it.
-// The caller also shows that no place holds an entry.
+// Without places, `row` is `None`. Only the control bytes know the number of places, so the caller of `free` passes
+// this number. The caller also shows that no place holds an entry.
 pub(crate) struct Entries<T> {
     row: Option<Row<T>>,
     alloc: Global,

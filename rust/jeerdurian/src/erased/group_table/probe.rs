@@ -28,7 +28,8 @@ impl Probe {
     }
 }
 
-// The result of one group: a bucket whose entry was accepted, the end of the search at an empty bucket, or neither.
+// The result of searching one group: a bucket whose entry was accepted, the end of the search at an empty bucket, or
+// neither.
 enum Searched {
     Accepted(usize),
     Ended,
@@ -55,8 +56,8 @@ fn search_group<T, F: FnMut(&T) -> bool>(
     if group.match_empty() != 0 { Searched::Ended } else { Searched::GoesOn }
 }
 
-// Calls `f` with the entries that have the tag of the hash, group by group, until `f` accepts one, or a group has an
-// empty bucket. It is inlined, because a call would read its arguments even if the search compares no entry.
+// Calls `f` with the entries that have the tag of the hash, group by group, until `f` accepts an entry or a group has
+// an empty bucket. This function is inlined: a call would load all arguments, even if the search compares no entry.
 #[inline(always)]
 pub(crate) fn find_bucket<T, F: FnMut(&T) -> bool>(
     control: &Control,
@@ -92,8 +93,8 @@ fn free_in_group(control: &Control, start: usize) -> Option<usize> {
     if control.byte(b) >= DELETED {
         return Some(b);
     }
-    // The table has 4 or 8 buckets, and the lane is a byte between the bytes of the buckets and their repetition. So
-    // the buckets from `start` on are full.
+    // In a table of 4 or 8 buckets, empty bytes follow the bytes of the buckets. The lane is one of these empty bytes,
+    // so the buckets from `start` to the last are full.
     Some(lowest_lane(control.group(0).match_free()))
 }
 

@@ -1,5 +1,5 @@
 // Erased from crates/group_table/src/table.rt: do not edit.
-//! A contract sees a table as its `slots`, one for each bucket, and the numbers of its `insertions`.
+//! Contracts describe a table by its `slots`, one for each bucket, and the counts of its `insertions`.
 
 #[allow(unused_imports)]
 use crate::rattle_std::prelude::*;
@@ -24,10 +24,10 @@ mod relocation;
 /// entry keeps its bucket until the entry is taken out, or all entries are moved. `docs/TABLE.md` explains the rules.
 ///
 /// Only `with_buckets`, `relocate`, `rehash` and `clone_with` allocate. `new`, `get`, `get_mut`, `take` and reads such
-/// as `len` take O(1). `find`, `place` and `try_place` take O(1) if the hashes are spread, and at worst O(B) for B
-/// buckets. All other calls take O(B).
+/// as `len` cost O(1). `find`, `place` and `try_place` cost O(1) if the hashes are spread, and at worst O(B) for B
+/// buckets. All other calls cost O(B).
 pub struct Table<T> {
-    // If this field were next to `len`, the compiler would join their changes into one slower load and store.
+    // If this field were next to `len`, the compiler would change both fields by one slower load and store.
     growth_left: usize,
     control: Control,
     entries: Entries<T>,
@@ -62,7 +62,8 @@ impl<T> Table<T> {
         if buckets == 0 {
             return Ok(Table::new(alloc));
         }
-        // Allocates the entries first, so that a table too large for the memory fails before a byte is written.
+        // Allocates the entries first: if the table is too large for the memory, the call fails before it writes a
+        // byte.
         let entries = Entries::with_places(alloc, buckets)?;
         let control = match Control::with_buckets(alloc, buckets) {
             Ok(control) => control,
@@ -76,9 +77,9 @@ impl<T> Table<T> {
 
     /// Returns the bucket of the first entry that `f` accepts.
     ///
-    /// `f` is called with entries whose hashes agree with `hash` in the top 7 bits, in the order of the search. Only
-    /// tests show that `f` is called at most once with each entry. If the result is `None`, `f` rejected each entry
-    /// with this hash.
+    /// `f` is called with entries whose hashes agree with `hash` in the top 7 bits, in the order of the search. Tests,
+    /// not proofs, show that `f` is called at most once with each entry. If the result is `None`, `f` rejected each
+    /// entry with this hash.
     #[inline]
     pub fn find<F: FnMut(&T) -> bool>(&self, hash: u64, f: F) -> Option<usize> {
         if self.control.is_empty_at(hash) {
@@ -104,8 +105,8 @@ impl<T> Table<T> {
 
     /// Takes the entry out of a full bucket.
     ///
-    /// If each run of 16 neighbouring buckets that includes this bucket contains an empty bucket, this bucket becomes
-    /// empty, and the growth left rises by one. If a run contains no empty bucket, this bucket becomes deleted, so that
+    /// Considers all runs of 16 neighbouring buckets that include this bucket. If each run contains an empty bucket,
+    /// this bucket becomes empty, and the growth left rises by one. Otherwise, this bucket becomes deleted, so that
     /// searches still go past it. In a table of up to 16 buckets, each run contains an empty bucket.
     #[inline(always)]
     pub fn take(&mut self, b: usize) -> T {
@@ -121,8 +122,8 @@ impl<T> Table<T> {
     /// Puts an entry with this hash into the first free bucket in the order of a search, and returns the bucket. There
     /// must be growth left.
     ///
-    /// If the bucket was empty, the growth left falls by one. If the bucket was deleted, the growth left stays. `place`
-    /// allocates nothing, and moves no other entry.
+    /// If the bucket was empty, the growth left falls by one. If the bucket was deleted, the growth left is unchanged.
+    /// `place` allocates nothing, and moves no other entry.
     #[inline(always)]
     pub fn place(&mut self, hash: u64, entry: T) -> usize {
         let b = first_free(&self.control, hash);

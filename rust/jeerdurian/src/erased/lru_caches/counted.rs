@@ -8,7 +8,7 @@ use crate::erased::schnellru::{Inserted, Insertion, KeyHasher, Limiter, LookupKe
 use crate::rattle_std::alloc::AllocError;
 use crate::rattle_std::hash::Hash;
 
-/// The counts of a cache, which an operator may watch. Each count stops at `u64::MAX`.
+/// The counts of a cache. Each count stops at `u64::MAX`.
 ///
 /// A call counts only if its documentation says so. Evictions by other calls, such as `set_budget`, are not counted.
 #[derive(Clone, Copy, Debug, Default, PartialEq, Eq)]
@@ -19,10 +19,10 @@ pub struct Counts {
     pub misses: u64,
     /// How many inserts left their key in the cache.
     pub insertions: u64,
-    /// How many inserts returned `Ok(false)`: the limiter rejected the entry, no table could hold it, or it was evicted
-    /// at once.
+    /// How many inserts returned `Ok(false)`: the limiter rejected the entry, no table could hold the entry, or the
+    /// entry was evicted at once.
     pub rejections: u64,
-    /// How many entries of other keys were evicted by inserts.
+    /// How many entries were evicted by inserts, other than the inserted entry itself.
     pub evictions: u64,
 }
 
@@ -55,7 +55,7 @@ pub struct CountedMap<K, V, L: Limiter<K, V>, S = RandomState> {
 }
 
 impl<K: Eq + Hash, V, L: Limiter<K, V>, S: KeyHasher<K>> CountedMap<K, V, L, S> {
-    /// Counts the calls on this map from now on.
+    /// Takes a map, and counts its look-ups and inserts from now on.
     ///
     /// Cost: `O(1)`.
     pub fn new(map: LruMap<K, V, L, S>) -> Self {
@@ -69,7 +69,7 @@ impl<K: Eq + Hash, V, L: Limiter<K, V>, S: KeyHasher<K>> CountedMap<K, V, L, S> 
         self.counts
     }
 
-    /// Returns the counts, and begins again with zeros.
+    /// Returns the counts, and sets them to zeros.
     ///
     /// Cost: `O(1)`.
     pub fn take_counts(&mut self) -> Counts {
@@ -78,7 +78,7 @@ impl<K: Eq + Hash, V, L: Limiter<K, V>, S: KeyHasher<K>> CountedMap<K, V, L, S> 
         counts
     }
 
-    /// Returns the map. Calls on it count nothing.
+    /// Returns the map. Calls on it are not counted.
     ///
     /// Cost: `O(1)`.
     pub fn map(&self) -> &LruMap<K, V, L, S> {
@@ -135,7 +135,7 @@ impl<K: Eq + Hash, V, L: Limiter<K, V>, S: KeyHasher<K>> CountedMap<K, V, L, S> 
         done
     }
 
-    /// Does what `LruMap::remove` does. A removal counts nothing.
+    /// Does what `LruMap::remove` does. A removal is not counted.
     ///
     /// Cost: as `LruMap::remove`.
     pub fn remove<Q: LookupKey<K>>(&mut self, key: &Q) -> Option<V> {

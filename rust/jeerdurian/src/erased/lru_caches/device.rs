@@ -2,7 +2,7 @@
 #[allow(unused_imports)]
 use crate::rattle_std::prelude::*;
 
-/// A device of numbered blocks, such as a disk or a file. Any call may fail.
+/// A device of numbered blocks, such as a disk or a file. Each `read`, `write` or `sync` may fail.
 ///
 /// After a crash, each block may be as it was at the last `sync`, as it was written later, or torn. A write changes
 /// only its own block, even if the write fails or the machine stops in the middle. After a failed `sync`, no clause
@@ -16,7 +16,7 @@ pub trait BlockDevice<B> {
     /// The type of a block, as contracts see it.
     type Seen;
 
-    /// Returns whether the device has a block of this number.
+    /// Returns whether the device has a block with this number.
     fn has(&self, n: u64) -> bool;
 
     /// Returns true unless a `sync` has failed.
@@ -33,7 +33,7 @@ pub trait BlockDevice<B> {
     ///
     /// # Errors
     ///
-    /// The device failed. The block of this number may be anything now, and no other block has changed.
+    /// The device failed. The block with this number may be anything now, and no other block has changed.
     fn write(&mut self, n: u64, block: &B) -> Result<(), Self::Error>;
 
     /// Makes the blocks durable. After an `Ok`, a crash leaves each known block as it is.

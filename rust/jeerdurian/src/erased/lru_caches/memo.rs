@@ -9,7 +9,7 @@ use crate::rattle_std::hash::Hash;
 pub(crate) mod loader;
 pub(crate) mod table;
 
-/// A function with its newest results, up to a limit.
+/// A function that remembers its newest results, up to a limit.
 
 pub struct Memo<K: Eq + Hash, V, F, L: Insertion<K, V, K>, S: KeyHasher<K> = RandomState> {
     map: LruMap<K, V, L, S>,
@@ -74,8 +74,8 @@ impl<K: Eq + Hash, V: Copy, F: Fn(&K) -> V, L: Insertion<K, V, K>, S: KeyHasher<
 }
 
 impl<K: Eq + Hash, V, F: Fn(&K) -> V, L: Insertion<K, V, K>, S: KeyHasher<K>> Memo<K, V, F, L, S> {
-    /// Lends a closure the result that `answer` would return, and returns what the closure returns. The results need
-    /// not be `Copy`.
+    /// Does what `answer` does, but lends the result to a closure, and returns what the closure returns. The results
+    /// need not be `Copy`.
     ///
     /// Cost: as `answer`, plus a call of the closure.
     pub fn answer_with<R, U: FnOnce(&V) -> R>(&mut self, key: K, read: U) -> R {

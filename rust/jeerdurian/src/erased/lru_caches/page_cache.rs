@@ -23,7 +23,7 @@ pub enum PageError<E> {
     Device(E),
     /// Out of memory for one more page, or there are 1,879,048,192 pages, the most that the table holds.
     Memory,
-    /// The device has no block of this number.
+    /// The device has no block with this number.
     NoBlock,
     /// The cache is full, and no page may be evicted: each is pinned, or is dirty and kept until a flush. Nothing has
     /// changed.
@@ -59,7 +59,7 @@ where
 /// be lost.
 pub struct PageCache<B: Copy, D: BlockDevice<B>, S = RandomState> {
     map: Pages<B, S>,
-    // reserved memory for the numbers of the pages, for flushes
+    // memory that flushes need for page numbers, reserved in advance
     numbers: Vec<u64>,
     capacity: usize,
     keeps_dirty: bool,
@@ -148,8 +148,8 @@ impl<B: Copy, D: BlockDevice<B>, S: KeyHasher<u64>> PageCache<B, D, S> {
     ///
     /// # Errors
     ///
-    /// `Broken`. `Device`: a write or the `sync` failed, and the dirty pages stay dirty. After a failed `sync`, the
-    /// device is not usable.
+    /// `Broken`: an earlier `sync` failed. `Device`: a write or the `sync` failed, and the dirty pages stay dirty.
+    /// After a failed `sync`, the device is not usable.
     pub fn flush(&mut self) -> Result<(), PageError<D::Error>> {
         if !self.device.is_usable() {
             return Err(PageError::Broken);

@@ -17,8 +17,8 @@ pub use by_cost::ByCost;
 pub use by_weight::ByWeight;
 pub use owned_bytes::OwnedBytes;
 
-/// A value with a cost. An unsigned number of up to 64 bits costs itself. A text costs the number of its bytes, and a
-/// vector the number of its items.
+/// A value with a cost. The cost of an unsigned number of up to 64 bits is the number. The cost of a text is its number
+/// of bytes, and the cost of a vector is its number of items.
 ///
 /// The limiter reads the cost of a value again when its entry is evicted or removed, or when the value is replaced. If
 /// the cost of a stored value changes, the running total is no longer the sum of the costs.
@@ -80,7 +80,7 @@ impl<T> Costed for Vec<T> {
 /// or removed entry.
 ///
 /// The total after each call is the sum of the costs of the map's entries, until a caller writes to a stored value, or
-/// writes or sets the limiter.
+/// changes the limiter.
 pub trait Summing<K, V>: Admission<K, V> {
     /// Returns the cost of an entry.
     fn cost_of(key: &K, value: &V) -> u64;

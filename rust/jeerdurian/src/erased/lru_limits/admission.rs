@@ -11,7 +11,7 @@ use crate::rattle_std::hash::Hash;
 
 /// Accepts or rejects entries, and changes no accepted entry.
 ///
-/// Every `Admission` is an [`Insertion`], and can be in [`crate::Both`]. If an `Admission` is `Copy`, a map with it has
+/// Every `Admission` is an [`Insertion`], and can be part of [`crate::Both`]. If the `Admission` is `Copy`, its map has
 /// `try_insert`. `never_changes` of `specs/Admissions.antt` defines the terms of a limiter that never changes.
 pub trait Admission<K, V>: Limiter<K, V> {
     /// Returns whether `admit` would accept this entry.
@@ -31,7 +31,7 @@ pub trait Admission<K, V>: Limiter<K, V> {
 }
 
 impl<K: Eq + Hash, V, L: Admission<K, V>> Insertion<K, V, K> for L {
-    // Forced inline, so that the caller uses the entry unchanged, and branches instead of selecting between `Some` and
+    // Forced inline: the caller then uses the entry unchanged, and branches instead of selecting between `Some` and
     // `None`.
     #[inline(always)]
     fn on_insert(&mut self, _alloc: Global, length: usize, key: K, value: V) -> Result<Option<(K, V)>, AllocError> {

@@ -16,7 +16,7 @@ const REST_KEY: u64 = 0x3c6e_f372_fe94_f82b;
 
 const REST_FACTOR: u64 = 0xa54f_f53a_5f1d_36f1;
 
-/// Builds hashers with four seeds. A contract sees a `RandomState` as the hasher before the first write.
+/// Builds hashers with four seeds. Contracts represent a `RandomState` by the hasher that it builds.
 ///
 /// `state.hash_one(&key)` is the hash of the key in a map with an equal `RandomState`. Every value that names a key has
 /// the hash of this key. The default seeds are 1, 2, 3, 4, so an attacker can choose keys that collide.
@@ -71,7 +71,7 @@ pub struct DefaultHasher {
     rest_key: u64,
 }
 
-// Returns the xor of the two halves of the 128 bits of a product.
+// Returns the xor of the two 64-bit halves of a product.
 #[inline]
 const fn folded(a: u64, b: u64) -> u64 {
     let product = a as u128 * b as u128;

@@ -37,7 +37,7 @@ pub trait Limiter<K, V> {
     /// but no contract says so.
     fn on_removed(&mut self, key: &mut K, value: &mut V);
 
-    /// Called once by each clear of the map, even if the map is empty. The drop of a `Drain` is a clear.
+    /// Called once by each clear of the map, even if the map is empty. Dropping a `Drain` counts as a clear.
     fn on_cleared(&mut self);
 
     /// Returns whether the map may have a larger table, of `new_memory_usage` bytes.
@@ -45,7 +45,7 @@ pub trait Limiter<K, V> {
     /// Called by an insert that finds no bucket for a new entry, and by `try_reserve` and `try_insert` if too little
     /// growth is left. Not called if no larger table exists, or if the table is rehashed without growing. If the result
     /// is `false`, the insert evicts the oldest entries to store the new entry, and `try_reserve` and `try_insert`
-    /// fail. If it is `true`, the allocation of the table may still fail, without a notice to the limiter.
+    /// fail. If it is `true`, the allocation of the table may still fail, without notifying the limiter.
     fn on_grow(&mut self, new_memory_usage: usize) -> bool;
 }
 

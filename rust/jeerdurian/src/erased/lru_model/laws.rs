@@ -34,7 +34,7 @@ pub use shrinks::{shrinks_keep_the_list, shrinks_leave_a_tight_table, shrinks_pa
 pub fn inserts_evict_the_oldest<K: Eq + Hash, V, I: LookupKey<K>, L: Insertion<K, V, I>, S: KeyHasher<K>>() {}
 
 /// If an insert finds n entries, leaves m, and passes p to its callback, m + p is at most n + 1 (`few`). An insert with
-/// a callback is also an `Insert` (`step`).
+/// a callback also satisfies `Insert` (`step`).
 pub fn inserts_pass_few<K: Eq + Hash, V, I: LookupKey<K>, L: Insertion<K, V, I>, S: KeyHasher<K>>() {}
 
 /// A `Report` (`specs/Exact`) says whether a table queried the limiter for an insert, and how many entries a refused
@@ -44,9 +44,9 @@ pub fn inserts_pass_few<K: Eq + Hash, V, I: LookupKey<K>, L: Insertion<K, V, I>,
 pub fn small_inserts_are_exact<K: Eq + Hash, V, I: LookupKey<K>, L: Insertion<K, V, I>, S: KeyHasher<K>>() {}
 
 /// An insert changes the entries as the `Report` of the table says (`exact`; see `small_inserts_are_exact`). Every
-/// insert has a report (`given`). Two inserts that return `Ok` return equal results, and leave equal entries and
-/// limiters, if their arguments, their reports, and the entries and limiters before them are equal (`alike`). The
-/// limiter and the arguments must determine what `on_insert` does (`IsDetermined`).
+/// insert has a report (`given`). Suppose that the limiter and the arguments determine what `on_insert` does
+/// (`IsDetermined`), and that two inserts return `Ok`. If their arguments, their reports, and the entries and limiters
+/// before them are equal, so are their results, and the entries and limiters after them (`alike`).
 pub fn inserts_are_exact_unless_refused<K: Eq + Hash, V, I: LookupKey<K>, L: Insertion<K, V, I>, S: KeyHasher<K>>() {}
 
 /// An insert changes the entries as it would change a plain list without a table (`InsertsInList`), under two premises.
@@ -58,19 +58,20 @@ pub fn granted_inserts_are_exact<K: Eq + Hash, V, I: LookupKey<K>, L: Insertion<
 pub fn inserts_grow_little<K: Eq + Hash, V, I: LookupKey<K>, L: Insertion<K, V, I>, S: KeyHasher<K>>() {}
 
 /// Suppose that the map has entries, but no growth left. If the first free bucket in the search for the new key is
-/// deleted, the new entry fills this bucket, without a query of the limiter or a move (`served`). If the limiter also
-/// accepts the new entry, and is not over its limit with this entry, an insert evicts nothing (`added`). Conversely, if
-/// an insertion keeps the number of buckets, and evicts and moves nothing, the first free bucket was deleted (`only`).
+/// deleted, the new entry fills this bucket: the limiter is not queried, and no entry moves (`served`). If the limiter
+/// also accepts the new entry, and is not over its limit with this entry, an insert evicts nothing (`added`).
+/// Conversely, if an insertion keeps the number of buckets, and evicts and moves nothing, the first free bucket was
+/// deleted (`only`).
 pub fn deleted_buckets_serve<K: Eq + Hash, V, I: LookupKey<K>, L: Insertion<K, V, I>, S: KeyHasher<K>>() {}
 
 /// An insert pays for the entries that it moves. The count of moved entries, plus the potential, rises by at most 2 for
 /// the entry that the insert stores (`rise`). So inserts moved at most two entries for each stored entry, plus one for
-/// each entry that a shrink rehashed (`paid`). The table counts every insertion into it (`counted`).
+/// each entry that a shrink rehashed (`paid`). The table counts every insertion (`counted`).
 pub fn inserts_pay_for_moves<K: Eq + Hash, V, I: LookupKey<K>, L: Insertion<K, V, I>, S: KeyHasher<K>>() {}
 
-/// If growth is refused (`IsRefusedGrowth`), the entries after the insertion, including the new entry, are at least
-/// half as many as the table may hold (`half`). If memory runs out, the map may have one entry fewer
-/// (`without_memory`). If the table has up to 16 buckets, only the oldest entry is evicted (`one`).
+/// If growth is refused (`IsRefusedGrowth`), the entries after the insertion, including the new entry, fill at least
+/// half of the capacity (`half`). If memory runs out, the map may have one entry fewer (`without_memory`). If the table
+/// has up to 16 buckets, only the oldest entry is evicted (`one`).
 pub fn refused_growth_keeps_half<K: Eq + Hash, V, L: Limiter<K, V>, S: KeyHasher<K>>() {}
 
 /// If an insertion grows the table, it evicts nothing (`grown`). An insertion evicts entries only if the table needs to
@@ -87,5 +88,5 @@ pub fn reservations_keep_the_list<K: Eq + Hash, V, L: Limiter<K, V>, S: KeyHashe
 /// After a successful reservation for n entries, the growth left is at least n.
 pub fn reservations_make_room<K: Eq + Hash, V, L: Limiter<K, V>, S: KeyHasher<K>>() {}
 
-/// If the table of a map uses n bytes, the greatest usage within a budget of n bytes is n.
+/// If the table of a map uses n bytes, the largest table within a budget of n bytes uses n bytes.
 pub fn usages_are_their_budgets<K: Eq + Hash, V, L: Limiter<K, V>, S: KeyHasher<K>>() {}

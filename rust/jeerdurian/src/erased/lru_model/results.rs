@@ -11,18 +11,18 @@ use crate::rattle_std::fmt::Display;
 /// - If the key was new, `unkept` is `None`. `kept` is false if the limiter rejected the new entry, if the map could
 ///   not store it, or if the map stored and then evicted it.
 ///
-/// - If the limiter accepted a new value for a key that was there, `unkept` is the old value. `kept` is false if the
-///   entry was evicted afterwards, because the limiter was still over its limit.
+/// - If the limiter accepted a new value for a key of the map, `unkept` is the old value. `kept` is false if the entry
+///   was evicted afterwards, because the limiter was still over its limit.
 ///
-/// - If the limiter rejected a new value for a key that was there, the entry was removed. `unkept` is the new value,
-///   and `kept` is false.
+/// - If the limiter rejected a new value for a key of the map, the entry was removed. `unkept` is the new value, and
+///   `kept` is false.
 ///
 /// If `kept` is false and `unkept` is `Some`, the callback got the entry of the key.
 #[derive(Clone, Copy, Debug, PartialEq, Eq)]
 pub struct Inserted<V> {
     /// Whether the key is in the map after the insert.
     pub kept: bool,
-    /// If the key was there, the value that the map does not keep.
+    /// The value that the map does not keep, or `None` if the key was new.
     pub unkept: Option<V>,
 }
 

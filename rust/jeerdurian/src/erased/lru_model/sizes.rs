@@ -36,8 +36,8 @@ pub fn larger_table(max: usize, entry_bytes: usize, buckets: usize, pairs: usize
     Some((count, bytes))
 }
 
-/// Returns the bytes of the largest table that has fewer than `max` buckets and takes at most `budget` bytes. A table
-/// has 4, 8, 16 or a greater power of 2 buckets. Returns 0 if no table fits.
+/// Returns the bytes of the largest table that has fewer than `max` buckets and takes at most `budget` bytes. The
+/// number of buckets is a power of two from 4 on. Returns 0 if no table fits.
 pub fn usage_within(max: usize, entry_bytes: usize, budget: usize) -> usize {
     let mut best = 0;
     for k in 0..62u32 {

@@ -57,9 +57,9 @@ impl<N: Eq + Hash + OwnedBytes, K: Eq + Hash + OwnedBytes, V: OwnedBytes, S: Key
     ///
     /// # Errors
     ///
-    /// The tenants are unchanged. `AlreadyOpen`, or `OverTotal`: the limit and the bytes of the name are above `left`.
-    /// `Memory`: the table of tenants has to grow, but memory runs out, or the limit does not permit a larger table
-    /// with this tenant in it. After `Memory` the table may be larger, so `left` may be lower.
+    /// The tenants are unchanged. `AlreadyOpen`. `OverTotal`: `limit` plus the bytes of the name is above `left()`.
+    /// `Memory`: the table of tenants has to grow, but memory runs out, or the cache's limit does not permit a larger
+    /// table. After `Memory` the table may be larger, so `left` may be lower.
     pub fn open(&mut self, name: N, limit: u64) -> Result<(), TenantError> {
         laws::runs_keep_the_bytes::<N, ByteTenant<K, V, S>, S>();
         let _len = self.tenants.len();
@@ -97,7 +97,7 @@ impl<N: Eq + Hash + OwnedBytes, K: Eq + Hash + OwnedBytes, V: OwnedBytes, S: Key
 
     /// Closes a tenant and drops its entries. Returns their number. The table of tenants keeps its size.
     ///
-    /// Cost: `O(buckets)` of its table.
+    /// Cost: `O(buckets)` of the tenant's table.
     ///
     /// # Errors
     ///

@@ -44,7 +44,7 @@ impl<N: Eq + Hash, K: Eq + Hash, V: Costed> TenantCache<N, K, V> {
 }
 
 impl<N: Eq + Hash, K: Eq + Hash, V, L: Budgeted<K, V>, S: KeyHasher<K> + Copy> TenantCache<N, K, V, L, S> {
-    /// Makes a cache without tenants, with a hasher of names and keys, and any limiter that has a budget.
+    /// Makes a cache without tenants, with any limiter that has a budget. The hasher hashes names and keys.
     ///
     /// If strangers choose names or keys, take std's `RandomState::new(&rt)?`, whose hashes nobody can guess. Cost:
     /// `O(1)`, and no memory.
@@ -74,7 +74,7 @@ impl<N: Eq + Hash, K: Eq + Hash, V, L: Budgeted<K, V>, S: KeyHasher<K> + Copy> T
 }
 
 impl<N: Eq + Hash, K: Eq + Hash, V, L: Budgeted<K, V>, S: KeyHasher<K> + Copy> TenantCache<N, K, V, L, S> {
-    /// Opens a tenant with an empty map and a budget for the sum of its entries' costs.
+    /// Opens a tenant with an empty map and a budget for the total cost of its entries.
     ///
     /// Cost: `O(1)` expected, amortised over the tenants.
     ///
@@ -107,7 +107,7 @@ impl<N: Eq + Hash, K: Eq + Hash, V, L: Budgeted<K, V>, S: KeyHasher<K> + Copy> T
     ///
     /// `ByCost` and `ByWeight` reject the entry if its cost alone is above the budget, or if the tenant's total would
     /// be above `u64::MAX`. A rejection removes the key's old entry. If the limiter accepts the entry, the tenant's
-    /// oldest entries are evicted until its total is within the budget.
+    /// oldest entries are evicted until the total cost is within the budget.
     ///
     /// Cost: as `LruMap::insert`.
     ///
@@ -118,7 +118,7 @@ impl<N: Eq + Hash, K: Eq + Hash, V, L: Budgeted<K, V>, S: KeyHasher<K> + Copy> T
         self.put_with(name, key, value, &mut |_, _| {})
     }
 
-    /// Sets the budget of a tenant. The tenant's oldest entries are evicted while its cost is above the budget.
+    /// Sets the budget of a tenant, and evicts the tenant's oldest entries while its total cost is above the budget.
     ///
     /// Cost: `O(1)` expected, and `O(1)` for each entry that is evicted.
     ///
@@ -131,7 +131,7 @@ impl<N: Eq + Hash, K: Eq + Hash, V, L: Budgeted<K, V>, S: KeyHasher<K> + Copy> T
 
     /// Closes a tenant and drops its entries. Returns their number.
     ///
-    /// Cost: `O(buckets)` of its table.
+    /// Cost: `O(buckets)` of the tenant's table.
     ///
     /// # Errors
     ///

@@ -4,7 +4,7 @@ use crate::rattle_std::prelude::*;
 
 use crate::erased::lru_tenants::error::TenantError;
 
-/// A call of a run.
+/// A call that `run_tenants` can carry out.
 #[derive(Debug)]
 pub enum TenantCall<N, K, V> {
     Open(N, u64),
@@ -14,7 +14,7 @@ pub enum TenantCall<N, K, V> {
     Close(N),
 }
 
-/// The answer to a call.
+/// The answer to a [`TenantCall`].
 #[derive(Debug, PartialEq)]
 pub enum TenantAnswer<V> {
     Opened(Result<(), TenantError>),

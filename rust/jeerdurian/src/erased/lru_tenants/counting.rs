@@ -5,7 +5,7 @@ use crate::rattle_std::prelude::*;
 use crate::erased::lru_caches::Counts;
 use crate::erased::lru_limits::{Admission, Budgeted, Limiter, Summing};
 
-/// Limits as the limiter inside does, and carries the counts of the map.
+/// Limits as the field `limiter` does, and stores the counts of a map.
 ///
 /// In a `TenantCache` with this limiter, call `get_counted`, `put_counted` and `get_or_put_counted`. No other call
 /// counts.
@@ -87,10 +87,5 @@ impl<K, V, L: Budgeted<K, V>> Budgeted<K, V> for Counting<L> {
     #[inline]
     fn set_budget(&mut self, budget: u64) {
         self.limiter.set_budget(budget);
-    }
-
-    #[inline]
-    fn has_room_for(&self, key: &K, value: &V) -> bool {
-        self.limiter.has_room_for(key, value)
     }
 }

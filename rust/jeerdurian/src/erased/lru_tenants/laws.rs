@@ -9,13 +9,13 @@ use crate::erased::lru_tenants::cache::TenantCache;
 use crate::erased::schnellru::KeyHasher;
 use crate::rattle_std::hash::Hash;
 
-/// In any list of calls, each call finds its tenant as the previous call on this tenant left it, even if calls on other
-/// tenants come between (`own`). If no call names a tenant, its map stays as it is (`others`).
+/// In any list of calls, each call finds its tenant as the previous call on the tenant left it, even if calls on other
+/// tenants come between (`own`). If no call names a tenant, the tenant does not change (`others`).
 ///
 /// The premise: each call changes only the tenant that it names, as each clause with `On` says.
 pub fn each_tenant_has_its_own_run<N: Eq + Hash, K: Eq + Hash, V, L: Budgeted<K, V>, S: KeyHasher<K>>() {}
 
-/// If there is a total limit, the costs of the entries of all tenants add up to at most this limit.
+/// If there is a total limit, the costs of all entries add up to at most this limit.
 pub fn costs_are_within_the_total_limit<N: Eq + Hash, K: Eq + Hash, V, L: Budgeted<K, V>, S: KeyHasher<K> + Copy>(
     cache: &TenantCache<N, K, V, L, S>,
 ) {
@@ -23,10 +23,10 @@ pub fn costs_are_within_the_total_limit<N: Eq + Hash, K: Eq + Hash, V, L: Budget
     let _sum = cache.total_budget();
 }
 
-/// If no call of a list names a tenant of a pool, the tenant keeps its share, and only its oldest entries are evicted.
-/// If the tenant's cost is within its share, its map stays as it is (`others`).
+/// If no call of a list names a tenant of a pool, the tenant keeps its share, and the calls may evict only its oldest
+/// entries. If the tenant's cost is within its share, its map does not change (`others`).
 ///
-/// The premise: each call spares every tenant that the call does not name, as the clause `spares` of `put` says. No
-/// other call changes a tenant that the call does not name (`leaves`). `joins` joins two calls that name the same
-/// tenants.
+/// The premise: each call spares every tenant that the call does not name, as the clause `spares` of `put` says. Other
+/// calls change only the tenant that they name (`leaves`). If two calls name the same tenants, both together spare the
+/// other tenants (`joins`).
 pub fn calls_spare_other_tenants<N: Eq + Hash, K: Eq + Hash, V, L: Budgeted<K, V>, S: KeyHasher<K>>() {}

@@ -24,7 +24,7 @@ impl<N: Eq + Hash, K: Eq + Hash, V, L: Budgeted<K, V>, S: KeyHasher<K> + Copy> T
 
 /// A cache for many tenants. Each tenant has its own share of one limit, and any tenant may use the rest.
 ///
-/// All costs add up to at most the limit. While a tenant's cost is within its share, no call of another tenant changes
+/// All costs add up to at most the limit. While a tenant's cost is within its share, no call on another tenant changes
 /// the tenant.
 pub struct TenantPool<N: Eq + Hash, K: Eq + Hash, V, L: Budgeted<K, V> = ByCost, S: KeyHasher<K> + Copy = RandomState> {
     tenants: LruMap<N, Part<K, V, L, S>, Unlimited, S>,
@@ -82,9 +82,9 @@ impl<N: Eq + Hash, K: Eq + Hash, V, L: Budgeted<K, V>, S: KeyHasher<K> + Copy> T
 
     /// Inserts a key with a value, as the newest entry of the tenant. Returns whether the key is there afterwards.
     ///
-    /// First does what `TenantCache::put` does with the limit as the budget, and then, while the total is above the
+    /// First does what `TenantCache::put` does with the limit as the budget. Then, while the total cost is above the
     /// limit, evicts the oldest entry of the tenant furthest above its share. The new entry may be evicted, too. If
-    /// several tenants are furthest above, any of them may lose an entry.
+    /// several tenants are equally far above, any of them may lose an entry.
     ///
     /// Cost: as `LruMap::insert`, and `O(1)` for each tenant at each eviction.
     ///
@@ -111,7 +111,7 @@ impl<N: Eq + Hash, K: Eq + Hash, V, L: Budgeted<K, V>, S: KeyHasher<K> + Copy> T
 
     /// Closes a tenant, drops its entries and frees its share. Returns how many entries there were.
     ///
-    /// Cost: `O(buckets)` of its table.
+    /// Cost: `O(buckets)` of the tenant's table.
     ///
     /// # Errors
     ///

@@ -37,7 +37,7 @@ pub(crate) fn insert_full<K: Eq + Hash, V, L: Budgeted<K, V>, S: KeyHasher<K>, F
 }
 
 fn rejects<K: Eq + Hash, V, L: Budgeted<K, V>, S: KeyHasher<K>>(map: &LruMap<K, V, L, S>, key: &K, value: &V) -> bool {
-    !map.limiter().has_room_for(key, value) && !map.contains(key)
+    !map.limiter().accepts(map.len(), key, value) && !map.contains(key)
 }
 
 pub(crate) fn get_or_insert<K: Eq + Hash, V, L: Budgeted<K, V>, S: KeyHasher<K>, F: FnOnce() -> V>(

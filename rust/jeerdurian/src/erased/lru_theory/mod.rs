@@ -14,7 +14,7 @@ pub fn a_cache_is_the_newest<K: Eq>() {}
 /// More places never mean more misses.
 pub fn more_places_never_miss_more<K: Eq>() {}
 
-/// LRU is competitive, whatever both caches contain at first. Take an LRU cache of k ≥ h places, and any policy with h
+/// LRU is competitive, whatever the caches contain at first. Take an LRU cache of k ≥ h places, and any policy with h
 /// places, which may know the whole trace. The policy begins with the keys `first`, and pays `paid` times.
 ///
 /// - If the policy stores each referenced key, and may load keys ahead, LRU misses at most
@@ -26,21 +26,20 @@ pub fn more_places_never_miss_more<K: Eq>() {}
 ///   times (`bypasses`).
 pub fn lru_is_competitive<K: Eq>() {}
 
-/// Loading keys ahead gains nothing. If a policy with h places begins with at most h keys, loads keys ahead, and pays
-/// `paid` times, some demand policy with h places and the same first keys misses at most `paid` times.
+/// Loading keys ahead gains nothing. Take a policy with h places that may load keys ahead, begins with at most h keys,
+/// and pays `paid` times. Some demand policy with h places and the same first keys misses at most `paid` times.
 pub fn loading_ahead_gains_nothing<K: Eq>() {}
 
-/// A cache of n places is *included* in a cache of m places if the larger cache contains the keys of the smaller cache,
-/// in the same order, and at most m - n more keys. If the smaller cache is included, it is still included after any
-/// calls (`included`). So the larger cache finds each key that the smaller cache finds (`finds`), and misses no more
-/// often in a trace (`misses`). `KeyCall` lists the calls.
+/// A cache of n places is *included* in a cache of m ≥ n places if the larger cache contains its keys, in the same
+/// order, and at most m - n more keys. Any calls (`KeyCall`) keep the smaller cache included (`included`). So the
+/// larger cache finds each key that the smaller cache finds (`finds`), and misses no more often in a trace (`misses`).
 pub fn a_smaller_cache_is_included<K: Eq>() {}
 
-/// One list of places holds the keys of the LRU caches of every size, even if keys are removed: the cache of n places
-/// contains exactly the keys in the first n places (`keys`). A removed key leaves a free place. A reference takes the
-/// newest place that is free or contains the key. If this place is free, the old place of the key becomes free. So a
-/// reference finds its key if fewer than n places come before it (`finds`). Without other calls, references miss as often
-/// as in a trace (`misses`).
+/// One list of places holds the keys of LRU caches of every size, even if keys are removed. If no call is a `promotes`,
+/// the cache of n places contains exactly the keys in the first n places (`keys`). A removed key leaves a free place. A
+/// reference puts its key in front, in exchange for the first place that is free or contains the key. If this place was
+/// free, the old place of the key becomes free. So the cache of n places contains a key if fewer than n places come
+/// before it (`finds`). If all calls are references, they miss as often as in a trace (`misses`).
 pub fn deletes_leave_places<K: Eq>() {}
 
 /// A larger budget never means more misses. If the cache with the smaller budget contains the newest keys of the other
@@ -48,18 +47,18 @@ pub fn deletes_leave_places<K: Eq>() {}
 pub fn a_larger_budget_never_misses_more<K: Eq>() {}
 
 /// Suppose that equal keys cost the same. If a cache with the limit n contains the first keys of the recency list, up
-/// to a cost of n, it still does after any trace, even if a key alone costs more than n (`keys`). The cache misses
-/// exactly at the references that need more than n, and at the first reference to each key (`misses`).
+/// to a cost of n, it still does after any trace (`keys`). A key alone may cost more than n. The cache misses exactly
+/// at the references to keys that need more than n (`needs`), and at the first reference to each key (`misses`).
 pub fn a_budget_keeps_the_newest<K: Eq>() {}
 
-/// A policy that stores each referenced key pays at least as often as MIN misses, whether it loads keys ahead (`loads`)
-/// or only on demand (`demands`). A policy that need not store referenced keys pays at least as often as MIN with
-/// bypass misses (`bypasses`). All these policies have n places, and begin with no keys. If MIN has a place, it stores
-/// each referenced key (`min`). MIN with bypass is a policy that need not store referenced keys (`bypass`).
+/// The misses of MIN are at most the payments of any policy that stores each referenced key, whether it loads keys
+/// ahead (`loads`) or only on demand (`demands`). The misses of MIN with bypass are at most the payments of any policy
+/// that need not store referenced keys (`bypasses`). All these policies have n places, and begin with no keys. If MIN
+/// has a place, it stores each referenced key (`min`). MIN with bypass is a policy that need not store referenced keys
+/// (`bypass`).
 pub fn min_is_best<K: Eq>() {}
 
-/// LRU is near MIN. MIN has h ≥ 1 places, and begins with no keys. LRU has k ≥ h places, and begins with any keys. LRU
-/// misses at most `k / (k + 1 - h)` times as often as MIN (`min`). If k > h, LRU misses at most `k / (k - h)` times as
-/// often as MIN with bypass (`bypass`). If LRU begins with no keys, and has h places, it misses at least as often as
-/// MIN (`least`).
+/// MIN has h ≥ 1 places, and begins with no keys. LRU has k ≥ h places, and begins with any keys. LRU misses at most
+/// `k / (k + 1 - h)` times as often as MIN (`min`). If k > h, LRU misses at most `k / (k - h)` times as often as MIN
+/// with bypass (`bypass`). If LRU begins with no keys, and has h places, it misses at least as often as MIN (`least`).
 pub fn lru_is_near_min<K: Eq>() {}

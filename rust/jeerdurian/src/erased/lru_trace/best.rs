@@ -7,8 +7,8 @@ use crate::rattle_std::prelude::*;
 use crate::rattle_std::alloc::{AllocError, Global};
 use crate::rattle_std::collections::BTreeSet;
 
-/// Counts how often the best possible policies miss (`docs/THEORY.md`). `Best` stores for each reference of a trace the
-/// time of the next reference to its key, or the length of the trace if there is none.
+/// Counts how often the best possible policies miss (`docs/THEORY.md`). For each reference of a trace, `Best` stores
+/// the time of the next reference to its key, or the length of the trace if there is none.
 ///
 /// `Best` takes 8 bytes for each reference.
 
@@ -31,8 +31,8 @@ impl Best {
         (*at!(self.nexts, now))
     }
 
-    /// Returns how often MIN with `places` places misses if it begins with no keys. No other policy misses less often,
-    /// if it has `places` places, begins with no keys, stores each referenced key, and loads keys only on demand.
+    /// Returns how often MIN with `places` places misses if it begins with no keys. Each policy with `places` places
+    /// misses at least as often, if it begins with no keys, stores each referenced key, and loads keys only on demand.
     ///
     /// Cost: for n places, `O(log n)` for each reference. The memory is in proportion to the smaller of n and the
     /// number of keys.
@@ -55,8 +55,8 @@ impl Best {
         Ok(misses)
     }
 
-    /// Returns how often MIN with bypass and `places` places misses if it begins with no keys. No other policy misses
-    /// less often, if it has `places` places, begins with no keys, and loads keys only on demand.
+    /// Returns how often MIN with bypass and `places` places misses if it begins with no keys. Each policy with
+    /// `places` places misses at least as often, if it begins with no keys, and loads keys only on demand.
     ///
     /// Cost: as `min_misses`.
     ///

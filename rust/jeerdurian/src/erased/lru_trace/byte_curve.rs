@@ -35,7 +35,7 @@ impl From<AllocError> for SizeError {
 ///
 /// A reference needs the size of its key, plus the sizes of the other keys that were referenced since the last
 /// reference to its key. A reference misses if it is the first to its key, or if it needs more than the limit. The
-/// first reference to a key says its size. The memory is in proportion to the number of keys and of limits.
+/// first reference to a key gives its size. The memory is in proportion to the number of keys and of limits.
 
 pub struct ByteCurve {
     numbers: HashMap<String, usize>,

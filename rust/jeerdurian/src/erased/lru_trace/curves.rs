@@ -11,7 +11,7 @@ use crate::erased::lru_trace::delete_curve::DeleteCurve;
 use crate::erased::lru_trace::options::Measure;
 use crate::rattle_std::alloc::AllocError;
 
-/// A curve whose sizes are numbers of entries, without or with deletes, or numbers of bytes.
+/// A curve for sizes in entries, without or with deletes, or for sizes in bytes.
 
 pub enum AnyCurve {
     Places(Curve),

@@ -29,7 +29,7 @@ pub enum Ending {
 pub struct Others {
     /// How many lines make no reference.
     pub malformed: u64,
-    /// How many lines after the warm-up reference a key that is not in the sample.
+    /// How many references after the warm-up are to a key outside the sample.
     pub skipped: u64,
     /// How many lines delete a key.
     pub deleted: u64,

@@ -25,7 +25,7 @@ pub struct Column {
 pub enum Measure {
     /// How many entries the cache can contain.
     Places,
-    /// As `Places`, of a trace that also deletes keys.
+    /// As `Places`, but the trace also deletes keys.
     PlacesWithDeletes,
     /// How many bytes the entries can take together.
     Bytes,

@@ -60,7 +60,7 @@ impl Places {
         self.distances.position(key).unwrap_or(0)
     }
 
-    /// Deletes a key: its place is free.
+    /// Deletes a key: its place becomes free.
     pub fn free(&mut self, key: usize) -> Result<(), AllocError> {
         let time = (*at!(self.times, key));
         let Ok(_) = self.free.insert(time, key) else {

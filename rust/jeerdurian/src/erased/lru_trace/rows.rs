@@ -76,7 +76,7 @@ pub fn rows_of(
     Ok(rows)
 }
 
-/// Returns n. The axis of sizes ends at the first power of two that is at least n.
+/// Returns the size that the axis must reach. The axis ends at the first power of two that is at least this size.
 pub fn end_of(needed: usize, bits: u32) -> u128 {
     (needed.max(1) as u128) << bits
 }

@@ -6,7 +6,7 @@ use crate::rattle_std::prelude::*;
 
 use crate::rattle_std::alloc::{AllocError, Global};
 
-/// Slots with weights. A contract sees the weight of each slot, which is 0 if the slot is free.
+/// Slots with weights. Contracts represent a tree by the weight of each slot, which is 0 if the slot is free.
 ///
 /// The slots are the leaves of a binary tree, and each inner node contains the sum of its two children. Node 1 is the
 /// root, and the children of node i are 2i and 2i + 1.

@@ -17,7 +17,7 @@ mod promoted;
 
 /// A table whose full buckets are in an order, newest first. `N` is the type of its links.
 ///
-/// A contract sees a table as its `slots`, the `order` of its full buckets, and its `insertions`. Only `move_to`
+/// Contracts represent a table by its `slots`, the `order` of its full buckets, and its `insertions`. Only `move_to`
 /// computes hashes. The keys fit the table (`KeysFit`) if each entry was inserted with the hash of its key.
 pub struct OrderedTable<K, V, N: LinkType> {
     linked: LinkedTable<K, V, N>,
@@ -79,15 +79,15 @@ impl<K, V, N: LinkType> OrderedTable<K, V, N> {
         promoted::oldest(&self.linked, self.promoted)
     }
 
-    /// Returns the bucket after a full bucket in the order, towards the oldest. For the last bucket of the order, the
-    /// result is any number.
+    /// Returns the bucket that follows the full bucket `b` in the order, towards the oldest. For the last bucket of the
+    /// order, the result is any number.
     #[inline]
     pub fn older_unless_last(&self, b: usize) -> usize {
         promoted::older_unless_last(&self.linked, self.promoted, b)
     }
 
-    /// Returns the bucket before a full bucket in the order, towards the newest. For the first bucket of the order, the
-    /// result is any number.
+    /// Returns the bucket that precedes the full bucket `b` in the order, towards the newest. For the first bucket of
+    /// the order, the result is any number.
     #[inline]
     pub fn newer_unless_first(&self, b: usize) -> usize {
         promoted::newer_unless_first(&self.linked, self.promoted, b)
@@ -105,8 +105,8 @@ impl<K, V, N: LinkType> OrderedTable<K, V, N> {
 
     /// Returns the bucket of the first entry that `f` accepts.
     ///
-    /// `f` is called with entries whose hashes agree with `hash` in the top 7 bits. Only tests show that `f` is called
-    /// at most once with each entry, and not again after it returned true.
+    /// `f` is called with entries whose hashes agree with `hash` in the top 7 bits. Tests, not proofs, show that `f` is
+    /// called at most once with each entry, and not again after it returned true.
     ///
     /// Cost: `O(1)` expected.
     #[inline]

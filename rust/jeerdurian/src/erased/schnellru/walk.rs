@@ -67,8 +67,8 @@ impl<K: Eq + Hash, V, L: Limiter<K, V>, S: KeyHasher<K>> LruMap<K, V, L, S> {
         Some(self.entries.index_of(b))
     }
 
-    /// Returns the entry one step older than the entry of a key. Returns `None` if the key is not there, or if its entry
-    /// is the oldest. So a walk needs no iterator.
+    /// Returns the entry one step older than the entry of a key. Returns `None` if the key is not there, or if its
+    /// entry is the oldest. So code can step through a map without an iterator.
     ///
     /// Cost: `O(1)` expected.
     pub fn peek_older<Q: LookupKey<K>>(&self, key: &Q) -> Option<(&K, &V)> {
@@ -79,8 +79,8 @@ impl<K: Eq + Hash, V, L: Limiter<K, V>, S: KeyHasher<K>> LruMap<K, V, L, S> {
         Some(self.entries.pair(self.entries.older_unless_last(b)))
     }
 
-    /// Returns the entry one step newer than the entry of a key. Returns `None` if the key is not there, or if its entry
-    /// is the newest.
+    /// Returns the entry one step newer than the entry of a key. Returns `None` if the key is not there, or if its
+    /// entry is the newest.
     ///
     /// Cost: `O(1)` expected.
     pub fn peek_newer<Q: LookupKey<K>>(&self, key: &Q) -> Option<(&K, &V)> {

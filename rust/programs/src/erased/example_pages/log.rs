@@ -95,7 +95,7 @@ impl<'a> Log<'a> {
         Ok(newest)
     }
 
-    /// If page n is the first page of a whole transaction, returns how many pages the transaction has.
+    /// Returns the number of pages of the whole transaction that begins at page n, if there is one.
     pub fn transaction_at(&mut self, n: u64) -> Result<Option<u64>, FileError> {
         let Some(first) = self.header(n)? else {
             return Ok(None);

@@ -1,5 +1,5 @@
 // Erased from crates/example_pages/src/page.rt: do not edit.
-//! A page: four numbers, records of 64 bytes, and 8 bytes for the checksum of the device.
+//! A page: four numbers, records of 64 bytes, and 8 bytes for the device's checksum.
 
 #[allow(unused_imports)]
 use crate::rattle_std::prelude::*;

@@ -130,8 +130,8 @@ impl ResponseCache {
         (stored, evicted)
     }
 
-    /// If the path's response is fresh, returns a copy, and counts a hit. If there is no fresh response, counts a miss,
-    /// and removes a stale response.
+    /// Returns a copy of the path's response and counts a hit, if the response is fresh. Otherwise counts a miss, and
+    /// removes a stale response.
     pub fn get(&mut self, host: &str, path: &str, now: u64) -> Result<Option<Response>, TenantError> {
         drop_stale(&mut self.entries, host, path, now)?;
         match self.entries.get_counted(&host, &path)? {

@@ -17,7 +17,8 @@ use crate::programs::lru_replay::calls::steps::{
 use crate::rattle_std::alloc::{AllocError, Global};
 use crate::rattle_std::hash::Hash;
 
-/// A call of a run. Most calls do what the map's call of the same name does; `docs/RUNS.md` lists the others.
+/// A call that [`run_calls`] carries out. Most calls do what the map's call of the same name does; `docs/RUNS.md` lists
+/// the others.
 #[derive(Debug)]
 pub enum Call<K, V, L> {
     Insert(K, V),
@@ -58,7 +59,7 @@ pub enum Call<K, V, L> {
     SetLimiter(L),
 }
 
-/// The answer to a call.
+/// The answer to a [`Call`].
 #[derive(Debug, PartialEq)]
 pub enum Answer<K, V> {
     /// For `Insert`, `Write`, `Contains`, `Promote` and `Demote`: whether the key is in the map now.

@@ -9,7 +9,7 @@ use crate::erased::lru_model::laws;
 use crate::rattle_std::hash::Hash;
 
 /// A list of calls is a run of steps of the map, so the laws on runs hold for the list (`calls`). A list that
-/// `run_summing` carries out is a run of steps, too, and if the list sets no limiter, each write keeps the cost of its
+/// `run_summing` carries out is a run of steps, too. If this list sets no limiter, each write keeps the cost of its
 /// entry (`summing`).
 pub fn lists_are_runs<K: Eq + Hash, V, L: Insertion<K, V, K>, S: KeyHasher<K>>() {}
 

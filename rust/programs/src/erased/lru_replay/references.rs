@@ -58,13 +58,13 @@ pub fn references_keep_the_newest<K: Eq + Hash, V, S: KeyHasher<K>>() {}
 pub fn more_capacity_never_misses_more<K: Eq + Hash, V, S: KeyHasher<K>>() {}
 
 /// If the keys of a smaller map are included in the keys of a larger map, they are included after the same calls, too
-/// (`included`). So the larger map finds each key that the smaller map finds (`finds`). Such a call is a reference, or
-/// a call of `calls_change_the_keys`.
+/// (`included`). So the larger map finds each key that the smaller map finds (`finds`). The calls are references, or
+/// calls of `calls_change_the_keys`.
 pub fn a_smaller_map_is_included<K: Eq + Hash, V, S: KeyHasher<K>>() {}
 
 /// LRU is competitive, whichever calls make the references. Take a map with `ByLength(k)` and any keys, and any policy
-/// of h ≤ k places. The policy may know the trace in advance, begins with the keys `first`, and pays `paid` times for
-/// the same references. If the policy stores each referenced key, the map misses at most
+/// of h ≤ k places. The policy may know the trace in advance. It begins with the keys `first`, and loads (or bypasses)
+/// keys `paid` times for the same references. If the policy stores each referenced key, the map misses at most
 /// `k / (k + 1 - h) * paid + length first` times. The bound holds for a policy that may load keys ahead (`loads`), and
 /// for a policy that loads on demand and begins with at most h keys (`demands`). If the policy need not store the key,
 /// and h < k, the map misses at most `k / (k - h) * paid + length first` times (`bypasses`).

@@ -47,7 +47,7 @@ pub enum Failure {
     NoBytes,
 }
 
-/// Takes at most `most` bytes in each write. Of the writes, counted from 0, `times` fail, from write `fails_at` on.
+/// Takes at most `most` bytes in each write. From write number `fails_at` on, counted from 0, `times` writes fail.
 /// Counts its flushes.
 
 pub struct Narrow {

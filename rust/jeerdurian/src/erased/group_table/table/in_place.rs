@@ -31,7 +31,7 @@ pub(crate) fn place_again<T, N: LinkType, H: Fn(&T) -> u64>(
         let mut next = Some(entries.read(b));
         'turns: while let Some(entry) = next {
             let place = first_free(control, hash);
-            // No entry that waits for its insertion is in a place up to b.
+            // All entries in the places up to b are already inserted.
             let byte = if place <= b { EMPTY } else { before.byte(place) };
             next = put(control, entries, place, byte, tag_of(hash), entry);
             (*at_mut!(links, old)) = N::from_usize(place);

@@ -1,6 +1,6 @@
 // Erased from crates/group_table/src/table/relocation.rt: do not edit.
-//! The calls of `Table` that move every entry. The compiler would reject a call that loses an entry, because entries
-//! need not implement `Drop`.
+//! The calls of `Table` that move every entry. Entries need not implement `Drop`, so the compiler rejects a call that
+//! loses an entry.
 
 #[allow(unused_imports)]
 use crate::rattle_std::prelude::*;

@@ -9,7 +9,7 @@ use crate::rattle_std::io::Cursor;
 /// A file that can make its bytes survive a crash. A file device calls `make_durable` when it syncs, and assumes that
 /// the bytes survive a crash after an `Ok`. After an error, the device makes no more calls.
 pub trait Durable {
-    /// Makes all bytes durable that were written and flushed before this call.
+    /// Makes durable all bytes that were written and flushed before this call.
     ///
     /// # Errors
     ///

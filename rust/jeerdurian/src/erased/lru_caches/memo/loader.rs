@@ -6,7 +6,7 @@ use crate::erased::schnellru::{Insertion, KeyHasher, LookupKey, LruMap, RandomSt
 use crate::rattle_std::alloc::Global;
 use crate::rattle_std::hash::Hash;
 
-/// A memo of a function that may fail, such as a read of a file. It stores no failures.
+/// A memo of a function that may fail, such as a read of a file. Errors are not stored.
 
 pub struct Loader<K: Eq + Hash, V, F, L: Insertion<K, V, K>, S: KeyHasher<K> = RandomState> {
     map: LruMap<K, V, L, S>,
@@ -63,8 +63,8 @@ impl<K: Eq + Hash, V: Copy, E, F: Fn(&K) -> Result<V, E>, L: Insertion<K, V, K>,
 }
 
 impl<K: Eq + Hash, V, E, F: Fn(&K) -> Result<V, E>, L: Insertion<K, V, K>, S: KeyHasher<K>> Loader<K, V, F, L, S> {
-    /// Lends a closure the value that `load` would return, and returns what the closure returns. The values need not be
-    /// `Copy`.
+    /// Does what `load` does, but lends the value to a closure, and returns what the closure returns. The values need
+    /// not be `Copy`.
     ///
     /// Cost: as `load`, plus a call of the closure.
     ///

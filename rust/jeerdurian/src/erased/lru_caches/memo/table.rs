@@ -8,7 +8,7 @@ use crate::erased::schnellru::{Insertion, KeyHasher, LruMap, RandomState, laws};
 use crate::rattle_std::alloc::Global;
 use crate::rattle_std::hash::Hash;
 
-/// Defines which values are answers at a key of a [`MemoTable`].
+/// Defines which values are answers for a key of a [`MemoTable`].
 pub trait Question<K, V> {}
 
 /// A table of the newest answers to a question, up to a limit. A function that calls itself can store its results here.
@@ -72,8 +72,8 @@ impl<K: Eq + Hash, V, Q: Question<K, V>, L: Insertion<K, V, K>, S: KeyHasher<K>>
         Some(read(&*value))
     }
 
-    /// Stores an answer at a key as the newest, and returns true. If memory runs out, or a limit prevents storing the
-    /// answer, returns false, and no answer is stored at the key.
+    /// Stores an answer for a key as the newest, and returns true. If memory runs out, or a limit prevents storing the
+    /// answer, returns false, and no answer is stored for the key.
     ///
     /// Cost: an insert.
     pub fn store(&mut self, key: K, value: V) -> bool {

@@ -39,7 +39,7 @@ impl<B: Copy, D: BlockDevice<B>, S: KeyHasher<u64>> PageCache<B, D, S> {
         self.read_with(n, |block| *block)
     }
 
-    /// Lends a closure the block that `read` would return, and returns what the closure returns.
+    /// Does what `read` does, but lends the block to a closure, and returns what the closure returns.
     ///
     /// Cost: as `read`, plus a call of the closure.
     ///
@@ -67,7 +67,7 @@ impl<B: Copy, D: BlockDevice<B>, S: KeyHasher<u64>> PageCache<B, D, S> {
 
     /// Replaces a block in the cache, and makes its page the newest. The device gets the block later.
     ///
-    /// If the page is not cached and the cache is full, evicts a page (see `read`). A pin stays.
+    /// If the page is not cached and the cache is full, evicts a page (see `read`). A pinned page stays pinned.
     ///
     /// Cost: as `read`, without the read of the device.
     ///
@@ -86,10 +86,10 @@ impl<B: Copy, D: BlockDevice<B>, S: KeyHasher<u64>> PageCache<B, D, S> {
         replace(&mut self.map, &mut self.device, &mut self.counts, gone, hash, n, page)
     }
 
-    /// Lends a closure a block for writing in place, and returns what the closure returns. The page becomes dirty and
-    /// the newest.
+    /// Lends a block to a closure, which may write it in place, and returns what the closure returns. The page becomes
+    /// dirty and the newest.
     ///
-    /// If the page is not cached, reads the block first. A pin stays.
+    /// If the page is not cached, reads the block first. A pinned page stays pinned.
     ///
     /// Cost: as `read`, plus a call of the closure.
     ///

@@ -18,7 +18,7 @@ fn find_victim<B: Copy, S: KeyHasher<u64>>(map: &Pages<B, S>, keeps_dirty: bool)
     None
 }
 
-/// If the cache is full, returns the number of the page to evict for a new page.
+/// Returns the number of the page to evict for a new page, or `None` if the cache is not full.
 pub(super) fn find_room<B: Copy, E, S: KeyHasher<u64>>(
     map: &Pages<B, S>,
     capacity: usize,

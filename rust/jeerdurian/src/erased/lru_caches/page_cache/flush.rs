@@ -83,8 +83,8 @@ fn clean_page<B: Copy, S: KeyHasher<u64>>(map: &mut Pages<B, S>, n: u64) {
 }
 
 impl<B: Copy, D: BlockDevice<B>, S: KeyHasher<u64>> PageCache<B, D, S> {
-    /// If a page is cached and dirty, writes it to the device. The page is clean afterwards. Does not change the order
-    /// of use.
+    /// Writes a page to the device if the page is cached and dirty. The page is clean afterwards. Does not change the
+    /// order of use.
     ///
     /// `flush_page` does not call `sync`. Until a `flush` returns `Ok`, a crash may leave the old block or a torn
     /// block.
@@ -93,7 +93,7 @@ impl<B: Copy, D: BlockDevice<B>, S: KeyHasher<u64>> PageCache<B, D, S> {
     ///
     /// # Errors
     ///
-    /// `Broken`. `Device`: the write failed, and the page stays dirty.
+    /// `Broken`: an earlier `sync` failed. `Device`: the write failed, and the page stays dirty.
     pub fn flush_page(&mut self, n: u64) -> Result<(), PageError<D::Error>> {
         if !self.device.is_usable() {
             return Err(PageError::Broken);

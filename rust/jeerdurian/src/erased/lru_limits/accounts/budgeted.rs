@@ -14,7 +14,4 @@ pub trait Budgeted<K, V>: Summing<K, V> {
 
     /// Sets the budget. The running total stays, so a map may then be over its limit.
     fn set_budget(&mut self, budget: u64);
-
-    /// Returns whether `on_insert` would accept this entry of a new key.
-    fn has_room_for(&self, key: &K, value: &V) -> bool;
 }

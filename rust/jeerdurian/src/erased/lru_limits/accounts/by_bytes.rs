@@ -6,8 +6,8 @@ use crate::erased::lru_limits::accounts::{OwnedBytes, Summing, sum_with};
 use crate::erased::lru_limits::admission::Admission;
 use crate::erased::lru_limits::limiter::Limiter;
 
-/// Limits the sum of the bytes of the table and the bytes that the entries own. A contract sees the limiter as its
-/// limit, the bytes of the table, and the owned bytes.
+/// Limits the bytes of the table plus the bytes that the entries own. Contracts represent the limiter by its limit, the
+/// bytes of the table, and the owned bytes.
 ///
 /// `ByBytes` permits a table if the bytes of the table plus the owned bytes are within the limit. `ByBytes` rejects an
 /// entry or a new value if the entry alone owns more than the limit minus the bytes of the table, or if the owned bytes
@@ -51,7 +51,7 @@ impl ByBytes {
         self.owned
     }
 
-    /// Returns the bytes of the table that the limiter permitted last.
+    /// Returns the bytes of the last table that the limiter permitted.
     pub const fn table(&self) -> u64 {
         self.table
     }

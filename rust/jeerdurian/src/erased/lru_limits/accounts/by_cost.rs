@@ -6,7 +6,7 @@ use crate::erased::lru_limits::accounts::{Budgeted, Costed, Summing, sum_with};
 use crate::erased::lru_limits::admission::Admission;
 use crate::erased::lru_limits::limiter::Limiter;
 
-/// Limits the sum of the costs of the values. A contract sees the limiter as its limit and its running total.
+/// Limits the sum of the costs of the values. Contracts represent the limiter by its limit and its running total.
 ///
 /// `ByCost` rejects an entry or a new value if the cost of the value alone is above the limit, or if the sum would pass
 /// `u64::MAX`. After `ByCost` accepts an entry, the map evicts its oldest entries until the sum of the costs is within
@@ -129,10 +129,5 @@ impl<K, V: Costed> Budgeted<K, V> for ByCost {
     #[inline]
     fn set_budget(&mut self, budget: u64) {
         self.limit = budget;
-    }
-
-    #[inline]
-    fn has_room_for(&self, _key: &K, value: &V) -> bool {
-        sum_with(self.limit, self.cost, value.cost()).is_some()
     }
 }

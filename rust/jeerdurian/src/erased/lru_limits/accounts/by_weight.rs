@@ -6,8 +6,8 @@ use crate::erased::lru_limits::accounts::{Budgeted, Costed, Summing, sum_with};
 use crate::erased::lru_limits::admission::Admission;
 use crate::erased::lru_limits::limiter::Limiter;
 
-/// Limits the sum of the costs of the entries. A contract sees the limiter as its limit and its running total. The cost
-/// of an entry is the cost of its key, plus the cost of its value, plus `OVERHEAD`, but at most `u64::MAX`.
+/// Limits the sum of the costs of the entries. Contracts represent the limiter by its limit and its running total. The
+/// cost of an entry is the cost of its key, plus the cost of its value, plus `OVERHEAD`, but at most `u64::MAX`.
 ///
 /// `ByWeight` rejects an entry, or its new value, if the entry alone costs more than the limit, or if the sum would
 /// pass `u64::MAX`.
@@ -136,10 +136,5 @@ impl<K: Costed, V: Costed, const OVERHEAD: u64> Budgeted<K, V> for ByWeight<OVER
     #[inline]
     fn set_budget(&mut self, budget: u64) {
         self.limit = budget;
-    }
-
-    #[inline]
-    fn has_room_for(&self, key: &K, value: &V) -> bool {
-        sum_with(self.limit, self.cost, cost_of_pair(OVERHEAD, key, value)).is_some()
     }
 }

@@ -5,7 +5,7 @@ use crate::rattle_std::prelude::*;
 use crate::erased::lru_limits::admission::Admission;
 use crate::erased::lru_limits::limiter::Limiter;
 
-/// Limits the number of entries. A contract sees the limiter as its limit.
+/// Limits the number of entries. Contracts represent the limiter by its limit.
 ///
 /// A map under `ByLength` has at most `max_length` entries after each call. But if the limit is lowered through
 /// `limiter_mut`, the map may have more entries until a `trim`, or until `ByLength` accepts an insert or an update.

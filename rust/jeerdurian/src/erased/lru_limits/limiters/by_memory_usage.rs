@@ -5,7 +5,7 @@ use crate::rattle_std::prelude::*;
 use crate::erased::lru_limits::admission::Admission;
 use crate::erased::lru_limits::limiter::Limiter;
 
-/// Limits the bytes of the table. A contract sees the limiter as its limit.
+/// Limits the bytes of the table. Contracts represent the limiter by its limit.
 ///
 /// `ByMemoryUsage` permits a growth if and only if the new table is within the limit. If `ByMemoryUsage` refuses, an
 /// insert evicts the oldest entries. The limiter counts neither the old table, which exists during a growth, nor what

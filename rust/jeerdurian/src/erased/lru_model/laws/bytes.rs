@@ -12,8 +12,8 @@ use crate::rattle_std::hash::Hash;
 /// plus the owned bytes are within the limit (`grown`). The old table, which exists until all entries have moved, is
 /// not counted.
 ///
-/// A new map keeps to its limit (`begins`). If `set_limiter` sets a limiter that counts the bytes of the map
-/// (`CountsBytes`), and the table alone is within the new limit, the trim brings the map within the new limit
+/// A new map keeps to its limit (`begins`). Suppose that `set_limiter` sets a limiter that counts the bytes of the map
+/// (`CountsBytes`). If the table alone is within the new limit, the trim brings the map within the new limit
 /// (`trimmed`).
 pub fn calls_keep_the_bytes<K: OwnedBytes + Eq + Hash, V: OwnedBytes, S: KeyHasher<K>>() {}
 

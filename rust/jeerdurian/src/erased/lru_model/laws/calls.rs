@@ -13,7 +13,7 @@ use crate::rattle_std::hash::Hash;
 /// is sound.
 pub fn calls_keep_maps<K: Eq + Hash, V, I: LookupKey<K>, L: Insertion<K, V, I>, S: KeyHasher<K>>() {}
 
-/// If the running total of the limiter is the sum of the costs of the entries, it is still their sum after each `Step`.
+/// If the running total of the limiter is the sum of the costs of the entries, it is still this sum after each `Step`.
 /// The premise `IsAccount` is a law of `Summing`.
 pub fn calls_keep_sums<K: Eq + Hash, V, I: LookupKey<K>, L: Insertion<K, V, I>, S: KeyHasher<K>>() {}
 
@@ -35,8 +35,8 @@ pub fn calls_keep_the_budget<K: Eq + Hash, V, L: Budgeted<K, V>, S: KeyHasher<K>
 /// Each `AnyStep` adds at most one entry.
 pub fn calls_add_one_pair<K: Eq + Hash, V, I: LookupKey<K>, L: Insertion<K, V, I>, S: KeyHasher<K>>() {}
 
-/// Of the entries whose keys a call does not name, the call evicts only the oldest, and keeps the others in their
-/// order. The law excludes `pop_newest`, which removes the newest entry.
+/// A call evicts only the oldest of the entries whose keys it does not name, and keeps the others in their order. The
+/// law excludes `pop_newest`, which removes the newest entry.
 ///
 /// A call names the key that it inserts, updates, looks up or removes, and the key whose value it writes. A retain
 /// names the keys that its closure rejects.

@@ -9,5 +9,5 @@ use crate::rattle_std::hash::Hash;
 
 /// A `try_insert` pays for its insertions into the table, even if it reserves growth. The number of insertions, plus
 /// the potential, rises by at most 3 (`rise`), and `PaysForInsertions` holds (`stored`). `PaysForInsertions` also holds
-/// over any calls, one after another, including `try_insert` and reservations that find no growth left (`runs`).
+/// over any calls, one after another, including `try_insert`, if each reservation finds no growth left (`runs`).
 pub fn try_inserts_pay_for_moves<K: Eq + Hash, V, L: Admission<K, V>, S: KeyHasher<K>>() {}

@@ -20,7 +20,7 @@ pub fn nothing_is_lost<K: Eq + Hash, V, I: LookupKey<K>, L: Insertion<K, V, I>, 
 /// (`passed`).
 pub fn inserts_with_room_are_exact<K: Eq + Hash, V, I: LookupKey<K>, L: Insertion<K, V, I>, S: KeyHasher<K>>() {}
 
-/// After a successful insert with `ByLength`, the inserted entry comes first, under the stored key, and then come the
+/// After a successful insert with `ByLength`, the map has the inserted entry first, under the stored key, and then the
 /// newest other entries, up to `max_length` entries in all. The law holds for a map that keeps to its length (`newest`;
 /// see `maps_keep_to_their_length`), and for a map with at most `max_length` entries and growth left (`with_room`). If
 /// the map keeps to its length, several inserts, one after another, leave the newest entries, too (`lists`).

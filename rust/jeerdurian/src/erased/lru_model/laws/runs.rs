@@ -5,9 +5,9 @@ use crate::rattle_std::prelude::*;
 use crate::erased::lru_limits::{Budgeted, Insertion, KeyHasher, Limiter, LookupKey};
 use crate::rattle_std::hash::Hash;
 
-/// If `IsMap` holds of a map, it still holds after any calls, and any writes through the references that they lend.
-/// `IsMap` implies the clause `paid` of `inserts_pay_for_moves`, and that no two keys are equal. In a `Run`, the table
-/// is sound after each call, as the clause `map` of each call ensures.
+/// If `IsMap` holds of a map, it still holds after any calls, and any writes through references into the map. `IsMap`
+/// implies the clause `paid` of `inserts_pay_for_moves`, and that no two keys are equal. In a `Run`, the table is sound
+/// after each call, as the clause `map` of each call ensures.
 pub fn runs_keep_maps<K: Eq + Hash, V, I: LookupKey<K>, L: Insertion<K, V, I>, S: KeyHasher<K>>() {}
 
 /// If the running total of the limiter is the sum of the costs of the entries, it is this sum after any `Step`s, too.
@@ -21,7 +21,7 @@ pub fn runs_pay_for_moves<K: Eq + Hash, V, I: LookupKey<K>, L: Insertion<K, V, I
 /// A run without `pop_newest` evicts only the oldest of the entries whose keys no call of the run names.
 pub fn runs_evict_the_oldest<K: Eq + Hash, V, I: LookupKey<K>, L: Insertion<K, V, I>, S: KeyHasher<K>>() {}
 
-/// `inserts_evict_the_oldest` holds of each insert of a run, also if a get inserts, whatever the other calls of the run
+/// `inserts_evict_the_oldest` holds of each insert of a run, including each get that inserts, whatever the other calls
 /// are.
 pub fn each_insert_of_a_run_evicts_the_oldest<
     K: Eq + Hash,

@@ -26,8 +26,7 @@ impl<N: Eq + Hash + OwnedBytes, K: Eq + Hash + OwnedBytes, V: OwnedBytes, S: Key
         self.tenants.limiter().limit()
     }
 
-    /// Returns how many bytes are left for the limit and the name of one more tenant, if the table of tenants does not
-    /// grow.
+    /// Returns how many bytes a new tenant's limit and name may take, if the table of tenants does not grow.
     ///
     /// Cost: `O(1)`.
     pub fn left(&self) -> u64 {

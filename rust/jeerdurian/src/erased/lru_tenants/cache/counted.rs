@@ -1,5 +1,5 @@
 // Erased from crates/lru_tenants/src/cache/counted.rt: do not edit.
-//! Calls that count. The limiter carries the counts of each tenant.
+//! Calls that count. Each tenant's limiter stores the tenant's counts.
 
 #[allow(unused_imports)]
 use crate::rattle_std::prelude::*;
@@ -32,7 +32,7 @@ impl<N: Eq + Hash, K: Eq + Hash, V, L: Budgeted<K, V>, S: KeyHasher<K> + Copy> T
 
     /// Sets the counts of a tenant.
     ///
-    /// So you can count other calls, with the calls of [`Counts`].
+    /// To count other calls, use the methods of [`Counts`].
     ///
     /// Cost: `O(1)` expected.
     ///
@@ -100,7 +100,7 @@ impl<N: Eq + Hash, K: Eq + Hash, V, L: Budgeted<K, V>, S: KeyHasher<K> + Copy> T
         put_answer(insert_counted(own, key, value))
     }
 
-    /// Does what `get_or_put` does, and counts a hit, or a miss and then what `put_counted` counts.
+    /// Does what `get_or_put` does. Counts a hit, or else a miss and what `put_counted` counts.
     ///
     /// Cost: as `get` if the key is there, else as `put`, plus a search.
     ///

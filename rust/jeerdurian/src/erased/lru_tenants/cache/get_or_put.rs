@@ -10,8 +10,8 @@ use crate::erased::schnellru::{KeyHasher, LookupKey};
 use crate::rattle_std::hash::Hash;
 
 impl<N: Eq + Hash, K: Eq + Hash, V, L: Budgeted<K, V>, S: KeyHasher<K> + Copy> TenantCache<N, K, V, L, S> {
-    /// If the key is there, does what `get` does. If the key is not there, puts the value that the closure returns, and
-    /// returns this value.
+    /// Does what `get` does if the key is there. If not, puts the value that the closure returns, and returns this
+    /// value.
     ///
     /// `None` means that the tenant does not keep the new entry.
     ///

@@ -7,8 +7,8 @@ use crate::erased::lru_tenants::pool::part::{Part, drop_oldest, excess};
 use crate::erased::schnellru::{KeyHasher, LruMap, Unlimited};
 use crate::rattle_std::hash::Hash;
 
-// Returns the greatest excess. If the excess is above 0, also returns the hash of the name of a tenant with this
-// excess. Does not return the name, because the caller changes the map that lends the name.
+// Returns the greatest excess of a tenant's cost over its share. If the excess is above 0, also returns the hash of the
+// tenant's name. Does not lend the name itself, because the caller changes the map.
 fn furthest<N: Eq + Hash, K: Eq + Hash, V, L: Budgeted<K, V>, S: KeyHasher<K>, H: KeyHasher<N>>(
     tenants: &LruMap<N, Part<K, V, L, S>, Unlimited, H>,
 ) -> (u64, u64) {
@@ -24,7 +24,7 @@ fn furthest<N: Eq + Hash, K: Eq + Hash, V, L: Budgeted<K, V>, S: KeyHasher<K>, H
     (most, hash)
 }
 
-// Returns by how much the total falls. Returns `None` only in Rust, where hashes and costs may be wrong.
+// Returns by how much the total cost falls. Returns `None` only in Rust, where hashes and costs may be wrong.
 fn evict<N: Eq + Hash, K: Eq + Hash, V, L: Budgeted<K, V>, S: KeyHasher<K>, H: KeyHasher<N>>(
     tenants: &mut LruMap<N, Part<K, V, L, S>, Unlimited, H>,
 ) -> Option<u64> {
@@ -34,7 +34,7 @@ fn evict<N: Eq + Hash, K: Eq + Hash, V, L: Budgeted<K, V>, S: KeyHasher<K>, H: K
     drop_oldest(own)
 }
 
-// Returns the total that is left.
+// Returns the remaining total cost.
 pub(super) fn settle<N: Eq + Hash, K: Eq + Hash, V, L: Budgeted<K, V>, S: KeyHasher<K>, H: KeyHasher<N>>(
     tenants: &mut LruMap<N, Part<K, V, L, S>, Unlimited, H>,
     mut total: u128,

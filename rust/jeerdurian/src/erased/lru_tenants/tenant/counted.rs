@@ -47,7 +47,7 @@ pub(crate) fn insert_counted<K: Eq + Hash, V, L: Budgeted<K, V>, S: KeyHasher<K>
     insert_beside(map, key, value, others)
 }
 
-// `others` is the number of entries of other keys.
+// `others` is the number of entries with other keys.
 fn insert_beside<K: Eq + Hash, V, L: Budgeted<K, V>, S: KeyHasher<K>>(
     map: &mut LruMap<K, V, Counting<L>, S>,
     key: K,

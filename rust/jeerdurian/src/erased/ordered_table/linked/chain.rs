@@ -58,8 +58,8 @@ impl<K, V, N: LinkType> Chain<K, V, N> {
         self.oldest = link;
     }
 
-    // Puts a bucket in front of this chain. The entry in the bucket already has the links of a newest entry: its older
-    // link is `first`.
+    // Puts a bucket in front of this chain. The entry in the bucket already has its links: `newer` is `MAX`, and
+    // `older` is `first`.
     #[inline]
     pub(crate) fn link_placed(&mut self, b: usize, first: N) {
         let link = N::from_usize(b);

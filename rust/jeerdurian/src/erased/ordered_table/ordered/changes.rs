@@ -48,8 +48,8 @@ impl<K, V, N: LinkType> OrderedTable<K, V, N> {
                 self.linked.promote(*last);
                 *last = b;
             }
-            // Writes this promotion into the links at once, and so writes to the second-oldest entry. If the oldest
-            // entry is promoted each time, the next call reads this entry.
+            // Writes this promotion into the links at once, which touches the second-oldest entry. If calls keep
+            // promoting the oldest entry, the next call reads the entry touched here.
             None if self.linked.oldest() == b => self.linked.promote(b),
             None => self.promoted = Some(b),
         }
@@ -72,7 +72,7 @@ impl<K, V, N: LinkType> OrderedTable<K, V, N> {
         self.linked.take(b, false)
     }
 
-    /// Takes out the oldest entry. The table must not be empty. Does not read the link of this entry to an older entry.
+    /// Takes out the oldest entry. The table must not be empty. Does not read this entry's `older` link.
     ///
     /// Cost: `O(1)`.
     #[inline(always)]

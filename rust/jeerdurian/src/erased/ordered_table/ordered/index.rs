@@ -8,7 +8,7 @@ use crate::erased::ordered_table::ordered::OrderedTable;
 impl<K, V, N: LinkType> OrderedTable<K, V, N> {
     /// Returns the bucket at this index in the order, if there is one. The newest bucket has index 0.
     ///
-    /// Cost: `O(index)`, and `O(1)` if there is none.
+    /// Cost: `O(index)`, and `O(1)` if the index is too large.
     pub fn at_index(&self, index: usize) -> Option<usize> {
         if index >= self.len() {
             return None;

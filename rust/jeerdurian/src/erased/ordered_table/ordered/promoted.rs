@@ -1,6 +1,6 @@
 // Erased from crates/ordered_table/src/ordered/promoted.rt: do not edit.
-//! The order of a table whose newest bucket is `promoted`, if this is not `None`. In the links, `promoted` may still be
-//! elsewhere.
+//! The order of a table with a pending promotion. The bucket `promoted`, if any, counts as the newest, but may still be
+//! elsewhere in the links.
 
 #[allow(unused_imports)]
 use crate::rattle_std::prelude::*;

@@ -8,7 +8,7 @@ use crate::erased::lru_limits::{KeyHasher, Limiter, LookupKey};
 use crate::erased::schnellru::map::LruMap;
 use crate::rattle_std::hash::Hash;
 
-/// A handle on an entry of a map, which `LruMap::find_entry` has found. No call on the handle searches again.
+/// A handle on an entry that `find_entry` or `find_entry_by_hash` found. No call on the handle searches again.
 ///
 /// Follows `OccupiedEntry` of std's `HashMap`.
 

@@ -14,8 +14,8 @@ impl<K: Eq + Hash, V, L: Insertion<K, V, K>, S: KeyHasher<K>> LruMap<K, V, L, S>
     ///
     /// # Errors
     ///
-    /// The insert of an entry ran out of memory. All entries before the failed one are inserted, and no later entry is.
-    /// No contract says whether the iterator yielded entries after the failed one.
+    /// The insert of an entry ran out of memory. The earlier entries were inserted, and no later entry was. No contract
+    /// says whether the iterator yielded later entries.
     ///
     /// Follows std's `Extend::extend`.
     pub fn try_extend<T: IntoIterator<Item = (K, V)>>(&mut self, entries: T) -> Result<(), AllocError>

@@ -16,10 +16,10 @@ impl<K: Eq + Hash, V, L: Limiter<K, V>, S: KeyHasher<K>> LruMap<K, V, L, S> {
     /// removed. If the key is new, the limiter returns the entry to store, or `None` to reject it. If the limiter would
     /// be over its limit with one more entry, the oldest entry is evicted first.
     ///
-    /// If no bucket can take the new entry, the table grows, or is rehashed if it has fewer than half of the entries
-    /// that it may hold. If no larger table exists, or if the limiter refuses it, the oldest entries are evicted until
-    /// a bucket can take the new entry. If the evictions leave fewer than half of the entries that the table may hold,
-    /// the table is rehashed. If there is no entry to evict, the new entry is not stored.
+    /// If no bucket can take the new entry, the table grows. But a table with fewer than half of the entries that it
+    /// may hold is rehashed instead. If there is no larger table, or the limiter refuses it, the oldest entries are
+    /// evicted until a bucket can take the new entry. If the evictions leave fewer than half of the entries that the
+    /// table may hold, the table is rehashed. If there is no entry to evict, the new entry is not stored.
     ///
     /// At the end, if the key is in the map, the oldest entries are evicted while the limiter is over its limit. A
     /// replaced value is dropped before anything is evicted.
@@ -47,12 +47,12 @@ impl<K: Eq + Hash, V, L: Limiter<K, V>, S: KeyHasher<K>> LruMap<K, V, L, S> {
 }
 
 impl<K: Eq + Hash, V, L: Limiter<K, V>, S: KeyHasher<K>> LruMap<K, V, L, S> {
-    /// Does what `insert` does, and passes entries to the callback: evicted entries, oldest first; an entry that is
-    /// removed because its new value is rejected; and a new entry that the limiter accepted but the map could not
-    /// store. `on_removed` may write to an entry before the callback gets it.
+    /// Does what `insert` does, and passes each evicted entry to the callback, oldest first. The callback also gets an
+    /// entry that is removed because its new value is rejected, and a new entry that the limiter accepted but the map
+    /// could not store. `on_removed` may write to an entry before the callback gets it.
     ///
-    /// The callback gets each such entry once, even if the result is an `Err`. Only tests show that the callback gets
-    /// an entry before the limiter is called again. The callback does not get a replaced value.
+    /// The callback gets each such entry once, even if the result is an `Err`. The callback gets an entry before the
+    /// limiter is called again (tested, not proved). The callback does not get a replaced value.
     ///
     /// Cost: as `insert`, plus the calls of the callback.
     ///
@@ -76,7 +76,7 @@ impl<K: Eq + Hash, V, L: Limiter<K, V>, S: KeyHasher<K>> LruMap<K, V, L, S> {
         kept
     }
 
-    // Drops the unkept value before the evictions, because a limiter may count live values.
+    // Drops the replaced or rejected value before the evictions, because a limiter may count live values.
     #[inline(always)]
     fn insert_or_drop<I: LookupKey<K>, F: FnMut(K, V)>(
         &mut self,
@@ -133,7 +133,7 @@ impl<K: Eq + Hash, V, L: Limiter<K, V>, S: KeyHasher<K>> LruMap<K, V, L, S> {
 
     /// Does what `insert_full` does, but gets the hash of the key from the caller.
     ///
-    /// The hash must be the result of `map.hasher().hash_named(&key)`. The prover checks this.
+    /// The hash must be the result of `map.hasher().hash_named(&key)`, as the prover checks.
     ///
     /// Cost: as `insert_full`, without hashing.
     ///
@@ -162,7 +162,7 @@ impl<K: Eq + Hash, V, L: Limiter<K, V>, S: KeyHasher<K>> LruMap<K, V, L, S> {
     /// Inserts a key that is not in the map, without a search. Takes what `insert_hashed` takes, and returns what
     /// `insert` returns. The callback gets what `insert_with` passes.
     ///
-    /// The prover checks that the key is absent. Rust does not, so a map may contain a key twice.
+    /// The prover checks that the key is absent. In Rust nothing checks this, so a map may contain a key twice.
     ///
     /// Cost: as `insert_hashed`, without the search.
     ///

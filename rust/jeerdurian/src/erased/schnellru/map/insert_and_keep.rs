@@ -9,7 +9,7 @@ use crate::rattle_std::alloc::AllocError;
 use crate::rattle_std::hash::Hash;
 
 impl<K: Eq + Hash, V, L: Limiter<K, V>, S: KeyHasher<K>> LruMap<K, V, L, S> {
-    /// Returns the result of `insert_with`, and the entries that it passes to its callback.
+    /// Does what `insert_with` does, but returns the entries with the result instead of passing them to a callback.
     ///
     /// Cost: as `insert`, and memory for n + 1 entries if the map contains n, even if nothing is evicted. If the map is
     /// large, call `insert_with`.

@@ -8,9 +8,9 @@ use crate::erased::schnellru::map::LruMap;
 use crate::rattle_std::alloc::AllocError;
 use crate::rattle_std::hash::Hash;
 
-// The most bytes of a small entry, including its links. A larger entry is inserted inline, because a call would copy
-// its key and its value once more. A small entry is inserted by a call, because inline code would take registers from
-// the caller's loop.
+// The maximum size of a small entry in bytes, including its links. A larger entry is inserted inline, because a call
+// would copy its key and its value once more. A small entry is inserted by a call, because inline code would take
+// registers from the caller's loop.
 const SMALL: usize = 32;
 
 impl<K: Eq + Hash, V, L: Limiter<K, V>, S: KeyHasher<K>> LruMap<K, V, L, S> {
@@ -32,7 +32,7 @@ impl<K: Eq + Hash, V, L: Limiter<K, V>, S: KeyHasher<K>> LruMap<K, V, L, S> {
         }
     }
 
-    // The hash is the third argument, because the multiplication that makes it ends in the register of this argument.
+    // The hash is the third argument, because its last multiplication leaves it in the register of the third argument.
     #[inline(never)]
     fn insert_by_call<I: LookupKey<K>, F: FnMut(K, V)>(
         &mut self,
@@ -70,8 +70,8 @@ impl<K: Eq + Hash, V, L: Limiter<K, V>, S: KeyHasher<K>> LruMap<K, V, L, S> {
         self.settle();
         let mut pair = pair;
         self.holding(&mut pair, |map| map.make_room(sink));
-        // `insert_without_growth` takes a key and a value. If it took a pair, each insert would first clear memory for
-        // it.
+        // `insert_without_growth` takes a key and a value instead of a pair, because each insert would first clear
+        // memory for a pair.
         let (key, value) = pair;
         if self.growth_left() == 0 {
             return self.insert_without_growth(hash, key, value, sink);
@@ -80,7 +80,7 @@ impl<K: Eq + Hash, V, L: Limiter<K, V>, S: KeyHasher<K>> LruMap<K, V, L, S> {
         Ok(self.evict_over_limit(sink))
     }
 
-    // Out of line, because only inserts without growth left call it.
+    // Out of line, because inserts call this function only if no growth is left.
     #[cold]
     #[inline(never)]
     fn insert_without_growth<F: FnMut(K, V)>(

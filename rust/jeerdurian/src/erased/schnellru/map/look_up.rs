@@ -68,7 +68,7 @@ impl<K: Eq + Hash, V, L: Limiter<K, V>, S: KeyHasher<K>> LruMap<K, V, L, S> {
 
     /// Lends the value of the newest entry for writing.
     ///
-    /// If `ensure_newest` has just returned true, this is the value of its key. Cost: `O(1)`.
+    /// Right after `ensure_newest(key, ..)` returned true, this is the value of `key`. Cost: `O(1)`.
     #[inline]
     pub fn newest_mut(&mut self) -> Option<&mut V> {
         if self.is_empty() {

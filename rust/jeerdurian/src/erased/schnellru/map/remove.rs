@@ -140,8 +140,8 @@ pub(super) fn notify<K, V, L: Limiter<K, V>>(limiter: &mut L, pair: (K, V)) -> (
     (key, value)
 }
 
-// The callback of the calls that take none. Drops the entry: first the key, then the value. Parameters without a name
-// would be dropped in the opposite order.
+// The callback for calls that take no callback. Drops the key, and then the value. Parameters without a name would be
+// dropped in the opposite order.
 pub(crate) fn discard<K, V>(key: K, value: V) {
     drop(key);
     drop(value);

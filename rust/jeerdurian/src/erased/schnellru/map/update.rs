@@ -27,8 +27,8 @@ impl<K: Eq + Hash, V, L: Limiter<K, V>, S: KeyHasher<K>> LruMap<K, V, L, S> {
 }
 
 impl<K: Eq + Hash, V, L: Limiter<K, V>, S: KeyHasher<K>> LruMap<K, V, L, S> {
-    /// Does what `update` does, and passes entries to the callback: the evicted entries, oldest first, or the entry
-    /// that is removed because its new value is rejected.
+    /// Does what `update` does, and passes each evicted entry to the callback, oldest first. If the entry is removed
+    /// because its new value is rejected, the callback gets this entry.
     ///
     /// Cost: as `update`, plus the calls of the callback.
     pub fn update_with<I: LookupKey<K>, F: FnMut(K, V)>(&mut self, key: I, value: V, sink: &mut F) -> Updated<V>

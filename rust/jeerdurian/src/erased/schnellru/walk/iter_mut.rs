@@ -12,8 +12,8 @@ use crate::rattle_std::hash::Hash;
 
 pub struct IterMut<'a, K, V, L: Limiter<K, V>, S> {
     map: &'a mut LruMap<K, V, L, S>,
-    // The entries at the positions from `start` to `end` - 1 are left. The newest entry of the map has position 0.
-    // `front` and `back` are the buckets of the first and the last entry that are left, so a step reads one entry.
+    // The entries at the positions from `start` to `end` - 1 remain. The newest entry of the map has position 0.
+    // `front` and `back` are the buckets of the first and the last remaining entry, so a step reads one entry.
     start: usize,
     end: usize,
     front: Option<usize>,
@@ -21,12 +21,12 @@ pub struct IterMut<'a, K, V, L: Limiter<K, V>, S> {
 }
 
 impl<'a, K: Eq + Hash, V, L: Limiter<K, V>, S: KeyHasher<K>> IterMut<'a, K, V, L, S> {
-    /// Returns how many entries are left.
+    /// Returns how many entries remain.
     pub fn len(&self) -> usize {
         self.end.saturating_sub(self.start)
     }
 
-    /// Lends the newest entry that is left, with its value for writing, until the next call of the iterator.
+    /// Lends the newest remaining entry, whose value may be written, until the next call of the iterator.
     ///
     /// A caller's proof cannot use the clause `writes_back`, so proved code tests `len`, and then calls `lend_next`.
     ///
@@ -38,7 +38,7 @@ impl<'a, K: Eq + Hash, V, L: Limiter<K, V>, S: KeyHasher<K>> IterMut<'a, K, V, L
         None
     }
 
-    /// Does what `next` does, but lends the oldest entry that is left.
+    /// Does what `next` does, but lends the oldest remaining entry.
     ///
     /// Cost: `O(1)`.
     pub fn next_back(&mut self) -> Option<(&K, &mut V)> {
@@ -83,7 +83,7 @@ impl<'a, K: Eq + Hash, V, L: Limiter<K, V>, S: KeyHasher<K>> IterMut<'a, K, V, L
 impl<K: Eq + Hash, V, L: Limiter<K, V>, S: KeyHasher<K>> LruMap<K, V, L, S> {
     /// Returns an iterator that lends each value for writing, newest first. The order stays.
     ///
-    /// `IterMut` is no `Iterator`, so it cannot be in a `for` loop. Write `while let Some((key, value)) = walk.next()`,
+    /// `IterMut` is no `Iterator`, so a `for` loop cannot use it. Write `while let Some((key, value)) = walk.next()`,
     /// or call `for_each_mut`.
     ///
     /// Cost: `O(1)`.

@@ -11,7 +11,7 @@ use crate::rattle_std::io::{BufRead, ErrorKind};
 /// The length in bytes of the longest line with a meaning: `insert` with two numbers of 20 digits.
 const LONGEST: usize = 48;
 
-/// The most bytes of a line that `Line` holds: one more than `LONGEST`, so that a longer line is noticed.
+/// How many bytes of a line `Line` holds at most: one more than `LONGEST`, so that a longer line is noticed.
 pub const HELD: usize = LONGEST + 1;
 
 pub struct Line {
