@@ -47,7 +47,7 @@ known [] n = None
 known (e ∷ earlier) n = known_after e.0 (nat_eq n e.1) e.2 (known earlier n)
 
 -- The bytes that a crash after an event leaves in a block, or `None` if the events do not determine these bytes.
--- `block` lists the known bytes of the block, and `old` the bytes that a crash before the event leaves.
+-- Before the event, `block` was known of this block, and a crash would leave `old`.
 abbrev pub left_after : ℕ → Bool → Option (List ℕ) → Option (List ℕ) → Option (List ℕ)
 left_after zero same block old = old
 left_after (suc zero) same block old = old

@@ -1,4 +1,4 @@
-//! `CountedMap`. A contract sees a map and its counts.
+//! `CountedMap`. Contracts represent it by its map and its counts.
 ghost use Rattle.std.specs.Prelude.{◌≡◌, is_some};
 ghost use Rattle.lru_model.specs.Calls.{promoted, Remove};
 ghost use Rattle.lru_model.specs.Inserts.{Insert};

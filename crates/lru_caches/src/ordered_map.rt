@@ -1,4 +1,4 @@
-//! `OrderedMap`. A contract sees a map as the list of its entries, oldest first.
+//! `OrderedMap`. Contracts represent a map by the list of its entries, oldest first.
 ghost use Rattle.std.specs.Prelude.{◌≡◌, ◌<◌, ◌^◌, [], length, is_some, IsSome, IsOk, IfOk, OnOk, OnErr, option_map};
 ghost use Rattle.std.specs.Borrow.{sem};
 ghost use Rattle.std.specs.List.{IsDistinct};

@@ -57,7 +57,7 @@ module _ {K V S I : Type 0} (rules : Rules K V S) (offers : Offers K V S I) (nam
   abbrev pub with_old_value : K × V → I → V → Contents K V S → K × V
   with_old_value pair i v c = let r = replacement pair i v c in (r.key, r.old_value)
 
-  -- the contents after the limiter accepted the new value: the pair gets this value and becomes the newest
+  -- the contents after the limiter accepted the new value: the pair is now `with_new_value`, and the newest
   abbrev pub with_replaced : K × V → I → V → Contents K V S → Contents K V S
   with_replaced pair i v c = record {
     pairs = with_new_value pair i v c ∷ without (names i) c.pairs;

@@ -68,8 +68,7 @@ pub record IsNewest {K V : Type 0} (names : K → Bool) (pairs : List (K × V)) 
 -- limiter rejects the new value for this pair.
 pub data EvictsOldest {K V : Type 0} (names : K → Bool) (refuses : K × V → Type 0) (old new : List (K × V))
     : Type 0 where
-  -- Either the pair of the inserted key is the newest, and the newest pairs of other keys follow in their order, or the
-  -- map has no pairs.
+  -- `new` is a front of this list, maybe empty: the pair of the inserted key, then the old pairs of other keys.
   behind : (newest : K × V) → names newest.0 ≡ true → IsFront new (newest ∷ without names old) →
       EvictsOldest names refuses old new
   -- The inserted key was new, and its pair is not stored. The oldest pairs may have been evicted.

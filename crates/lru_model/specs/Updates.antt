@@ -10,7 +10,7 @@ use Rattle.lru_model.specs.declared.results.Updated.{Updated}
 use Rattle.lru_model.specs.declared.results.Updated.TheVariants.{Replaced, Rejected, Absent}
 
 module _ {K V S I : Type 0} (rules : Rules K V S) (offers : Offers K V S I) (names : I → K → Bool) where
-  -- the contents after the limiter accepted the new value: the pair gets this value, and the order of the pairs stays
+  -- the contents after the limiter accepted the new value: the pair is now `with_new_value`, in its old place
   abbrev pub with_updated : K × V → I → V → Contents K V S → Contents K V S
   with_updated pair i v c = record {
     pairs = set_entry (names i) (with_new_value rules offers names pair i v c) c.pairs;

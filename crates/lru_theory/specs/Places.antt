@@ -29,14 +29,14 @@ module _ {K : Type 0} (test : K → Bool) where
   freed (place ∷ places) = if contains_it place then None ∷ places else place ∷ freed places
 
   -- The places without the first place that is free or whose key passes the test. If the omitted place was free, the
-  -- place of the key becomes free.
+  -- later places are `freed`.
   abbrev pub vacated : List (Option K) → List (Option K)
   vacated [] = []
   vacated (None ∷ places) = freed places
   vacated (Some key ∷ places) = if test key then places else Some key ∷ vacated places
 
 module _ {K : Type 0} (eq : K → K → Bool) where
-  -- the places after a call that promotes no key
+  -- the places after a call (no law covers `promotes`)
   abbrev pub place_call : KeyCall K → List (Option K) → List (Option K)
   place_call (refers key) places = Some key ∷ vacated (eq key) places
   place_call (promotes key) places = places

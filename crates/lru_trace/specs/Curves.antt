@@ -41,8 +41,7 @@ limits_of (curves.Bytes curve) = Some curve.limits
 abbrev pub Has : AnyCurve → ℕ → Type 0
 Has curve size = IfSome (limits_of curve) (λ limits. is_in nat_eq size limits ≡ true)
 
--- For a sample of one key in 2 ^ bits, each of these sizes is divided by 2 ^ bits. The curve counts the misses for each
--- resulting size.
+-- For a sample of one key in 2 ^ bits, the curve counts the misses for each of the `sizes`, divided by 2 ^ bits.
 abbrev pub HasAll : AnyCurve → ℕ → List ℕ → Type 0
 HasAll curve bits sizes = All (λ size. Has curve (size / 2 ^ bits)) sizes
 
@@ -73,7 +72,7 @@ pub record Leads (is_warm : Bool) (old : AnyCurve) (references : List (List ℕ 
       → Holds warm (trace ++ references)
   pub warmed : is_warm ≡ true → (warm : List (List ℕ × ℕ)) → IsCurveOf warm [] old → Holds (warm ++ references) []
 
--- `new` is the curve after these further references
+-- `new` is the curve after further `references`
 abbrev pub Follows : Bool → AnyCurve → List (List ℕ × ℕ) → AnyCurve → Type 0
 Follows is_warm old references new = Leads is_warm old references (λ warm trace. IsCurveOf warm trace new)
 

@@ -19,5 +19,5 @@ pub fn is_sampled(key: &[u8], bits: u32) -> bool
     requires { bits ≤ 20 }
     ensures { result ≡ is_sampled bits key.now }
 {
-    hash(key) % (1 << bits) == 0
+    bits == 0 || hash(key) % (1 << bits) == 0
 }

@@ -1,4 +1,4 @@
-//! The type `LruMap`. A contract sees a map as a `State`: the limiter, the hasher, the states of the buckets, the
+//! The type `LruMap`. Contracts represent a map by a `State`: the limiter, the hasher, the states of the buckets, the
 //! counts, and the entries, newest first.
 ghost use Rattle.std.specs.Prelude.{◌≡◌};
 ghost use Rattle.lru_limits.specs.Mixing.{seeded};

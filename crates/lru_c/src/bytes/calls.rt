@@ -92,7 +92,7 @@ fn get_ready_for(map: &mut BytesMap, key: &[u8]) -> bool
     ensures finds { result ≡ true → FindsMemory key.now map.new }
     ensures failed { result ≡ false → map.new ≡ map.old }
 {
-    if map.contains(&Named(key)) {
+    if map.len() < map.guaranteed_capacity() || map.contains(&Named(key)) {
         return true;
     }
     map.try_reserve(1).is_ok()

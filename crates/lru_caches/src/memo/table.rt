@@ -1,4 +1,4 @@
-//! `MemoTable`. A contract sees a table as its keys with their answers, newest first.
+//! `MemoTable`. Contracts represent a table by its keys with their answers, newest first.
 ghost use Rattle.std.specs.Prelude.{◌≡◌, [], length, IfSome, MatchOption, Some, None, true, false};
 ghost use Rattle.std.specs.Fn.{FnOnceReturnsAt};
 ghost use Rattle.std.specs.Map.{lookup};

@@ -1,4 +1,4 @@
--- How the fields of an `LruMap` represent its state. No public clause cites this module.
+-- How the fields of an `LruMap` represent its state. No public contract uses this module.
 use Rattle.std.specs.Prelude.{ℕ, Bool}
 use Rattle.group_table.specs.Bucket.{bucket_states}
 use Rattle.group_table.specs.Change.{insertion_count}

@@ -1,4 +1,4 @@
--- What a part of a call passes to the callback. No public clause cites this module.
+-- What a part of a call passes to the callback. No public contract uses this module.
 use Rattle.std.specs.Prelude.{List}
 use Rattle.std.specs.Fn.{Mut, Called}
 use Rattle.lru_limits.specs.Rules.{Rules, Replaced}

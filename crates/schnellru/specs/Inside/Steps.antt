@@ -1,5 +1,5 @@
--- How a call changes the pair in a bucket: it replaces the value of the pair, or takes the pair out. No public clause
--- cites this module.
+-- How a call changes the pair in a bucket: it replaces the value of the pair, or takes the pair out. No public contract
+-- uses this module.
 use Rattle.std.specs.Prelude.{◌≡◌, ℕ, ◌+◌, Bool, true, false, Some}
 use Rattle.group_table.specs.Bucket.{bucket_states, growth_left as growth_left_of, growth_left_at}
 use Rattle.group_table.specs.Change.{Removes}
