@@ -47,6 +47,9 @@ def main():
         changed = changed_since(words[1])
         crates = [it for it in crates if it in changed]
     elif words:
+        unknown = [it for it in words if it not in crates]
+        if unknown:
+            sys.exit(f"{__doc__}\nno folder of edits: {' '.join(unknown)}")
         crates = words
     print(f"edits of: {' '.join(crates) or 'no crate'}", flush=True)
     sys.exit(max([status_of(crate) for crate in crates], default=0))

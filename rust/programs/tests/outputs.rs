@@ -62,7 +62,12 @@ fn rows() {
 
 #[test]
 fn arguments() {
-    for binary in [env!("CARGO_BIN_EXE_replay"), env!("CARGO_BIN_EXE_trace")] {
+    for binary in [
+        env!("CARGO_BIN_EXE_replay"),
+        env!("CARGO_BIN_EXE_trace"),
+        env!("CARGO_BIN_EXE_example_pages"),
+        env!("CARGO_BIN_EXE_example_responses"),
+    ] {
         let help = Command::new(binary).arg("--help").stdin(Stdio::null()).output().unwrap();
         assert!(help.status.success() && String::from_utf8_lossy(&help.stdout).contains(" < "));
         let unknown = Command::new(binary).arg("-x").stdin(Stdio::null()).output().unwrap();
