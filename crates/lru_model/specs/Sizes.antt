@@ -1,5 +1,5 @@
--- How many buckets the width of links permits, how many bytes a table takes, and into which table a map grows. Quotients
--- are rounded down.
+-- How many buckets the width of links permits, how many bytes a table takes, and into which table a map grows.
+-- Quotients are rounded down.
 use Rattle.std.specs.Prelude.{◌≡◌, ◌⊎◌, ℕ, ◌+◌, ◌-◌, ◌*◌, ◌/◌, ◌^◌, ◌<◌, ◌≤◌, ◌==◌, nat_lt, nat_le, if◌then◌else◌}
 use Rattle.std.specs.Prelude.{Option, Some, None}
 use Rattle.group_table.specs.Sizes.{IsPowerFromFour, full_capacity, buckets_for}
