@@ -40,8 +40,8 @@ module _ {T : Type 0} where
     pub insertions : new.insertions ≡ one_placed old.insertions
 
 module _ {A : Type 0} where
-  -- Consider all runs of 16 neighbouring buckets that include bucket b. If each run contains an empty bucket, a removal
-  -- makes b empty. If some run contains no empty bucket, the removal makes b deleted.
+  -- If each run of 16 neighbouring buckets that includes bucket b contains an empty bucket, a removal makes b empty.
+  -- Otherwise, the removal makes b deleted.
   abbrev pub Removes : List (Bucket A) → List (Bucket A) → ℕ → Type 0
   Removes old new b =
       (HasEmptyNeighbours (IsEmpty (bucket_states old)) (length (bucket_states old)) b × (new ≡ slice_set old b empty))

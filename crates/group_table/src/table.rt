@@ -97,7 +97,7 @@ impl<T> Table<T> {
     ///
     /// # Errors
     ///
-    /// Out of memory. With 0 buckets the call never fails.
+    /// Out of memory.
     pub fn with_buckets(alloc: Global, buckets: usize) -> Result<Self, AllocError>
         requires count { IsBucketCount buckets }
         requires addressable { buckets + 16 < 2 ^ 63 }

@@ -9,8 +9,7 @@ use Rattle.lru_limits.specs.Rules.{Offers}
 use Rattle.lru_limits.specs.Laws.{IsInsertion}
 use Rattle.lru_limits.specs.Stores.{ReturnsPairIf, given-names}
 
--- Each function of `Terms` is named after a callback of `Admission`. The argument of type ℕ is the number of entries of
--- the map.
+-- The argument of type ℕ is the number of entries of the map.
 pub record Terms (K V S : Type 0) : Type 0 where
   -- whether an entry with a new key is accepted
   pub accepts : S → ℕ → K → V → Bool

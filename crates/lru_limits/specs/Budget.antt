@@ -1,4 +1,4 @@
--- The state of a limiter by cost: its limit, and its sum of costs.
+-- Limiters by cost.
 --     `Budget`: the limit, and the sum of the costs of the entries.
 --     `can_add limit sum c`: whether the cost c is at most the limit, and sum + c fits 64 bits.
 --     `charged b c`: the budget b with its sum raised by the cost c, or b if `can_add` is false.
@@ -10,8 +10,7 @@
 --     `by_cost`, `charges`: the rules and the offers of a limiter; the function `cost` gives the cost of a value.
 --     `pair_cost o k v`: the cost of an entry, which is k + v + o, but at most `u64::MAX`.
 --     `weighs-sums`, `charges-sums`: these limiters satisfy the laws of `Summing`.
---     `IsBudgeted`: the laws of a limiter with a running total and a budget. `made budget` is a new limiter with this
---         budget. `rebudgeted b s` is the limiter s with the budget b.
+--     `IsBudgeted`: the laws of a limiter with a running total and a budget.
 --     `weighs-budgeted`: `ByWeight` and `ByCost` satisfy these laws.
 use Rattle.std.specs.Prelude.{◌≡◌, ◌+◌, ◌-◌, ◌^◌, ◌&&◌, ℕ, min, Bool, true, false, nat_lt, nat_le}
 use Rattle.std.specs.Prelude.{if◌then◌else◌, refl}

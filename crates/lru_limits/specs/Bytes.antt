@@ -2,7 +2,7 @@
 --     `in_word n`: n, but at most `u64::MAX`.
 --     `block_bytes n`: what a block of n bytes takes from the allocator.
 --     `both_own of_k of_v`: the bytes that the key of an entry owns, plus the bytes that the value owns.
---     `Bytes`: the limit, the owned bytes, and the bytes of the table.
+--     `Bytes`: the state of the limiter.
 --     `left_for_entries b`: the limit minus the bytes of the table, but at least 0.
 --     `by_bytes`, `bytes_offers`, `bytes_terms`: the rules, offers and terms; `bytes_of` gives the bytes that an entry
 --         owns.

@@ -19,7 +19,6 @@ pub record Replaced (K V S : Type 0) : Type 0 where
   pub limiter : S
   -- whether the new value replaces the old value
   pub taken : Bool
-  -- the stored key and both values after `on_replace`
   pub key : K
   pub old_value : V
   pub new_value : V

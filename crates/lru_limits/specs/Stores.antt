@@ -67,7 +67,6 @@ given-adds cost account true s s' i v t k w more h = ap account h.limiter ∙ mo
     (sym (given-is true s' i v t (k, w) h))
 given-adds cost account false s s' i v t k w more h = let e = h.pair in cc
 
--- a rejected entry does not change the running total
 pub refused-keeps : {K V S : Type 0} (account : S → ℕ) (accepts : Bool) (s s' : S) (i : K) (v : V) (t : S)
     → ReturnsPairIf accepts (if accepts then s' else s) i v t None → account t ≡ account s
 refused-keeps account true s s' i v t h = let e = h.pair in cc

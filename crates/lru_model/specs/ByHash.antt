@@ -1,6 +1,4 @@
 -- How a search by a hash calls its closure with one pair after another, and what the search returns.
---     `closure`: how the closure may be called.
---     `f`, `g`: the closure before and after the calls.
 use Rattle.std.specs.Prelude.{◌≡◌, ℕ, Bool, true, false, List, [], ◌∷◌, ◌++◌, Contains}
 use Rattle.std.specs.List.{FoldsTo, IsDistinct}
 use Rattle.std.specs.Borrow.{Bor}

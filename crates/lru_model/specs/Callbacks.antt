@@ -1,10 +1,6 @@
 -- Which pairs a call passes to its callback: each evicted or removed pair, and each pair that the limiter returned but
 -- the map could not store. `on_removed` of the limiter may change a pair before the callback gets the pair. The
 -- callback gets the pairs in the order in which `on_removed` gets them.
---     `rules`, `offers`: the limiter's `Rules` and `Offers` (`lru_limits`).
---     `names i k`: the inserted key i names k.
---     `closure`: how the callback may be called.
---     `f`, `g`: the callback before and after the call.
 use Rattle.std.specs.Prelude.{◌≡◌, ℕ, Bool, List, [], ◌∷◌, ◌++◌, Result}
 use Rattle.std.specs.List.{FoldsTo}
 use Rattle.std.specs.Fn.{Mut, Called}

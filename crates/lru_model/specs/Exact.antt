@@ -69,8 +69,7 @@ module _ {K V S : Type 0} (rules : Rules K V S) where
   abbrev pub met : Report → Contents K V S → Contents K V S
   met report c = pops rules report.evicted (record { pairs = c.pairs; limiter = queried report.asked c.limiter })
 
-  -- The contents after the oldest pairs were evicted while the limiter was over its limit. The result says whether the
-  -- map still has pairs.
+  -- The contents after a trim. The result says whether the map still has pairs.
   abbrev pub trimmed : Contents K V S → Result Bool AllocError × Contents K V S
   trimmed c = (Ok (not (is_empty (trim rules c).pairs)), trim rules c)
 

@@ -1,5 +1,4 @@
 -- What an insert does.
---     `rules`, `offers`: the limiter's `Rules` and `Offers` (`lru_limits`).
 --     `names i k`: the inserted key i names k.
 --     `hash_of h k`: the hash of k by the hasher h.
 use Rattle.std.specs.Prelude.{◌≡◌, ℕ, ◌+◌, ◌⊎◌, ◌<◌, Bool, true, false, not, if◌then◌else◌, ◌∷◌, length, Option, Some}
@@ -25,9 +24,8 @@ abbrev pub make_room : {K V S : Type 0} → Rules K V S → Contents K V S → C
 make_room rules c = if rules.is_over_the_limit c.limiter (length c.pairs + 1) then pop rules c else c
 
 module _ {K V S H : Type 0} (rules : Rules K V S) where
-  -- How an insert goes on after the insertion into the table. If the pair was stored, the oldest pairs are evicted
-  -- while the limiter is over its limit, and the result says whether the map still has pairs. If the pair was not
-  -- stored, nothing more changes.
+  -- How an insert goes on after the insertion into the table. If the pair was stored, a trim follows, and the result
+  -- says whether the map still has pairs. If the pair was not stored, nothing more changes.
   abbrev pub Settles : Outcome → State K V S H → Result Bool AllocError → State K V S H → Type 0
   Settles placed landed result new =
       (result ≡ Ok (not (is_empty new.pairs))) × Leaves landed (trim rules (contents landed)) new
@@ -81,7 +79,7 @@ module _ {K V S I : Type 0} (rules : Rules K V S) (offers : Offers K V S I) (nam
     pub data Insert (i : I) (v : V) (old : State K V S H) (result : Result Bool AllocError)
         (new : State K V S H) : Type 0 where
       -- The map contains the key, and the limiter accepts the new value. The pair becomes the newest, with the new
-      -- value. The insert ends with a trim: the oldest pairs are evicted while the limiter is over its limit.
+      -- value. The insert ends with a trim.
       replaced : (pair : K × V) → lookup_entry (names i) old.pairs ≡ Some pair →
           (replacement pair i v (contents old)).taken ≡ true →
           result ≡ Ok (not (is_empty new.pairs)) → Leaves old (trim rules (with_replaced pair i v (contents old))) new →

@@ -1,8 +1,5 @@
 -- What a call requires of its callback. If the call may evict, remove or reject n pairs, its callback must accept n
 -- calls, each with any of these pairs.
---     `names i k`: the inserted key i names k.
---     `closure`: how the callback may be called.
---     `f`: the callback before the call.
 use Rattle.std.specs.Prelude.{◌≡◌, ℕ, ◌<◌, Bool, true, false, List, [], ◌∷◌, length, None, Some, Contains, All}
 use Rattle.std.specs.Fn.{Mut, Takes as MayBeCalled}
 use Rattle.lru_limits.specs.Rules.{Rules, Offers, Replaced}

@@ -10,8 +10,8 @@ use Rattle.lru_limits.specs.Rules.{Rules}
 use Rattle.lru_model.specs.Sizes.{target, Target, no_table, new_table}
 use Rattle.lru_model.specs.State.{State, TableState, buckets, growth_left, FirstFreeIs, count_insert, contents, Leaves, pop}
 
--- How an insertion into the table ends. The pair is stored (`placed`), or the table cannot grow and there is no pair to
--- evict (`refused`), or the map runs out of memory (`no_memory`).
+-- The pair is stored (`placed`), or the table cannot grow and there is no pair to evict (`refused`), or the map runs
+-- out of memory (`no_memory`).
 pub data Outcome : Type 0 where
   placed refused no_memory : Outcome
 

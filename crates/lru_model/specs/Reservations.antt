@@ -32,7 +32,6 @@ module _ {K V S H : Type 0} (rules : Rules K V S) where
   -- A reservation of growth for n pairs fails, or leaves growth for at least n pairs. All pairs stay.
   pub data Reserve (n : ℕ) (old : State K V S H) (result : Result (Unit {0}) ReserveError)
       (new : State K V S H) : Type 0 where
-    -- The reservation changes nothing.
     unchanged : ReservesNothing n old result → new ≡ old →
         Reserve n old result new
     -- The table is rehashed, and keeps its number of buckets. The limiter is not queried.

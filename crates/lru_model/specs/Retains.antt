@@ -1,5 +1,4 @@
 -- What `retain` does: it removes the pairs that its closure rejects.
---     `closure`: how the closure may be called.
 use Rattle.std.specs.Prelude.{◌≡◌, Bool, true, false, List, [], ◌∷◌, Some, map}
 use Rattle.std.specs.Borrow.{Bor}
 use Rattle.std.specs.Fn.{Mut}

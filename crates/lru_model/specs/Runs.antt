@@ -1,6 +1,5 @@
 -- How one call changes a map (`Step`), and how several calls, one after another, change a map (`Run`). What each insert
 -- of a run evicts (`InsertEvictsOldest`).
---     `rules`, `offers`: the limiter's `Rules` and `Offers` (`lru_limits`).
 --     `names i k`: the key i of a call names k.
 --     `hash_of h k`: the hash of k by the hasher h.
 use Rattle.std.specs.Prelude.{◌≡◌, ◌⊎◌, ℕ, Bool, true, false, List, Option, IfSome, Result, Contains, map}
@@ -25,10 +24,9 @@ AreAmong {K} named test = (key : K) → named key ≡ true → test key ≡ true
 
 module _ {K V S H I : Type 0} (rules : Rules K V S) (offers : Offers K V S I) (names : I → K → Bool)
     (hash_of : H → K → ℕ) where
-  -- How one call changes a map. A step of `AnyStep` may also be a change of the limiter, or a write through a
-  -- reference. A call that only reads is no step. `gets` is a look-up by a hash, or by a key of any type. If the
-  -- look-up finds a pair, it promotes this pair. A get that inserts is the step `gets` or the step `inserts`. All
-  -- inserted and updated keys have one type, I.
+  -- How one call changes a map. A call that only reads is no step. `gets` is a look-up by a hash, or by a key of any
+  -- type. If the look-up finds a pair, it promotes this pair. A get that inserts is the step `gets` or the step
+  -- `inserts`. All inserted and updated keys have one type, I.
   pub data Step (old new : State K V S H) : Type 0 where
     inserts : (key : I) (value : V) (result : Result Bool AllocError)
         → Insert rules offers names hash_of key value old result new → Step old new
@@ -92,7 +90,7 @@ module _ {K V S H I : Type 0} (rules : Rules K V S) (offers : Offers K V S I) (n
 abbrev pub no_keys : {K : Type 0} → ⊥ → K → Bool
 no_keys key k = false
 
--- the `offers` of calls that neither insert nor update a key, and so offer the limiter nothing
+-- the `offers` of these calls, which offer the limiter nothing
 abbrev pub no_offers : {K V S : Type 0} → Offers K V S ⊥
 no_offers = record {
   on_insert = λ limiter n key value left pair. ⊥;

@@ -18,7 +18,6 @@ module _ {K V S H : Type 0} where
   abbrev pub shrink_counted : State K V S H → State K V S H
   shrink_counted st = record st { counts = record st.counts { shrunk = count_up st.counts.shrunk (length st.pairs) } }
 
-  -- how a shrink ends
   pub data Shrink (old : State K V S H) (result : Result Bool AllocError) (new : State K V S H) : Type 0 where
     -- The table has no more buckets than its pairs need, and nothing changes.
     kept : IsTight old →
@@ -28,7 +27,6 @@ module _ {K V S H : Type 0} where
     shrunk : (count : ℕ) → IsLooseFor count old →
         result ≡ Ok true → MovesTo count (shrink_counted old) new →
         Shrink old result new
-    -- The allocation of a smaller table fails, and nothing changes.
     no_memory_to_shrink : (count : ℕ) → IsLooseFor count old → 0 < length old.pairs →
         IsErr result → new ≡ old →
         Shrink old result new

@@ -1,5 +1,5 @@
--- How many buckets the width of links permits, how many bytes a table takes, and into which table a map grows. Quotients
--- are rounded down.
+-- How many buckets the width of links permits, how many bytes a table takes, and into which table a map grows.
+-- Quotients are rounded down.
 use Rattle.std.specs.Prelude.{◌≡◌, ◌⊎◌, ℕ, ◌+◌, ◌-◌, ◌*◌, ◌/◌, ◌^◌, ◌<◌, ◌≤◌, ◌==◌, nat_lt, nat_le, if◌then◌else◌}
 use Rattle.std.specs.Prelude.{Option, Some, None}
 use Rattle.group_table.specs.Sizes.{IsPowerFromFour, full_capacity, buckets_for}
@@ -57,7 +57,6 @@ target_from max entry_bytes buckets pairs (Some need) =
     else (if nat_le pairs (full_capacity buckets / 2) then same_table
     else table_with entry_bytes (buckets_for max (full_capacity (2 * buckets))))
 
--- how a table of `buckets` buckets grows for `pairs` pairs
 unfoldable pub target : ℕ → ℕ → ℕ → ℕ → Target
 target max entry_bytes buckets pairs = target_from max entry_bytes buckets pairs (buckets_for max pairs)
 

@@ -1,5 +1,4 @@
--- Definitions for the laws in `src/laws`: what an insert evicts and stores, what its result says, the cost of moves,
--- and the bytes of a map with one limit for its table and its entries.
+-- Definitions for the laws in `src/laws`.
 use Rattle.std.specs.Prelude.{◌≡◌, ℕ, ◌+◌, ◌-◌, ◌*◌, ◌/◌, ◌^◌, ◌≤◌, ◌<◌, Bool, true, false, List, ◌∷◌, length}
 use Rattle.std.specs.Prelude.{sum_by, not}
 use Rattle.std.specs.List.{filter}
@@ -87,8 +86,8 @@ module _ {K V S H : Type 0} (rules : Rules K V S) where
     pub mid : State K V S H
     pub refused : CannotGrow rules st mid
 
-  -- What the result of an insert says. If the result is true, the pair of the key is the newest, and the limiter is not
-  -- over its limit. If the result is false or an error, the map does not contain the key.
+  -- If the result is true, the pair of the key is the newest, and the limiter is not over its limit. If the result is
+  -- false or an error, the map does not contain the key.
   abbrev pub SaysWhether : (K → Bool) → Result Bool AllocError → State K V S H → Type 0
   SaysWhether names (Ok true) new =
       IsNewest names new.pairs × (rules.is_over_the_limit new.limiter (length new.pairs) ≡ false)
@@ -106,9 +105,9 @@ module _ {K V S H I : Type 0} (rules : Rules K V S) (offers : Offers K V S I) (n
         (s : S) → MayGive rules offers names i v (contents old) s (Some pair) →
         Stores i v old pair
 
-  -- How an insert ends. The result says whether the key is in the map (`says`). If the result is true, the newest pair
-  -- is the pair that the insert stored (`stores`). If memory runs out, the key is new (`out_of_memory`), and only the
-  -- oldest pairs may have been evicted (`keeps`).
+  -- The result says whether the key is in the map (`says`). If the result is true, the newest pair is the pair that the
+  -- insert stored (`stores`). If memory runs out, the key is new (`out_of_memory`), and only the oldest pairs may have
+  -- been evicted (`keeps`).
   pub record InsertEnds (hash_of : H → K → ℕ) (i : I) (v : V) (old : State K V S H) (result : Result Bool AllocError)
       (new : State K V S H) : Type 0 where
     pub says : SaysWhether rules (names i) result new

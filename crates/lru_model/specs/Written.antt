@@ -1,6 +1,4 @@
 -- What `for_each_mut` does: it calls a closure with each pair, and the closure may write the value of the pair.
---     `closure`: how the closure may be called.
---     `f`, `g`: the closure before and after the call.
 use Rattle.std.specs.Prelude.{◌≡◌, List, [], ◌∷◌}
 use Rattle.std.specs.Borrow.{Bor, MutBor}
 use Rattle.std.specs.Fn.{Mut, Called}

@@ -111,11 +111,9 @@ module _ {K V N : Type 0} (number : N → ℕ) (link : ℕ → N) (none : N) whe
     pub same : length slots ≡ length before
     pub others : (c : ℕ) → c ≢ b → bucket_at slots c ≡ bucket_at before c
 
-  -- `IsChain`, applied to the fields of a chain
   abbrev pub KeepsOrder : Chain K V N → List ℕ → Type 0
   KeepsOrder chain = IsChain chain.table.slots chain.newest chain.oldest
 
-  -- `IsGap`, applied to the fields of a chain
   abbrev pub HasGap : Chain K V N → List ℕ → ℕ → N → N → Type 0
   HasGap chain = IsGap chain.table.slots chain.newest chain.oldest
 

@@ -49,8 +49,6 @@ impl ByCost {
 
     /// Returns the same limiter with another limit. The sum stays.
     ///
-    /// `map.set_limiter(map.limiter().with_limit(n))` sets the limit of a map.
-    ///
     /// ```
     /// let lower = limiter.with_limit(1);
     /// assert_eq!(rt; (lower.limit(), lower.cost()), (1, 2));

@@ -12,7 +12,6 @@ use crate::limiter::Limiter;
 /// second limiter sees what the first limiter wrote to the entry.
 ///
 /// Put a limiter by cost first, because `Both` uses the link type and the running total of the first limiter.
-/// `map.limiter().0` is the first limiter.
 ///
 /// ```
 /// let mut limiter = Both(ByCost::new(9), ByLength::new(3));

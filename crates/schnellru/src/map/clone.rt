@@ -21,9 +21,8 @@ impl<
     /// assert_eq!(rt; (copy.len(), map.len()), (2, 3));
     /// ```
     ///
-    /// A clone of a key must equal the key, and a clone of the hasher must return the same hashes. `LruMap` does not
-    /// implement `Clone`, because `Clone` cannot require equal clones. Cost: `O(buckets)`, two allocations if the map
-    /// has buckets, and what the clones of keys, values, limiter and hasher allocate.
+    /// A clone of a key must equal the key, and a clone of the hasher must return the same hashes. Cost: `O(buckets)`,
+    /// two allocations if the map has buckets, and what the clones of keys, values, limiter and hasher allocate.
     ///
     /// # Errors
     ///

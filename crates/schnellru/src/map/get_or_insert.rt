@@ -47,8 +47,6 @@ impl<K: Eq + Hash + Drop, V: Drop, L: Limiter<K, V>, S: KeyHasher<K>> LruMap<K, 
     /// Makes the entry of a key the newest. If the key is not there, inserts it with the value that the closure
     /// returns, as `insert` does. Returns whether the key is in the map afterwards.
     ///
-    /// If the result is true, `newest_mut` lends the value.
-    ///
     /// ```
     /// if map.ensure_newest(1, || 0)? {
     ///     if let Some(count) = map.newest_mut() {

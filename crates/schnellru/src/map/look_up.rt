@@ -13,7 +13,7 @@ use std::hash::Hash;
 impl<K: Eq + Hash, V, L: Limiter<K, V>, S: KeyHasher<K>> LruMap<K, V, L, S> {
     ghost use Rattle.schnellru.specs.Lending.Values.{lends_value, lends_newest, lends_newest_value, ends_as};
 
-    /// Lends the value of a key for writing, and makes its entry the newest. The limiter is not notified of writes.
+    /// Lends the value of a key for writing, and makes its entry the newest.
     ///
     /// A `&str` looks up a `String` key: `map.get(&"a")`.
     ///

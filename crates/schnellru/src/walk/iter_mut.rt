@@ -205,7 +205,7 @@ impl<K: Eq + Hash, V, L: Limiter<K, V>, S: KeyHasher<K>> LruMap<K, V, L, S> {
         ensures map { IsMap K.eq self.new }
     {
         self.settle();
-        // Does nothing at run time. It shows the prover that a position fits a `usize`.
+        // Shows the prover that a position fits a `usize`.
         let _ = self.len();
         let (mut next, _) = self.ends();
         let mut at = 0;
