@@ -1,4 +1,4 @@
-//! Loads with texts, with large values, with costs, with walks, and with copies.
+//! Loads with texts, large values, costs, walks and copies. Each returns a sum to compare with the other maps.
 use schnellru::{ByCost, ByLength, LruMap, UnlimitedCompact};
 use std::alloc::Global;
 
@@ -17,7 +17,7 @@ fn map_of_texts(alloc: Global, length: u32, texts: &str, width: usize) -> LruMap
     map
 }
 
-/// Inserts texts of `width` bytes, and gets each text by a `&str`, `rounds` times. Returns a sum over the values.
+/// Inserts texts of `width` bytes, and gets each text by a `&str`, `rounds` times.
 #[unsafe(no_mangle)]
 pub extern "C" fn rattle_texts(
     alloc: Global,
@@ -45,7 +45,6 @@ pub extern "C" fn rattle_texts(
 }
 
 /// Cuts `bytes` into values of 100 bytes, inserts them into a map of at most `length` entries, and looks up each key.
-/// Returns a sum over the last bytes of the found values.
 #[unsafe(no_mangle)]
 pub extern "C" fn rattle_large_values(
     alloc: Global,
@@ -74,8 +73,7 @@ pub extern "C" fn rattle_large_values(
     sum
 }
 
-/// Inserts a value of 1 to 64 under each key, with a limit on the sum of the values. Returns the cost of the entries
-/// that are left, plus 31 times their number.
+/// Inserts a value of 1 to 64 under each key, with a limit on the sum of the values.
 #[unsafe(no_mangle)]
 pub extern "C" fn rattle_costs(alloc: Global, limit: u64, keys: &[u64]) -> u64 {
     let mut map: LruMap<u64, u64, ByCost> = LruMap::new(
@@ -100,8 +98,7 @@ fn filled(alloc: Global, count: u64) -> LruMap<u64, u64, UnlimitedCompact> {
     map
 }
 
-/// Fills a map with the keys below `count`, and walks over it `rounds` times, newest first. Returns a sum over the
-/// values.
+/// Fills a map with the keys below `count`, and walks over it `rounds` times, newest first.
 #[unsafe(no_mangle)]
 pub extern "C" fn rattle_walks(alloc: Global, count: u64, rounds: u64) -> u64 {
     let map = filled(alloc, count);
@@ -114,7 +111,7 @@ pub extern "C" fn rattle_walks(alloc: Global, count: u64, rounds: u64) -> u64 {
     sum
 }
 
-/// Fills a map with the keys below `count`, and copies it `rounds` times. Returns a sum over the lengths.
+/// Fills a map with the keys below `count`, and copies it `rounds` times.
 #[unsafe(no_mangle)]
 pub extern "C" fn rattle_copies(alloc: Global, count: u64, rounds: u64) -> u64 {
     let map = filled(alloc, count);

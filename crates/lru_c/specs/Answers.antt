@@ -57,8 +57,7 @@ put_code (Ok false) = 1
 put_code (Err error) = 2
 
 -- An insert that may write a pair to an entry of the caller. The entry is `place` before the insert, and `left` after
--- the insert. If pairs of other keys are evicted, `left` is the first of these pairs. If no pair of another key is
--- evicted, `left` is `place`.
+-- the insert. `left` is the first evicted pair of another key, or `place` if there is none.
 pub record Inserts (key value : ℕ) (old : Map) (answer : Inserted) (place left : Entry) (new : Map) : Type 0 where
   pub result : Result Bool AllocError
   pub passed : List (ℕ × ℕ)
@@ -76,8 +75,8 @@ GetsOrInserts key value old answer place left new = MatchOption (lookup (nat_eq 
     (Inserts key value old answer place left new)
     (λ there. (answer ≡ inserted_of 0 (Some there) false) × (left ≡ place) × (new ≡ promoted (nat_eq key) old))
 
--- If the handle has a map, the map changes as `step` says. If the handle has no map, the handle has no map after the
--- call either, and `returns_nothing` is true.
+-- If the handle has a map, the map changes as `step` says. Otherwise the handle has no map after the call either,
+-- and `returns_nothing` is true.
 abbrev pub OnMap : {M : Type 0} → Type 0 → (M → M → Type 0) → Option M → Option M → Type 0
 OnMap returns_nothing step None None = returns_nothing
 OnMap returns_nothing step None (Some after) = ⊥

@@ -83,8 +83,7 @@ abbrev pub answer_of : Option Bytes → Value
 answer_of None = record { len = 0; found = false }
 answer_of (Some value) = record { len = length value.items; found = true }
 
--- A look-up that finds a value returns the length of the value. If the value fits into the buffer, the value is copied
--- there.
+-- A look-up that finds a value returns its length. If the value fits into the buffer, it is copied there.
 abbrev pub Reads : Option Bytes → Value → List ℕ → List ℕ → Type 0
 Reads value answer buffer left = (answer ≡ answer_of value) × (left ≡ poured_from value buffer)
 
@@ -104,8 +103,8 @@ lengths_of pair removed =
 abbrev pub fits : Bytes × Bytes → List ℕ → List ℕ → Bool
 fits pair key value = nat_le (length pair.0.items) (length key) && nat_le (length pair.1.items) (length value)
 
--- A look-up that finds an entry returns the lengths of the key and the value. If the key and the value fit into the two
--- buffers, the key and the value are copied.
+-- A look-up that finds an entry returns the lengths of the key and the value. If both fit into the two buffers, they
+-- are copied.
 abbrev pub Shows : Option (Bytes × Bytes) → Popped → List ℕ → List ℕ → List ℕ → List ℕ → Type 0
 Shows None answer key key_left value value_left = (answer ≡ no_entry) × (key_left ≡ key) × (value_left ≡ value)
 Shows (Some pair) answer key key_left value value_left = (answer ≡ lengths_of pair false)
@@ -121,8 +120,8 @@ pub record Copies (old copy : BytesMap) : Type 0 where
   pub entries : texts copy.pairs ≡ texts old.pairs
   pub rest : copy ≡ record old { pairs = copy.pairs }
 
--- If the oldest entry fits into the two buffers, the entry is copied into the buffers and removed. If the oldest entry
--- does not fit, only the lengths of the key and the value are returned.
+-- If the oldest entry fits into the two buffers, it is copied into them and removed. Otherwise only the lengths of its
+-- key and value are returned.
 pub data Pops (old : BytesMap) (answer : Popped) (key key_left value value_left : List ℕ)
     (new : BytesMap) : Type 0 where
   none : last old.pairs ≡ None → answer ≡ no_entry → key_left ≡ key → value_left ≡ value → new ≡ old →
@@ -137,8 +136,8 @@ pub data Pops (old : BytesMap) (answer : Popped) (key key_left value value_left 
 abbrev pub others_weight : List ℕ → BytesMap → ℕ
 others_weight key map = total_weight (without (names_bytes key) map.pairs)
 
--- Whether a put must evict: the new entry alone is within the budget, but the new entry and the entries of other keys
--- together are over the budget.
+-- Whether a put must evict: the new entry alone is within the budget, but with the entries of other keys it is over the
+-- budget.
 abbrev pub must_evict : List ℕ → ℕ → BytesMap → Bool
 must_evict key value_len map = let added = weight (length key) value_len in
     nat_le added map.limiter.limit && nat_lt map.limiter.limit (others_weight key map + added)

@@ -47,7 +47,7 @@ maybe_row = option.the_row map_row
 abbrev pub c_heap : Global
 c_heap = record { memory = record { seal = tt } }
 
--- if there is no value, `start` is null; if there is a value, `start` owns the boxed value
+-- `start` owns the boxed value, or is null if there is no value
 abbrev pub owns_boxed : (row : RattleType) → Ptr → Option row.Denot → Fml
 owns_boxed row start None = feq Ptr start null_ptr
 owns_boxed row start (Some value) = box_owns (heap.ghosts.dealloc_token c_heap) row start value

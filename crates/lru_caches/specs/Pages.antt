@@ -1,6 +1,5 @@
 -- A page cache: which blocks the cache shows, which pages are dirty, and what a crash may leave.
---     `d`: the ghost members of the device, such as which blocks the device has, and what a crash may leave of these
---         blocks.
+--     `d`: the ghost members of the device, such as `may_leave`.
 use Rattle.std.specs.Prelude.{◌≡◌, ◌≢◌, ◌⊎◌, ◌+◌, ◌-◌, ◌^◌, ◌<◌, ℕ, zero, suc, min, Bool, true, false, not, ◌&&◌, ◌||◌}
 use Rattle.std.specs.Prelude.{if◌then◌else◌, List, [], ◌∷◌, ◌++◌, map, length, reverse, filter, nat_eq, nat_lt, Option}
 use Rattle.std.specs.Prelude.{Some, None, option_map, is_some, IsTrue, IsPermutation, Result, Ok, Err, IfErr, OnOk}
@@ -178,8 +177,7 @@ module _ {B D E S : Type 0} (d : device.Ghosts D B E S) where
   AreWritten (n ∷ numbers) pages old new = (page : Page B) × (between : D) × (lookup (nat_eq n) pages ≡ Some page)
       × d.write_gives old n (d.seen page.block) between × AreWritten numbers pages between new
 
-  -- A flush wrote each dirty page once, in the order of the page numbers. After these writes, the flush synced the
-  -- device.
+  -- A flush wrote each dirty page once, in the order of the page numbers, and then synced the device.
   pub record IsFlush (pages : List (ℕ × Page B)) (old new : D) : Type 0 where
     pub numbers : List ℕ
     pub all_dirty : IsPermutation (dirty_numbers pages) numbers
@@ -234,7 +232,6 @@ module _ {B D E S : Type 0} (d : device.Ghosts D B E S) where
     pub mode : new.keeps_dirty ≡ old.keeps_dirty
     pub counted : OnOk result (new.counts ≡ counted n old)
 
-  -- What a successful read of page n does.
   pub record ReadsPage (n : ℕ) (old new : Cached B D) : Type 0 where
     pub block : B
     pub shows : d.IsHonest new.device → shown new n ≡ Some (d.seen block)
@@ -242,7 +239,6 @@ module _ {B D E S : Type 0} (d : device.Ghosts D B E S) where
     pub usable : d.is_usable old.device ≡ false → IsCached n old
     pub uses : UsesPage {A = Unit {0}} n old (Ok tt) new
 
-  -- What a failed read of page n does.
   pub record ReadFails (n : ℕ) (old : Cached B D) (e : PageError E) (new : Cached B D) : Type 0 where
     pub absent : IsCached n old → ⊥
     pub broken : d.is_usable old.device ≡ false → e ≡ Broken

@@ -14,7 +14,7 @@ use std::marker::Model;
 
 /// The counts of a cache. Each count stops at `u64::MAX`.
 ///
-/// A call counts only if its documentation says so. Evictions by other calls, such as `set_budget`, are not counted.
+/// A call counts only if its documentation says so.
 ///
 /// ```
 /// let mut counts = Counts::default();
@@ -176,7 +176,7 @@ impl<K: Eq + Hash, V, L: Limiter<K, V>, S: KeyHasher<K>> CountedMap<K, V, L, S> 
     }
 
     /// Makes the entry of a key the newest, and counts a hit. If the key is not there, counts a miss. Returns whether
-    /// the key is there. If the key is there, `map().peek_newest()` returns its entry.
+    /// the key is there. If so, `map().peek_newest()` returns its entry.
     ///
     /// ```
     /// assert!(rt; counted.promote(&1) && !counted.promote(&9));

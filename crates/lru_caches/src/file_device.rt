@@ -118,9 +118,7 @@ impl<F: Read + Write + Seek, const N: usize> FileDevice<F, N> {
         &self.file.file
     }
 
-    /// Returns the file.
-    ///
-    /// Call `sync` first. If the device was in a page cache, `close` has called `sync`.
+    /// Returns the file. Call `sync` first.
     ///
     /// ```
     /// let bytes = device.into_file().into_inner();

@@ -214,8 +214,7 @@ impl<K: Eq + Hash + Drop, V: Drop, F: Fn(&K) -> V, L: Insertion<K, V, K>, S: Key
         result
     }
 
-    /// Returns the stored result of a key, and makes it the newest. Does not call the function. A caller with a `&str`
-    /// can try `get`, and make a `String` for `answer` only if nothing is stored.
+    /// Returns the stored result of a key, and makes it the newest. Does not call the function.
     ///
     /// ```
     /// let mut lengths = Memo::new(alloc, ByLength::new(9), |text: &String| text.as_bytes().len());

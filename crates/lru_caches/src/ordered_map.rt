@@ -26,7 +26,7 @@ mod more;
 
 /// A hash map whose entries are in the order of insertion, oldest first.
 ///
-/// The map evicts nothing. If memory runs out, an insert fails and changes nothing.
+/// The map evicts nothing.
 ///
 /// Each call follows the call of indexmap's `IndexMap` with the same name, unless its comment names another. In the
 /// examples, `map` contains (1, 11) and then (2, 20).

@@ -63,8 +63,8 @@ module _ {K V S H : Type 0} (rules : Rules K V S) (offers : Offers K V S K) (eq 
   CallStep = StepIfMemory (ReplyStep rules offers eq hash_of)
 
   module _ (cost : K → V → ℕ) (account : S → ℕ) where
-    -- If the call keeps the cost (`KeepsCost`), the call does what `CallStep` says. If the call does not keep the cost,
-    -- the reply is `cost_differs`, and nothing changes.
+    -- If the call keeps the cost (`KeepsCost`), the call does what `CallStep` says. Otherwise the reply is
+    -- `cost_differs`, and nothing changes.
     abbrev pub SummingStep : State K V S H → Call K V S → Reply K V → State K V S H → Type 0
     SummingStep old call reply new = (KeepsCost eq cost account (contents old) call × CallStep old call reply new)
         ⊎ ((KeepsCost eq cost account (contents old) call → ⊥) × (reply ≡ cost_differs) × (new ≡ old))

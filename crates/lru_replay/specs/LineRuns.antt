@@ -31,7 +31,7 @@ module _ {S : Type 0} (rules : Rules ℕ ℕ S) (offers : Offers ℕ ℕ S ℕ) 
   TextStep old call text new = (reply : Reply ℕ ℕ) × AnswersCall rules offers old call reply new
       × (text ≡ reply_text (reported old.limiter) reply)
 
-  -- If the line spells a call, the text is the answer to this call. If the line spells no call, the text is `bad`.
+  -- If the line spells a call, the text is the answer to this call. Otherwise the text is `bad`.
   abbrev pub LineStep : Map S → List ℕ → List ℕ → Map S → Type 0
   LineStep old line text new = ((call : Call ℕ ℕ S) × SpellsCall line call × TextStep old call text new)
       ⊎ (((call : Call ℕ ℕ S) → SpellsCall line call → ⊥) × (text ≡ bad_text) × (new ≡ old))

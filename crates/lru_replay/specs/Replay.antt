@@ -51,9 +51,8 @@ abbrev pub SoFar : (List (List ℕ) → List ℕ → Type 0) → List (List ℕ)
 SoFar IsText [] text = text ≡ []
 SoFar IsText (first ∷ others) text = IsText (first ∷ others) text
 
--- How a replay ended. `from` lists the bytes that were left to read before, and `to` lists the bytes that are left to
--- read now. `old` lists the bytes that were written before, and `new` lists all bytes that are written now. Each list
--- may be unknown (`None`).
+-- How a replay ended. `from` and `to` list the unread bytes before and after. `old` and `new` list the written bytes
+-- before and after. Each list may be unknown (`None`).
 module _ (from to old new : Option (List ℕ)) where
   pub record Finished : Type 0 where
     pub named : IfSome from (λ input. NamesNoLimit (lines_of input) → ⊥)
@@ -70,8 +69,7 @@ module _ (from to old new : Option (List ℕ)) where
   abbrev pub ReadFailed : Type 0
   ReadFailed = OfRead (SoFar IsReplay) from to (Appends old new)
 
-  -- The written text is a prefix of the output for all lines, and also a prefix of the output for the lines that were
-  -- read.
+  -- The written text is a prefix of the output for all lines, and of the output for the lines that were read.
   pub record WriteFailed : Type 0 where
     pub cut : OfAll IsOutput from (Begins old new)
     pub reads : BeginsText IsOutput (SoFar IsOutput) from to old new

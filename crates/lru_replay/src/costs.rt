@@ -1,5 +1,4 @@
-//! The theorems of `references`, for maps that limit the cost of their entries, as `ByCost` and `ByWeight` do. The
-//! `weight` of an entry may be any function.
+//! The theorems of `references`, for maps that limit the cost of their entries, as `ByCost` and `ByWeight` do.
 ghost use Rattle.std.specs.Prelude.{◌≡◌, ℕ, ◌-◌, ◌*◌, ◌^◌, ◌≤◌, ◌<◌, Bool, List, length, take, true};
 ghost use Rattle.std.specs.Prelude.{Some, Ok, Result, IsOk};
 ghost use Rattle.std.specs.declared.alloc.AllocError.{AllocError};
@@ -111,9 +110,9 @@ pub fn references_keep_the_newest<K: Eq + Hash + Drop, V: Drop, S: KeyHasher<K>>
         new.counts.placed ≡ count_up old.counts.placed missed }
 {}
 
-/// More capacity never means more misses. Suppose that the references of one trace are made on two maps, by any calls.
-/// If the keys of the map with the smaller limit were the newest keys of the other map, they still are after the trace
-/// (`front`), and the map with the smaller limit missed at least as often (`misses`).
+/// Suppose that the references of one trace are made on two maps, by any calls. If the keys of the map with the smaller
+/// limit were the newest keys of the other map, they still are after the trace (`front`), and the map with the smaller
+/// limit missed at least as often (`misses`).
 pub fn more_capacity_never_misses_more<K: Eq + Hash + Drop, V: Drop, S: KeyHasher<K>>()
     ensures front { (weight : K → V → ℕ) (cost : K → ℕ) (trace : List K) (missed other_missed : ℕ)
         (old small other large : State K V Budget S) →

@@ -150,10 +150,9 @@ pub fn references_keep_the_newest<K: Eq + Hash + Drop, V: Drop, S: KeyHasher<K>>
         new.counts.placed ≡ count_up old.counts.placed missed }
 {}
 
-/// More capacity never means more misses. Suppose that the references of one trace are made on two maps, by any calls.
-/// If the keys of the smaller map were the newest keys of the larger map, they still are its newest keys after the
-/// trace (`front`). If the keys of the smaller map were included in the keys of the larger map (`IsIncluded`), the
-/// smaller map misses at least as often (`misses`).
+/// Suppose that the references of one trace are made on two maps, by any calls. If the keys of the smaller map were the
+/// newest keys of the larger map, they still are its newest keys after the trace (`front`). If the keys of the smaller
+/// map were included in the keys of the larger map (`IsIncluded`), the smaller map misses at least as often (`misses`).
 pub fn more_capacity_never_misses_more<K: Eq + Hash + Drop, V: Drop, S: KeyHasher<K>>()
     ensures front { (trace : List K) (missed other_missed : ℕ) (old small other large : State K V ByLength S) →
         Referenced (of_length K.eq) old trace missed small → Referenced (of_length K.eq) other trace other_missed large →
@@ -180,12 +179,12 @@ pub fn a_smaller_map_is_included<K: Eq + Hash + Drop, V: Drop, S: KeyHasher<K>>(
         is_in K.eq key (keys_of small.pairs) ≡ true → is_in K.eq key (keys_of large.pairs) ≡ true }
 {}
 
-/// LRU is competitive, whichever calls make the references. Take a map with `ByLength(k)` and any keys, and any policy
-/// of h ≤ k places. The policy may know the trace in advance. It begins with the keys `first`, and loads (or bypasses)
-/// keys `paid` times for the same references. If the policy stores each referenced key, the map misses at most
-/// `k / (k + 1 - h) * paid + length first` times. The bound holds for a policy that may load keys ahead (`loads`), and
-/// for a policy that loads on demand and begins with at most h keys (`demands`). If the policy need not store the key,
-/// and h < k, the map misses at most `k / (k - h) * paid + length first` times (`bypasses`).
+/// Take a map with `ByLength(k)` and any keys, and any policy of h ≤ k places. The policy may know the trace in
+/// advance. It begins with the keys `first`, and loads (or bypasses) keys `paid` times for the same references. If the
+/// policy stores each referenced key, the map misses at most `k / (k + 1 - h) * paid + length first` times. The bound
+/// holds for a policy that may load keys ahead (`loads`), and for a policy that loads on demand and begins with at most
+/// h keys (`demands`). If the policy need not store the key, and h < k, the map misses at most
+/// `k / (k - h) * paid + length first` times (`bypasses`).
 pub fn maps_are_competitive<K: Eq + Hash + Drop, V: Drop, S: KeyHasher<K>>()
     ensures loads { (trace : List K) (missed : ℕ) (old new : State K V ByLength S) (h paid : ℕ) (first left : List K) →
         IsDistinct K.eq (keys_of old.pairs) → length old.pairs ≤ old.limiter →

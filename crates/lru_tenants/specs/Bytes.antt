@@ -32,16 +32,14 @@ module _ {N K V S : Type 0} where
   abbrev pub tenant : (N → Bool) → ByteCache N K V S → Option (State K V Bytes S)
   tenant named cache = lookup named cache.tenants
 
-  -- the bytes that a tenant's name owns, plus the bytes of the tenant's table, plus the bytes that the tenant's entries
-  -- own
+  -- the bytes of a tenant's table, plus the bytes that the tenant's name and entries own
   abbrev pub taken : (N → ℕ) → (K → V → ℕ) → N × State K V Bytes S → ℕ
   taken of_name of_pair t = of_name t.0 + table_bytes t.1 + sum_by (λ pair. of_pair pair.0 pair.1) t.1.pairs
 
   abbrev pub IsWithin : (N → ℕ) → (K → V → ℕ) → ByteCache N K V S → Type 0
   IsWithin of_name of_pair cache = cache.table + sum_by (taken of_name of_pair) cache.tenants ≤ cache.limit
 
-  -- the bytes of the table of tenants, plus, for each tenant, the tenant's limit and the bytes that the tenant's name
-  -- owns
+  -- the bytes of the table of tenants, plus, for each tenant, its limit and the bytes that its name owns
   abbrev pub reserved : (N → ℕ) → ByteCache N K V S → ℕ
   reserved of_name cache = cache.table + sum_by (λ t. both_own of_name limit_of t.0 t.1) cache.tenants
 

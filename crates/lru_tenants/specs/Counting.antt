@@ -82,7 +82,6 @@ is_kept (Ok kept) = kept
 is_kept (Err e) = false
 
 -- The counts after a get that inserts an absent key: a hit, or a miss and an insert. The insert evicted n entries.
--- `found` says whether the key was there.
 abbrev pub got_or_put : {E : Type 0} → (found : Bool) → Result Bool E → ℕ → Counts → Counts
 got_or_put true answer n counts = looked_up true counts
 got_or_put false answer n counts = looked_up false (inserted answer n counts)

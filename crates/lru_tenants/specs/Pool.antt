@@ -2,7 +2,7 @@
 --     `names name`: whether the call names the tenant of this name.
 --     `rules`, `offers`: the limiter's `Rules` and `Offers` (`lru_limits`).
 --     `own.0`, `own.1`: the share and the map of a tenant.
---     `account s`: the running total of the limiter s, which is the total cost of the entries.
+--     `account s`: the running total of the limiter s.
 use Rattle.std.specs.Prelude.{◌≡◌, ℕ, ◌≤◌, ◌<◌, ◌+◌, ◌-◌, Bool, false, List, [], ◌∷◌, length, Option, Some, None}
 use Rattle.std.specs.Prelude.{option_map, is_some, sum_by, nat_lt, Result, Ok, Err, OnErr}
 use Rattle.std.specs.declared.alloc.AllocError.{AllocError}
@@ -34,8 +34,8 @@ module _ {K V L S : Type 0} (account : L → ℕ) where
   abbrev pub excess : Part K V L S → ℕ
   excess own = cost own - own.0
 
-  -- What a call may do to a tenant that the call does not name. If the tenant's entries cost more than the tenant's
-  -- share, the call may evict the oldest of these entries.
+  -- What a call may do to a tenant that the call does not name. If the tenant's entries cost more than its share, the
+  -- call may evict the oldest.
   pub record Spares (own left : Part K V L S) : Type 0 where
     pub share : left.0 ≡ own.0
     pub front : IsFront left.1.pairs own.1.pairs
@@ -60,8 +60,8 @@ abbrev pub with_map : {K V L S : Type 0} → State K V L S → Part K V L S → 
 with_map map own = (own.0, map)
 
 module _ {N K V L S : Type 0} (rules : Rules K V L) (account : L → ℕ) (eq : N → N → Bool) where
-  -- The tenant that is furthest above its share loses its oldest entry. If several tenants are equally far above their
-  -- shares, one of them loses an entry.
+  -- The tenant that is furthest above its share loses its oldest entry. If several tenants are equally far above, one
+  -- of them does.
   pub record Evicts (old new : List (N × Part K V L S)) : Type 0 where
     pub name : N
     pub own : Part K V L S

@@ -40,7 +40,7 @@ Opens over fresh (Some map) answer new = (answer ≡ Err AlreadyOpen) × (new �
 Opens true fresh None answer new = (answer ≡ Err OverTotal) × (new ≡ None)
 Opens false fresh None answer new = ((answer ≡ Ok tt) × (new ≡ Some fresh)) ⊎ ((answer ≡ Err Memory) × (new ≡ None))
 
--- If the tenant is open, the call does what `does` says. If the tenant is not open, the call returns `NotOpen`.
+-- If the tenant is open, the call does what `does` says. Otherwise the call returns `NotOpen`.
 abbrev pub OfOpen : {X R : Type 0} → (X → Result R TenantError → Option X → Type 0) → Option X
     → Result R TenantError → Option X → Type 0
 OfOpen does None answer new = (answer ≡ Err NotOpen) × (new ≡ None)

@@ -16,9 +16,8 @@ module _ {K : Type 0} (eq : K → K → Bool) where
   put trace key (other ∷ keys) = if nat_le (until key trace) (until other trace) then key ∷ (other ∷ keys)
       else other ∷ put trace key keys
 
-  -- The keys of MIN with n places after a reference to the key, in the order of their next references. If n is 0, there
-  -- are no keys. If n is above 0, MIN stores the key. If MIN now has more than n keys, MIN evicts one of the old keys:
-  -- the key whose next reference comes last.
+  -- The keys of MIN with n places after a reference to the key, in the order of their next references. Unless n is 0,
+  -- MIN stores the key. If MIN now has more than n keys, it evicts the old key whose next reference comes last.
   abbrev pub min_refer : ℕ → K → List K → List K → List K
   min_refer zero key trace keys = []
   min_refer (suc n) key trace keys = put trace key (take n (remove_key (eq key) keys))

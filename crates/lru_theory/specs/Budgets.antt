@@ -14,7 +14,7 @@ module _ {K : Type 0} (cost : K → ℕ) where
 
 module _ {K : Type 0} (eq : K → K → Bool) (cost : K → ℕ) where
   -- The keys of an LRU cache with the limit n after a reference, newest first. The key becomes the newest, and the
-  -- oldest keys are evicted while the keys cost more than n. If the key alone costs more than n, no key is left.
+  -- oldest keys are evicted while the keys cost more than n.
   abbrev pub refer_within : ℕ → K → List K → List K
   refer_within n key keys = affordable cost n (key ∷ remove_key (eq key) keys)
 
@@ -33,8 +33,8 @@ module _ {K : Type 0} (eq : K → K → Bool) (cost : K → ℕ) where
   abbrev pub needs : K → List K → ℕ
   needs key past = cost key + sum_by cost (recency eq (since eq key past))
 
-  -- Whether a reference to the key misses in a cache with the limit n. The reference misses if it is the first
-  -- reference to the key, or if the key needs more than n (`needs`).
+  -- Whether a reference to the key misses in a cache with the limit n: it is the first reference to the key, or the key
+  -- needs more than n (`needs`).
   abbrev pub is_far_within : ℕ → K → List K → Bool
   is_far_within n key past = not (is_in eq key past) || nat_lt n (needs key past)
 

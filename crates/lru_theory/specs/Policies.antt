@@ -11,9 +11,8 @@ module _ {K : Type 0} (eq : K → K → Bool) where
   outside others (key ∷ keys) = fault eq key others + outside others keys
 
 module _ {K : Type 0} (eq : K → K → Bool) (places : ℕ) where
-  -- How a demand policy may change its cache at a reference. The number of type ℕ is 1 at a miss, and 0 at a hit. If
-  -- the key is in the cache, the policy changes nothing. At a miss, the policy stores the key, and evicts any one key
-  -- or no key.
+  -- How a demand policy may change its cache at a reference. The number of type ℕ is 1 at a miss, and 0 at a hit. At a
+  -- hit, the policy changes nothing. At a miss, the policy stores the key, and evicts any one key or no key.
   pub data Demands (key : K) (old : List K) : ℕ → List K → Type 0 where
     finds : is_in eq key old ≡ true → Demands key old 0 old
     stores : is_in eq key old ≡ false → length old + 1 ≤ places → Demands key old 1 (key ∷ old)

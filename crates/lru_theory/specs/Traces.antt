@@ -1,6 +1,6 @@
 -- Definitions for traces. A trace is the list of the keys that were referenced, in order of time.
 --     `eq`: when two keys are equal.
---     `past`: the keys of earlier references, newest first; a key may occur more than once.
+--     `past`: the keys of earlier references, newest first.
 use Rattle.std.specs.Prelude.{◌≡◌, ℕ, ◌+◌, Bool, true, not, ◌||◌, nat_le, if◌then◌else◌, List, [], ◌∷◌, length, take}
 use Rattle.std.specs.Cmp.Lexicographic.{pointwise}
 use Rattle.std.specs.List.{list_any}
@@ -34,8 +34,8 @@ module _ {K : Type 0} (eq : K → K → Bool) where
   abbrev pub distance : K → List K → ℕ
   distance key past = length (recency (since key past))
 
-  -- Whether a reference to the key misses in a cache of n places. The reference misses if it is the first reference to
-  -- the key, or if the key's reuse distance is at least n.
+  -- Whether a reference to the key misses in a cache of n places: it is the first reference to the key, or the key's
+  -- reuse distance is at least n.
   abbrev pub is_far : ℕ → K → List K → Bool
   is_far n key past = not (is_in key past) || nat_le n (distance key past)
 

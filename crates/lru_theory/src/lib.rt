@@ -28,8 +28,8 @@ pub fn more_places_never_miss_more<K: Eq>()
     ensures { (n m : ℕ) (past trace : List K) → n ≤ m → misses K.eq m past trace ≤ misses K.eq n past trace }
 {}
 
-/// LRU is competitive, whatever the caches contain at first. Take an LRU cache of k ≥ h places, and any policy with h
-/// places, which may know the whole trace. The policy begins with the keys `first`, and pays `paid` times.
+/// Take an LRU cache of k ≥ h places with any keys, and any policy with h places, which may know the whole trace. The
+/// policy begins with the keys `first`, and pays `paid` times.
 ///
 /// - If the policy stores each referenced key, and may load keys ahead, LRU misses at most
 ///   `k / (k + 1 - h) * paid + length first` times (`loads`).
@@ -50,8 +50,8 @@ pub fn lru_is_competitive<K: Eq>()
         (k - h) * misses K.eq k past trace ≤ k * paid + (k - h) * length first }
 {}
 
-/// Loading keys ahead gains nothing. Take a policy with h places that may load keys ahead, begins with at most h keys,
-/// and pays `paid` times. Some demand policy with h places and the same first keys misses at most `paid` times.
+/// Take a policy with h places that may load keys ahead, begins with at most h keys, and pays `paid` times. Some demand
+/// policy with h places and the same first keys misses at most `paid` times.
 pub fn loading_ahead_gains_nothing<K: Eq>()
     ensures { (h : ℕ) (trace first left : List K) (paid : ℕ) → length first ≤ h →
         Served (Loads K.eq h) left first trace paid →
@@ -85,8 +85,8 @@ pub fn deletes_leave_places<K: Eq>()
         call_faults K.eq n (map refers trace) keys ≡ faults K.eq n keys trace }
 {}
 
-/// A larger budget never means more misses. If the cache with the smaller budget contains the newest keys of the other
-/// cache, it still does after any trace (`front`), and misses at least as often (`misses`).
+/// If the cache with the smaller budget contains the newest keys of the other cache, it still does after any trace
+/// (`front`), and misses at least as often (`misses`).
 pub fn a_larger_budget_never_misses_more<K: Eq>()
     ensures front { (cost : K → ℕ) (n m some : ℕ) (keys trace : List K) → n ≤ m →
         let small = cached_within K.eq cost n (take some keys) trace in

@@ -25,7 +25,7 @@ pub record AreNumbered (names : List (String Global × ℕ)) (n : ℕ) : Type 0 
   pub small : (key : List ℕ) (number : ℕ) → number_in names key ≡ Some number → number < n
   pub apart : (a b : List ℕ) (number : ℕ) → number_in names a ≡ Some number → number_in names b ≡ Some number → a ≡ b
 
--- the curve counts the references of `trace`, which comes after the warm-up `warm`
+-- the curve counts the references of `trace`, after the warm-up `warm`
 pub record IsOf (warm trace : List (List ℕ)) (curve : Counted) : Type 0 where
   pub before : List ℕ
   pub numbers : List ℕ

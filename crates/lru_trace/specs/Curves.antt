@@ -45,7 +45,7 @@ Has curve size = IfSome (limits_of curve) (λ limits. is_in nat_eq size limits �
 abbrev pub HasAll : AnyCurve → ℕ → List ℕ → Type 0
 HasAll curve bits sizes = All (λ size. Has curve (size / 2 ^ bits)) sizes
 
--- the curve counts the references of `trace`, which comes after the warm-up `warm`
+-- the curve counts the references of `trace`, after the warm-up `warm`
 abbrev pub IsCurveOf : List (List ℕ × ℕ) → List (List ℕ × ℕ) → AnyCurve → Type 0
 IsCurveOf warm trace (curves.Places curve) = IsOf (keys_of warm) (keys_of trace) curve
 IsCurveOf warm trace (curves.Deletes curve) = IsDeleteOf (calls_of warm) (calls_of trace) curve

@@ -53,7 +53,7 @@ AreNumbers number (place ∷ places) [] = ⊥
 AreNumbers number (place ∷ places) (id ∷ ids) =
     (option_map number place ≡ option_map Some id) × AreNumbers number places ids
 
--- the curve counts the references of `trace`, which comes after the warm-up `warm`
+-- the curve counts the references of `trace`, after the warm-up `warm`
 pub record IsDeleteOf (warm trace : List (KeyCall (List ℕ))) (curve : Deleting) : Type 0 where
   pub placed : AreNumbers (number_in curve.names) (places_of warm trace) curve.places
   pub caches : (n : ℕ) → keys_in (take n (places_of warm trace)) ≡ cache_of n warm trace

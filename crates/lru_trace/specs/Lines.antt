@@ -29,8 +29,7 @@ EndsSo endings.Feed bytes line = bytes ≡ fed line
 EndsSo endings.InputEnd bytes line = (line ≡ bytes) × (0 < length line) × ((front : List ℕ) → bytes ≡ fed front → ⊥)
 EndsSo endings.Nothing bytes line = (line ≡ bytes) × (line ≡ [])
 
--- `from` lists the bytes that were left to read before, and `to` lists the bytes that are left to read now. Each list
--- may be unknown (`None`).
+-- `from` and `to` list the unread bytes before and after. Each list may be unknown (`None`).
 module _ (from to : Option (List ℕ)) where
   -- These bytes, without a line feed, were read. The reader has no bytes left.
   abbrev pub TakesRest : List ℕ → Type 0

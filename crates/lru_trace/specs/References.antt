@@ -95,11 +95,12 @@ module _ (options : Options) where
     abbrev pub warm_in : List (List ℕ × ℕ)
     warm_in = sampled (bits_of options) (take warm_up_in references_in)
 
-    -- the counted references: all references that come after the warm-up
+    -- the counted references: the references of the sample after the warm-up
     abbrev pub counted_in : List (List ℕ × ℕ)
     counted_in = sampled (bits_of options) (drop warm_up_in references_in)
 
-    -- how many lines were malformed, how many counted references the sample skipped, and how many lines were deletes
+    -- how many lines were malformed, how many references after the warm-up the sample skipped, and how many lines were
+    -- deletes
     abbrev pub others_in : Others
     others_in = record {
       malformed = malformed_in;

@@ -6,7 +6,7 @@ use Rattle.std.specs.Str.{bytes_eq}
 use Rattle.lru_theory.specs.Best.{until}
 
 -- For each reference of a trace that begins at time i, the list contains the time of the next reference to the same
--- key. If the key is not referenced again, the list contains the time at which the trace ends.
+-- key. If there is none, the list contains the time at which the trace ends.
 abbrev pub next_times : {K : Type 0} (eq : K → K → Bool) → ℕ → List K → List ℕ
 next_times eq i [] = []
 next_times eq i (key ∷ trace) = (suc i + until eq key trace) ∷ next_times eq (suc i) trace

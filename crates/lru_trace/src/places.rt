@@ -1,4 +1,3 @@
-//! One list of places for LRU caches of every size.
 ghost use Rattle.std.specs.Prelude.{◌≡◌, ◌<◌, ◌≤◌, ◌+◌, ℕ, List, [], ◌∷◌, IfOk, OnOk, OnErr, IfSome, MatchOption, true, false, Some, None};
 ghost use Rattle.std.specs.Prelude.{length, is_some, nat_eq};
 ghost use Rattle.lru_theory.specs.Places.{keys_in, place_of};
@@ -12,7 +11,8 @@ use std::marker::Model;
 
 /// The places of `deletes_leave_places`, newest first. A place contains a key, which is a number, or is free.
 ///
-/// Each place has a number, and the time of the reference that moved it to the front. A key has the number of its place.
+/// Each place has a number, and the time of the reference that moved it to the front. A key has the number of its
+/// place.
 #[derive(Drop)]
 pub struct Places {
     distances: Distances,

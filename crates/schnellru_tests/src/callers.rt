@@ -1,5 +1,4 @@
-//! Functions that call a map: the code of docs/CALLING.md. Their contracts follow from the contracts of the map's
-//! calls.
+//! Functions that call a map: the code of docs/CALLING.md.
 ghost use Rattle.std.specs.Prelude.{◌≡◌, ◌≤◌, ◌<◌, ◌⊎◌, ℕ, ◌+◌, ◌*◌, ◌/◌, ◌∷◌, ◌++◌, List, length, reverse, take, nat_eq};
 ghost use Rattle.std.specs.Prelude.{Some, None, Ok, IfOk, OnOk, OnErr, true, is_some, sum_by, string_len};
 ghost use Rattle.std.specs.Prelude.{map as mapped};

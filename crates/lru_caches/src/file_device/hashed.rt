@@ -17,8 +17,6 @@ use std::io::{Read, Seek, Write};
 /// Contracts do not see the checksum. A read returns `Ok` only if the checksum is right. So a read detects a torn or
 /// damaged block, or a block with another number, unless the hashes happen to be equal.
 ///
-/// [`FileDevice`]: crate::FileDevice
-///
 /// ```
 /// let file = Cursor::new([0u8; 48]);
 /// let mut hashed: HashedFileDevice<_, 16> = HashedFileDevice::new(file, 3);

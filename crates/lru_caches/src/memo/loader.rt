@@ -216,8 +216,7 @@ impl<
         }
     }
 
-    /// Removes the stored value of a key, and returns whether there was one. The next `load` of the key calls the
-    /// function.
+    /// Removes the stored value of a key, and returns whether there was one.
     ///
     /// ```
     /// assert!(rt; blocks.load(1) == Ok(11) && blocks.remove(&1) && !blocks.remove(&1));

@@ -9,8 +9,7 @@ use crate::page_cache::pages::Page;
 use schnellru::KeyHasher;
 
 impl<B: Copy, D: BlockDevice<B>, S: KeyHasher<u64>> PageCache<B, D, S> {
-    /// Law: if no page is pinned, and the cache does not keep dirty pages, the cache contains the pages that were used
-    /// last.
+    /// If no page is pinned, and the cache does not keep dirty pages, the cache contains the pages that were used last.
     pub fn without_pins_the_newest_stay(&self)
         ensures { self.now.keeps_dirty ≡ false → ((n : ℕ) → pinned self.now n ≡ false) → (n : ℕ) (page : Page B)
             → pages_after n page self.now

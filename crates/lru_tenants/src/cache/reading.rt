@@ -24,8 +24,6 @@ impl<N: Eq + Hash, K: Eq + Hash, V, L: Budgeted<K, V>, S: KeyHasher<K> + Copy> T
 
     /// Returns a tenant's value of a key, and makes its entry the tenant's newest.
     ///
-    /// The value is lent only for reading, so its cost does not change.
-    ///
     /// ```
     /// assert_eq!(rt; cache.get(&1, &7), Ok(Some(&2)));
     /// ```
