@@ -22,7 +22,7 @@ use Rattle.lru_model.proofs.Theorems.Sums.{total, total-is, split_named, IsSplit
 use Rattle.lru_c.specs.Bytes.{Bytes, BytesMap, IsWithinBudget, IsReady, FindsMemory, bytes_rules, bytes_offers}
 use Rattle.lru_c.specs.Bytes.{same_bytes, names_bytes, names_bytes-lawful, hash_of_bytes, weight, texts, must_evict}
 use Rattle.lru_c.specs.Bytes.{PopsFor, others_weight}
-use Rattle.lru_c.specs.Bytes.IsReady.{there, reserved}
+use Rattle.lru_c.specs.Bytes.IsReady.{enough, reserved}
 use Rattle.lru_c.specs.Bytes.Pops.{none, too_long, removed}
 use Rattle.lru_c.specs.Bytes.PopsFor.{has_room, pops}
 use Rattle.lru_c.specs.declared.bytes.answers.Popped.{Popped}
@@ -38,7 +38,7 @@ can : (limit sum c : ℕ) → sum + c ≤ limit → limit < 2 ^ 64 → can_add l
 can limit sum c few small = grind (arith, nat_tests, few, small)
 
 ready_same : {key : List ℕ} {old ready : BytesMap} → IsReady key old ready → contents ready ≡ contents old
-ready_same (there found same) = ap contents same
+ready_same (enough finds same) = ap contents same
 ready_same (reserved absent (unchanged nothing same)) = ap contents same
 ready_same (reserved absent (rehashed needs table ok moves)) = ap contents moves.state
 ready_same (reserved absent (grown needs count bytes table grants ok moves)) = ap contents moves.state

@@ -13,7 +13,7 @@ use Rattle.lru_c.specs.Bytes.{Bytes, BytesMap, IsWithinBudget, bytes_rules, byte
 use Rattle.lru_c.specs.Bytes.{names_bytes, weight, total_weight, texts, Puts, IsReady, Pops, Copies}
 use Rattle.lru_c.specs.Bytes.Puts.{too_long, too_heavy, no_memory, inserted}
 use Rattle.lru_c.specs.Bytes.Pops.{none, too_long as does_not_fit, removed}
-use Rattle.lru_c.specs.Bytes.IsReady.{there, reserved}
+use Rattle.lru_c.specs.Bytes.IsReady.{enough, reserved}
 
 abbrev pub weighs : Bytes → Bytes → ℕ
 weighs k v = weight (vec_len k) (vec_len v)
@@ -39,7 +39,7 @@ cleared_in_budget old new step = stays_in_budget {old = old} (clears step)
 
 ready_in_budget : {key : List ℕ} {old ready : BytesMap} → IsReady key old ready → IsWithinBudget old
     → IsWithinBudget ready
-ready_in_budget (there found same) within = subst IsWithinBudget (sym same) within
+ready_in_budget (enough finds same) within = subst IsWithinBudget (sym same) within
 ready_in_budget (reserved absent step) within = stays_in_budget (reserves 1 (Ok tt) step) within
 
 pub put_in_budget : {key value : List ℕ} {old new : BytesMap} {code : ℕ} → Puts key value old code new

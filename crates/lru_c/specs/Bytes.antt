@@ -157,13 +157,13 @@ pub data PopsFor (own : List ℕ) (n : ℕ) (old : BytesMap) (answer : Popped) (
 abbrev pub has_bytes : List ℕ → BytesMap → Bool
 has_bytes key map = is_some (lookup (names_bytes key) map.pairs)
 
-pub data IsReady (key : List ℕ) (old ready : BytesMap) : Type 0 where
-  there : has_bytes key old ≡ true → ready ≡ old → IsReady key old ready
-  reserved : has_bytes key old ≡ false → Reserve bytes_rules 1 old (Ok tt) ready → IsReady key old ready
-
 -- An insert of this key needs no memory for the table.
 abbrev pub FindsMemory : List ℕ → BytesMap → Type 0
-FindsMemory key ready = has_bytes key ready ≡ false → 1 ≤ growth_left ready
+FindsMemory key map = has_bytes key map ≡ false → 1 ≤ growth_left map
+
+pub data IsReady (key : List ℕ) (old ready : BytesMap) : Type 0 where
+  enough : FindsMemory key old → ready ≡ old → IsReady key old ready
+  reserved : has_bytes key old ≡ false → Reserve bytes_rules 1 old (Ok tt) ready → IsReady key old ready
 
 pub data Puts (key value : List ℕ) (old : BytesMap) (code : ℕ) (new : BytesMap) : Type 0 where
   -- The key alone has more bytes than the budget.

@@ -57,7 +57,7 @@ impl<T> Table<T> {
     ///
     /// # Errors
     ///
-    /// Out of memory. With 0 buckets the call never fails.
+    /// Out of memory.
     pub fn with_buckets(alloc: Global, buckets: usize) -> Result<Self, AllocError> {
         if buckets == 0 {
             return Ok(Table::new(alloc));

@@ -1,5 +1,5 @@
 // Erased from crates/lru_caches/src/counted.rt: do not edit.
-//! `CountedMap`. A contract sees a map and its counts.
+//! `CountedMap`. Contracts represent it by its map and its counts.
 
 #[allow(unused_imports)]
 use crate::rattle_std::prelude::*;
@@ -10,7 +10,7 @@ use crate::rattle_std::hash::Hash;
 
 /// The counts of a cache. Each count stops at `u64::MAX`.
 ///
-/// A call counts only if its documentation says so. Evictions by other calls, such as `set_budget`, are not counted.
+/// A call counts only if its documentation says so.
 #[derive(Clone, Copy, Debug, Default, PartialEq, Eq)]
 pub struct Counts {
     /// How many look-ups found their key.
@@ -94,7 +94,7 @@ impl<K: Eq + Hash, V, L: Limiter<K, V>, S: KeyHasher<K>> CountedMap<K, V, L, S> 
     }
 
     /// Makes the entry of a key the newest, and counts a hit. If the key is not there, counts a miss. Returns whether
-    /// the key is there. If the key is there, `map().peek_newest()` returns its entry.
+    /// the key is there. If so, `map().peek_newest()` returns its entry.
     ///
     /// Cost: as `LruMap::promote`.
     pub fn promote<Q: LookupKey<K>>(&mut self, key: &Q) -> bool {

@@ -8,7 +8,7 @@ use crate::rattle_std::prelude::*;
 /// only its own block, even if the write fails or the machine stops in the middle. After a failed `sync`, no clause
 /// says what the blocks are, and no `read`, `write` or `sync` may be called.
 ///
-/// For most devices a contract sees the block itself: `ghost seen = { λ block. block };`.
+/// For most devices, contracts see the block itself: `ghost seen = { λ block. block };`.
 pub trait BlockDevice<B> {
     /// Why a call fails.
     type Error;

@@ -82,9 +82,7 @@ where {
         &self.file.file
     }
 
-    /// Returns the file.
-    ///
-    /// Call `sync` first. If the device was in a page cache, `close` has called `sync`.
+    /// Returns the file. Call `sync` first.
     ///
     /// Cost: `O(1)`.
     pub fn into_file(self) -> F {

@@ -89,8 +89,7 @@ impl<K: Eq + Hash, V, F: Fn(&K) -> V, L: Insertion<K, V, K>, S: KeyHasher<K>> Me
         result
     }
 
-    /// Returns the stored result of a key, and makes it the newest. Does not call the function. A caller with a `&str`
-    /// can try `get`, and make a `String` for `answer` only if nothing is stored.
+    /// Returns the stored result of a key, and makes it the newest. Does not call the function.
     ///
     /// Cost: as `LruMap::get`.
     pub fn get<Q: LookupKey<K>>(&mut self, key: &Q) -> Option<V>

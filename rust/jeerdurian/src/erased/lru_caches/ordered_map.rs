@@ -1,5 +1,5 @@
 // Erased from crates/lru_caches/src/ordered_map.rt: do not edit.
-//! `OrderedMap`. A contract sees a map as the list of its entries, oldest first.
+//! `OrderedMap`. Contracts represent a map by the list of its entries, oldest first.
 
 #[allow(unused_imports)]
 use crate::rattle_std::prelude::*;
@@ -19,7 +19,7 @@ mod more;
 
 /// A hash map whose entries are in the order of insertion, oldest first.
 ///
-/// The map evicts nothing. If memory runs out, an insert fails and changes nothing.
+/// The map evicts nothing.
 ///
 /// Each call follows the call of indexmap's `IndexMap` with the same name, unless its comment names another. In the
 /// examples, `map` contains (1, 11) and then (2, 20).

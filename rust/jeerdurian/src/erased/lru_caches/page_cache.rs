@@ -49,8 +49,8 @@ where
 
 /// A write-back cache of the blocks of a device.
 ///
-/// The cache contains at most `capacity` pages. A full cache evicts the oldest page that may be evicted. A write makes
-/// the cached page dirty. The cache writes a dirty page to the device when it evicts or flushes the page.
+/// The cache contains at most `capacity` pages. A write makes the cached page dirty. The cache writes a dirty page to
+/// the device when it evicts or flushes the page.
 ///
 /// After a `flush` that returned `Ok`, a crash leaves each block as the cache showed it at the flush, unless a later
 /// call wrote the block. `docs/CACHES.md` names the premises.
@@ -149,7 +149,6 @@ impl<B: Copy, D: BlockDevice<B>, S: KeyHasher<u64>> PageCache<B, D, S> {
     /// # Errors
     ///
     /// `Broken`: an earlier `sync` failed. `Device`: a write or the `sync` failed, and the dirty pages stay dirty.
-    /// After a failed `sync`, the device is not usable.
     pub fn flush(&mut self) -> Result<(), PageError<D::Error>> {
         if !self.device.is_usable() {
             return Err(PageError::Broken);

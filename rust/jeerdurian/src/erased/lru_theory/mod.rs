@@ -14,8 +14,8 @@ pub fn a_cache_is_the_newest<K: Eq>() {}
 /// More places never mean more misses.
 pub fn more_places_never_miss_more<K: Eq>() {}
 
-/// LRU is competitive, whatever the caches contain at first. Take an LRU cache of k ≥ h places, and any policy with h
-/// places, which may know the whole trace. The policy begins with the keys `first`, and pays `paid` times.
+/// Take an LRU cache of k ≥ h places with any keys, and any policy with h places, which may know the whole trace. The
+/// policy begins with the keys `first`, and pays `paid` times.
 ///
 /// - If the policy stores each referenced key, and may load keys ahead, LRU misses at most
 ///   `k / (k + 1 - h) * paid + length first` times (`loads`).
@@ -26,8 +26,8 @@ pub fn more_places_never_miss_more<K: Eq>() {}
 ///   times (`bypasses`).
 pub fn lru_is_competitive<K: Eq>() {}
 
-/// Loading keys ahead gains nothing. Take a policy with h places that may load keys ahead, begins with at most h keys,
-/// and pays `paid` times. Some demand policy with h places and the same first keys misses at most `paid` times.
+/// Take a policy with h places that may load keys ahead, begins with at most h keys, and pays `paid` times. Some demand
+/// policy with h places and the same first keys misses at most `paid` times.
 pub fn loading_ahead_gains_nothing<K: Eq>() {}
 
 /// A cache of n places is *included* in a cache of m ≥ n places if the larger cache contains its keys, in the same
@@ -42,8 +42,8 @@ pub fn a_smaller_cache_is_included<K: Eq>() {}
 /// before it (`finds`). If all calls are references, they miss as often as in a trace (`misses`).
 pub fn deletes_leave_places<K: Eq>() {}
 
-/// A larger budget never means more misses. If the cache with the smaller budget contains the newest keys of the other
-/// cache, it still does after any trace (`front`), and misses at least as often (`misses`).
+/// If the cache with the smaller budget contains the newest keys of the other cache, it still does after any trace
+/// (`front`), and misses at least as often (`misses`).
 pub fn a_larger_budget_never_misses_more<K: Eq>() {}
 
 /// Suppose that equal keys cost the same. If a cache with the limit n contains the first keys of the recency list, up

@@ -1,6 +1,4 @@
 // Erased from crates/lru_trace/src/best.rt: do not edit.
-//! How often the best possible policies miss: policies that know the rest of the trace.
-
 #[allow(unused_imports)]
 use crate::rattle_std::prelude::*;
 

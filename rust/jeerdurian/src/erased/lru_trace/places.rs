@@ -1,6 +1,4 @@
 // Erased from crates/lru_trace/src/places.rt: do not edit.
-//! One list of places for LRU caches of every size.
-
 #[allow(unused_imports)]
 use crate::rattle_std::prelude::*;
 
@@ -10,7 +8,8 @@ use crate::rattle_std::collections::BTreeMap;
 
 /// The places of `deletes_leave_places`, newest first. A place contains a key, which is a number, or is free.
 ///
-/// Each place has a number, and the time of the reference that moved it to the front. A key has the number of its place.
+/// Each place has a number, and the time of the reference that moved it to the front. A key has the number of its
+/// place.
 
 pub struct Places {
     distances: Distances,

@@ -15,5 +15,5 @@ fn hash(key: &[u8]) -> u64 {
 }
 
 pub fn is_sampled(key: &[u8], bits: u32) -> bool {
-    hash(key) % (1 << bits) == 0
+    bits == 0 || hash(key) % (1 << bits) == 0
 }

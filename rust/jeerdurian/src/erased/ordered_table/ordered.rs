@@ -105,8 +105,7 @@ impl<K, V, N: LinkType> OrderedTable<K, V, N> {
 
     /// Returns the bucket of the first entry that `f` accepts.
     ///
-    /// `f` is called with entries whose hashes agree with `hash` in the top 7 bits. Tests, not proofs, show that `f` is
-    /// called at most once with each entry, and not again after it returned true.
+    /// `f` is called as `LruMap::get_by_hash` of `schnellru` calls its closure.
     ///
     /// Cost: `O(1)` expected.
     #[inline]

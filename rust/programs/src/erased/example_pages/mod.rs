@@ -1,7 +1,5 @@
 // Erased from crates/example_pages/src/main.rt: do not edit.
-//! A store of records on a file of pages and a log. Each line of standard input is a command: `get N`, `put N TEXT`,
-//! `commit`, `checkpoint`, `stats` or `crashes N`. The puts before a `commit` are one transaction. `crashes N` crashes
-//! a store in memory N times.
+//! A store of records on a file of pages and a log.
 
 #[allow(unused_imports)]
 use crate::rattle_std::prelude::*;
@@ -15,13 +13,26 @@ mod store;
 mod trial;
 
 use crate::rattle_std::fs::{File, OpenOptions};
-use crate::rattle_std::io;
 use crate::rattle_std::process::ExitCode;
+use crate::rattle_std::{env, io};
 use disk::Disk;
 use session::Session;
 use store::{Sizes, Store};
 
 const SIZES: Sizes = Sizes { pages: 8, log: 16, cache: 3 };
+
+const UNKNOWN: u8 = 4;
+
+const HELP: &str = "\
+example_pages < COMMANDS
+    Keeps records in a file of pages and a log, in the current folder. Both files are made anew.
+
+A command is a line: get N, put N TEXT, commit, checkpoint, stats or crashes N.
+The puts before a commit are one transaction. crashes N crashes a store in memory N times.
+
+Exit status: 0 if the files were written, 1 if a write or a read failed, 2 if a file cannot be
+opened, 4 after an unknown argument.
+";
 
 fn open(rt: &HostRuntime, name: &str) -> io::Result<File> {
     let mut options = OpenOptions::new();
@@ -39,7 +50,23 @@ fn answer_lines(rt: &HostRuntime, session: &mut Session) -> io::Result<()> {
     Ok(())
 }
 
+fn help(rt: &HostRuntime, argument: &str) -> ExitCode {
+    if argument == "--help" {
+        let _ = print!(rt; "{HELP}");
+        return ExitCode::SUCCESS;
+    }
+    let _ = eprintln!(rt; "example_pages: unknown argument {argument}; try --help");
+    ExitCode::from(UNKNOWN)
+}
+
 pub(crate) fn main(rt: HostRuntime) -> ExitCode {
+    let argument = match env::args(&rt) {
+        Ok(mut arguments) => arguments.nth(1),
+        Err(_) => return ExitCode::from(UNKNOWN),
+    };
+    if let Some(argument) = argument {
+        return help(&rt, argument.as_str());
+    }
     let (Ok(pages), Ok(log)) = (open(&rt, "pages"), open(&rt, "log")) else {
         return ExitCode::from(2);
     };

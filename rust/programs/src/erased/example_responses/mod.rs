@@ -10,9 +10,28 @@ mod line;
 mod metrics;
 
 use crate::erased::lru_tenants::TenantError;
+use crate::rattle_std::env;
 use crate::rattle_std::io::{self, Write};
+use crate::rattle_std::process::ExitCode;
 use cache::{Response, ResponseCache};
 use line::{Expiry, Line};
+
+const UNKNOWN: u8 = 4;
+
+const HELP: &str = "\
+example_responses < LINES
+    Keeps responses, a tenant with its own budget for each host, and prints an answer to each line.
+
+now TIME                                     sets the time, in seconds
+host HOST budget BYTES                       opens a host, or sets its budget
+put HOST PATH TIME|max-age=SECONDS BODY      stores a response that expires at, or after, this time
+get HOST PATH                                prints a response that has not expired
+purge HOST PATH                              removes a response, or with PATH* all below a prefix
+stats                                        prints the counts of each host
+metrics                                      prints the counts as Prometheus reads them
+
+Exit status: 0 after the last line, 1 if a read or a write failed, 4 after an unknown argument.
+";
 
 fn text_of(error: TenantError) -> &'static str {
     match error {
@@ -105,11 +124,34 @@ fn answer(rt: &HostRuntime, cache: &mut ResponseCache, now: &mut u64, line: Opti
     println!(rt; "{text}")
 }
 
-pub(crate) fn main(rt: HostRuntime) -> io::Result<()> {
+fn help(rt: &HostRuntime, argument: &str) -> ExitCode {
+    if argument == "--help" {
+        let _ = print!(rt; "{HELP}");
+        return ExitCode::SUCCESS;
+    }
+    let _ = eprintln!(rt; "example_responses: unknown argument {argument}; try --help");
+    ExitCode::from(UNKNOWN)
+}
+
+fn answer_lines(rt: &HostRuntime) -> io::Result<()> {
     let mut cache = ResponseCache::new(rt.alloc());
     let mut now = 0;
     for text in rt.lines(rt.alloc()) {
-        answer(&rt, &mut cache, &mut now, line::parse(text?.as_str()))?;
+        answer(rt, &mut cache, &mut now, line::parse(text?.as_str()))?;
     }
     Ok(())
+}
+
+pub(crate) fn main(rt: HostRuntime) -> ExitCode {
+    let argument = match env::args(&rt) {
+        Ok(mut arguments) => arguments.nth(1),
+        Err(_) => return ExitCode::from(UNKNOWN),
+    };
+    if let Some(argument) = argument {
+        return help(&rt, argument.as_str());
+    }
+    match answer_lines(&rt) {
+        Ok(()) => ExitCode::SUCCESS,
+        Err(_) => ExitCode::FAILURE,
+    }
 }

@@ -1,6 +1,5 @@
 // Erased from crates/lru_replay/src/costs.rt: do not edit.
-//! The theorems of `references`, for maps that limit the cost of their entries, as `ByCost` and `ByWeight` do. The
-//! `weight` of an entry may be any function.
+//! The theorems of `references`, for maps that limit the cost of their entries, as `ByCost` and `ByWeight` do.
 
 #[allow(unused_imports)]
 use crate::rattle_std::prelude::*;
@@ -31,7 +30,7 @@ pub fn gets_that_insert_if_made_make_references<K: Eq + Hash, V, E, F: FnOnce() 
 /// (`stored`). Equal keys must cost the same.
 pub fn references_keep_the_newest<K: Eq + Hash, V, S: KeyHasher<K>>() {}
 
-/// More capacity never means more misses. Suppose that the references of one trace are made on two maps, by any calls.
-/// If the keys of the map with the smaller limit were the newest keys of the other map, they still are after the trace
-/// (`front`), and the map with the smaller limit missed at least as often (`misses`).
+/// Suppose that the references of one trace are made on two maps, by any calls. If the keys of the map with the smaller
+/// limit were the newest keys of the other map, they still are after the trace (`front`), and the map with the smaller
+/// limit missed at least as often (`misses`).
 pub fn more_capacity_never_misses_more<K: Eq + Hash, V, S: KeyHasher<K>>() {}

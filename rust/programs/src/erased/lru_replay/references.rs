@@ -51,10 +51,9 @@ pub fn programs_make_references<K: Eq + Hash, V, S: KeyHasher<K>>() {}
 /// `max_length` is not 0, the map counts the misses in `placed`, up to `u64::MAX` (`stored`).
 pub fn references_keep_the_newest<K: Eq + Hash, V, S: KeyHasher<K>>() {}
 
-/// More capacity never means more misses. Suppose that the references of one trace are made on two maps, by any calls.
-/// If the keys of the smaller map were the newest keys of the larger map, they still are its newest keys after the
-/// trace (`front`). If the keys of the smaller map were included in the keys of the larger map (`IsIncluded`), the
-/// smaller map misses at least as often (`misses`).
+/// Suppose that the references of one trace are made on two maps, by any calls. If the keys of the smaller map were the
+/// newest keys of the larger map, they still are its newest keys after the trace (`front`). If the keys of the smaller
+/// map were included in the keys of the larger map (`IsIncluded`), the smaller map misses at least as often (`misses`).
 pub fn more_capacity_never_misses_more<K: Eq + Hash, V, S: KeyHasher<K>>() {}
 
 /// If the keys of a smaller map are included in the keys of a larger map, they are included after the same calls, too
@@ -62,12 +61,12 @@ pub fn more_capacity_never_misses_more<K: Eq + Hash, V, S: KeyHasher<K>>() {}
 /// calls of `calls_change_the_keys`.
 pub fn a_smaller_map_is_included<K: Eq + Hash, V, S: KeyHasher<K>>() {}
 
-/// LRU is competitive, whichever calls make the references. Take a map with `ByLength(k)` and any keys, and any policy
-/// of h ≤ k places. The policy may know the trace in advance. It begins with the keys `first`, and loads (or bypasses)
-/// keys `paid` times for the same references. If the policy stores each referenced key, the map misses at most
-/// `k / (k + 1 - h) * paid + length first` times. The bound holds for a policy that may load keys ahead (`loads`), and
-/// for a policy that loads on demand and begins with at most h keys (`demands`). If the policy need not store the key,
-/// and h < k, the map misses at most `k / (k - h) * paid + length first` times (`bypasses`).
+/// Take a map with `ByLength(k)` and any keys, and any policy of h ≤ k places. The policy may know the trace in
+/// advance. It begins with the keys `first`, and loads (or bypasses) keys `paid` times for the same references. If the
+/// policy stores each referenced key, the map misses at most `k / (k + 1 - h) * paid + length first` times. The bound
+/// holds for a policy that may load keys ahead (`loads`), and for a policy that loads on demand and begins with at most
+/// h keys (`demands`). If the policy need not store the key, and h < k, the map misses at most
+/// `k / (k - h) * paid + length first` times (`bypasses`).
 pub fn maps_are_competitive<K: Eq + Hash, V, S: KeyHasher<K>>() {
     references_keep_the_newest::<K, V, S>();
     crate::erased::lru_theory::lru_is_competitive::<K>();

@@ -10,7 +10,7 @@ use crate::programs::lru_replay::laws::{granted_calls_are_exact, lists_are_runs}
 use crate::programs::lru_replay::{Answer, Call, run_calls, run_summing};
 use crate::rattle_std::alloc::{AllocError, Global};
 
-/// A map that was within its limits still is. Entries of other keys keep their order, and only the oldest of them may
+/// Two inserts keep a map within its limits. Entries of other keys keep their order, and only the oldest of them may
 /// be evicted. The stored entries pay for the moves of entries (`PaysForMoves`).
 fn put_both(
     alloc: Global,
@@ -31,7 +31,7 @@ fn put_both(
     run_calls(alloc, map, calls)
 }
 
-/// A map that was within its limit of cost still is.
+/// Two inserts keep a map within its limit of cost.
 fn charge_both(
     alloc: Global,
     map: &mut LruMap<u64, u64, ByCost>,

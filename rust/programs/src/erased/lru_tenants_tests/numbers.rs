@@ -11,7 +11,7 @@ use crate::rattle_std::test::Fail;
 
 pub type Numbers = TenantCache<u64, u64, u64>;
 
-/// Leaves one tenant, whose name is 1, with a budget of 3 and the entry (7, 2).
+/// Leaves one tenant, 1, with a budget of 3 and the entry (7, 2).
 pub fn refill(cache: &mut Numbers) -> bool {
     let _ = (cache.close(&1), cache.close(&2), cache.set_total_limit(None));
     (cache.open(1, 3), cache.put(&1, 7, 2)) == (Ok(()), Ok(true))
@@ -19,7 +19,7 @@ pub fn refill(cache: &mut Numbers) -> bool {
 
 pub type Counted = TenantCache<u64, u64, u64, Counting<ByCost>>;
 
-/// Leaves one tenant, whose name is 1, with a budget of 3, the entry (7, 2) and the count of its insertion.
+/// Leaves one tenant, 1, with a budget of 3, the entry (7, 2) and the count of its insertion.
 pub fn recount(counted: &mut Counted) -> bool {
     let _ = counted.close(&1);
     (counted.open(1, 3), counted.put_counted(&1, 7, 2)) == (Ok(()), Ok(true))
@@ -36,7 +36,7 @@ pub fn restock(pool: &mut Shared) -> bool {
 
 pub type Bytes = ByteTenants<u64, u64, u64>;
 
-/// Leaves one tenant, whose name is 1, with a limit of 500 bytes and the entry (7, 2).
+/// Leaves one tenant, 1, with a limit of 500 bytes and the entry (7, 2).
 pub fn reopen(bytes: &mut Bytes) -> bool {
     let _ = (bytes.close(&1), bytes.close(&2));
     (bytes.open(1, 500), bytes.put(&1, 7, 2)) == (Ok(()), Ok(true))

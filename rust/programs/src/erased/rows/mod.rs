@@ -27,6 +27,13 @@ use report::agrees;
 use row::Row;
 use trials::{Bounds, Trial};
 
+const HELP: &str = "\
+rows FILES
+    Runs the rows of the files, and rows of random calls. docs/ROWS.md explains their form.
+
+Exit status: 1 if a file cannot be read, and otherwise 0.
+";
+
 /// How many random calls are tried under each limit.
 const CALLS: u64 = 400_000;
 
@@ -99,6 +106,9 @@ fn try_calls(rt: &HostRuntime, first: &str, bounds: Bounds) -> io::Result<bool> 
 pub(crate) fn main(rt: HostRuntime) -> io::Result<()> {
     let (mut hold, mut fail) = (0u64, 0u64);
     for file in env::args(&rt)?.skip(1) {
+        if file.as_str() == "--help" {
+            return print!(rt; "{HELP}");
+        }
         let (good, bad) = check_file(&rt, file.as_str())?;
         hold = hold.saturating_add(good);
         fail = fail.saturating_add(bad);

@@ -1,6 +1,5 @@
 // Erased from crates/schnellru_tests/src/callers.rt: do not edit.
-//! Functions that call a map: the code of docs/CALLING.md. Their contracts follow from the contracts of the map's
-//! calls.
+//! Functions that call a map: the code of docs/CALLING.md.
 
 #[allow(unused_imports)]
 use crate::rattle_std::prelude::*;

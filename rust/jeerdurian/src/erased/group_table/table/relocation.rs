@@ -26,8 +26,7 @@ impl<T> Table<T> {
     ///
     /// # Errors
     ///
-    /// Out of memory. Nothing has changed, because all memory is allocated before the first entry moves. With 0 buckets
-    /// the call never fails.
+    /// Out of memory. Nothing has changed. With 0 buckets the call never fails.
     pub fn relocate<N: LinkType, H: Fn(&T) -> u64>(
         &mut self,
         buckets: usize,
@@ -64,8 +63,8 @@ impl<T> Table<T> {
     ///
     /// # Errors
     ///
-    /// Out of memory. Nothing has changed, because all memory is allocated before the first entry moves. If the table
-    /// has no entries, the call only empties the buckets, and never fails.
+    /// Out of memory. Nothing has changed. If the table has no entries, the call only empties the buckets, and never
+    /// fails.
     pub fn rehash<N: LinkType, H: Fn(&T) -> u64>(&mut self, hash_of: H) -> Result<Vec<N>, AllocError> {
         let alloc = self.entries.allocator();
         if self.len == 0 {

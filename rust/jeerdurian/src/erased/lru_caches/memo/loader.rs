@@ -86,8 +86,7 @@ impl<K: Eq + Hash, V, E, F: Fn(&K) -> Result<V, E>, L: Insertion<K, V, K>, S: Ke
         }
     }
 
-    /// Removes the stored value of a key, and returns whether there was one. The next `load` of the key calls the
-    /// function.
+    /// Removes the stored value of a key, and returns whether there was one.
     ///
     /// Cost: `O(1)` expected.
     pub fn remove<Q: LookupKey<K>>(&mut self, key: &Q) -> bool {

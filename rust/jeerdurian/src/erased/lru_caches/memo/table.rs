@@ -1,5 +1,5 @@
 // Erased from crates/lru_caches/src/memo/table.rt: do not edit.
-//! `MemoTable`. A contract sees a table as its keys with their answers, newest first.
+//! `MemoTable`. Contracts represent a table by its keys with their answers, newest first.
 
 #[allow(unused_imports)]
 use crate::rattle_std::prelude::*;

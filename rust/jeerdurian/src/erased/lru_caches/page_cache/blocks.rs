@@ -25,8 +25,8 @@ impl<B: Copy, D: BlockDevice<B>, S: KeyHasher<u64>> PageCache<B, D, S> {
     /// Returns a block, and makes its page the newest.
     ///
     /// If the page is not cached and the cache is full, evicts the oldest page that may be evicted. If the evicted page
-    /// is dirty, writes it to the device first. A pinned page may not be evicted. If the cache
-    /// [keeps dirty pages](Self::set_keeps_dirty), a dirty page may not be evicted either.
+    /// is dirty, writes it to the device first. A pinned page may not be evicted, nor a dirty page if the cache
+    /// [keeps dirty pages](Self::set_keeps_dirty).
     ///
     /// Cost: `O(1)` expected, amortised over the growth of the table, and at most one read and one write of the device.
     /// An eviction also takes `O(k)` for k older pages that may not be evicted.

@@ -10,8 +10,7 @@ use crate::erased::lru_caches::page_cache::pages::Page;
 use crate::erased::schnellru::KeyHasher;
 
 impl<B: Copy, D: BlockDevice<B>, S: KeyHasher<u64>> PageCache<B, D, S> {
-    /// Law: if no page is pinned, and the cache does not keep dirty pages, the cache contains the pages that were used
-    /// last.
+    /// If no page is pinned, and the cache does not keep dirty pages, the cache contains the pages that were used last.
     pub fn without_pins_the_newest_stay(&self) {
         let _ = self.map.len();
     }

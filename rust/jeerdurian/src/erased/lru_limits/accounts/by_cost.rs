@@ -26,8 +26,6 @@ impl ByCost {
     }
 
     /// Returns the same limiter with another limit. The sum stays.
-    ///
-    /// `map.set_limiter(map.limiter().with_limit(n))` sets the limit of a map.
     pub const fn with_limit(&self, limit: u64) -> ByCost {
         ByCost { limit, cost: self.cost }
     }

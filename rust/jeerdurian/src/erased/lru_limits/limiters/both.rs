@@ -14,7 +14,6 @@ use crate::erased::lru_limits::limiter::Limiter;
 /// second limiter sees what the first limiter wrote to the entry.
 ///
 /// Put a limiter by cost first, because `Both` uses the link type and the running total of the first limiter.
-/// `map.limiter().0` is the first limiter.
 ///
 /// Cost: each callback calls at most two callbacks of each limiter, and takes no memory itself.
 #[derive(Clone, Copy, Debug)]

@@ -28,5 +28,5 @@ pub fn inserts_leave_the_newest<K: Eq + Hash, V, S: KeyHasher<K>>() {}
 
 /// If `max_length` is at most 939,524,096, and an entry has fewer than 4,294,967,295 bytes, a new map with `ByLength`
 /// keeps to its length (`KeepsToLength`, `begins`). A map that keeps to its length still does after any `Step` that
-/// leaves a sound table (`goes_on`), and after any write to a value (`written`). A `Step` never sets the limiter.
+/// leaves a sound table (`goes_on`), and after any write to a value (`written`).
 pub fn maps_keep_to_their_length<K: Eq + Hash, V, S: KeyHasher<K>>() {}

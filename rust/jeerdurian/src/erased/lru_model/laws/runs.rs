@@ -6,8 +6,7 @@ use crate::erased::lru_limits::{Budgeted, Insertion, KeyHasher, Limiter, LookupK
 use crate::rattle_std::hash::Hash;
 
 /// If `IsMap` holds of a map, it still holds after any calls, and any writes through references into the map. `IsMap`
-/// implies the clause `paid` of `inserts_pay_for_moves`, and that no two keys are equal. In a `Run`, the table is sound
-/// after each call, as the clause `map` of each call ensures.
+/// implies the clause `paid` of `inserts_pay_for_moves`, and that no two keys are equal.
 pub fn runs_keep_maps<K: Eq + Hash, V, I: LookupKey<K>, L: Insertion<K, V, I>, S: KeyHasher<K>>() {}
 
 /// If the running total of the limiter is the sum of the costs of the entries, it is this sum after any `Step`s, too.

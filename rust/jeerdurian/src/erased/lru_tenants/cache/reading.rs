@@ -11,8 +11,6 @@ use crate::rattle_std::hash::Hash;
 impl<N: Eq + Hash, K: Eq + Hash, V, L: Budgeted<K, V>, S: KeyHasher<K> + Copy> TenantCache<N, K, V, L, S> {
     /// Returns a tenant's value of a key, and makes its entry the tenant's newest.
     ///
-    /// The value is lent only for reading, so its cost does not change.
-    ///
     /// Cost: `O(1)` expected.
     ///
     /// # Errors

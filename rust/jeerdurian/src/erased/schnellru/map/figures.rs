@@ -20,7 +20,7 @@ impl<K: Eq + Hash, V, L: Limiter<K, V>, S: KeyHasher<K>> LruMap<K, V, L, S> {
         self.entries.len()
     }
 
-    // Only for the prover: does nothing at run time.
+    // Only for the prover.
     #[inline(always)]
     pub(crate) fn show_map(&self) {
         let _ = &self.entries;

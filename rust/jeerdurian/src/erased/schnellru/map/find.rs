@@ -35,7 +35,6 @@ impl<K: Eq + Hash, V, L: Limiter<K, V>, S: KeyHasher<K>> LruMap<K, V, L, S> {
         self.entries.promote(b);
     }
 
-    // Writes the pending promotion, if any, into the links, so that later code need not test for a pending promotion.
     #[inline(always)]
     pub(crate) fn settle(&mut self) {
         self.entries.settle();

@@ -36,8 +36,6 @@ impl<K: Eq + Hash, V, L: Limiter<K, V>, S: KeyHasher<K>> LruMap<K, V, L, S> {
     /// Makes the entry of a key the newest. If the key is not there, inserts it with the value that the closure
     /// returns, as `insert` does. Returns whether the key is in the map afterwards.
     ///
-    /// If the result is true, `newest_mut` lends the value.
-    ///
     /// Cost: as `get` if the key is there, else as `insert`.
     ///
     /// # Errors

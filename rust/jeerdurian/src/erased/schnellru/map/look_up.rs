@@ -7,7 +7,7 @@ use crate::erased::schnellru::map::LruMap;
 use crate::rattle_std::hash::Hash;
 
 impl<K: Eq + Hash, V, L: Limiter<K, V>, S: KeyHasher<K>> LruMap<K, V, L, S> {
-    /// Lends the value of a key for writing, and makes its entry the newest. The limiter is not notified of writes.
+    /// Lends the value of a key for writing, and makes its entry the newest.
     ///
     /// A `&str` looks up a `String` key: `map.get(&"a")`.
     ///

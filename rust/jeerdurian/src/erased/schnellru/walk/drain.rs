@@ -62,7 +62,7 @@ impl<'a, K: Eq + Hash, V, L: Limiter<K, V>, S: KeyHasher<K>> FusedIterator for D
 impl<K: Eq + Hash, V, L: Limiter<K, V>, S: KeyHasher<K>> LruMap<K, V, L, S> {
     /// Returns an iterator that takes out the entries, newest first. Dropping the iterator clears the map.
     ///
-    /// Cost: `O(1)`, and `O(1)` for each entry that is taken. The drop of the iterator costs as much as `clear`.
+    /// Cost: `O(1)`, and `O(1)` for each entry that is taken. The drop costs as much as `clear`.
     ///
     /// Follows schnellru's `LruMap::drain`.
     pub fn drain(&mut self) -> Drain<'_, K, V, L, S> {

@@ -102,7 +102,7 @@ impl<K: Eq + Hash, V, L: Limiter<K, V>, S: KeyHasher<K>> LruMap<K, V, L, S> {
     /// Follows `Iterator::for_each` over the `iter_mut` of std's `HashMap`.
     pub fn for_each_mut<F: FnMut(&K, &mut V)>(&mut self, mut f: F) {
         self.settle();
-        // Does nothing at run time. It shows the prover that a position fits a `usize`.
+        // Shows the prover that a position fits a `usize`.
         let _ = self.len();
         let (mut next, _) = self.ends();
         let mut at = 0;
