@@ -1,4 +1,4 @@
--- How a map changes at a get, a write, a removal, a pop or a clear. Every other kind of call has a file of its own.
+-- How a map changes at a get, a write, a removal, a pop or a clear. Every other kind of call has its own file.
 --     `names`: whether a key is the looked-up key.
 use Rattle.std.specs.Prelude.{◌≡◌, Bool, List, [], Option, option_map, replicate}
 use Rattle.std.specs.Map.{set_value}

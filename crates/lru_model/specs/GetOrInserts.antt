@@ -45,7 +45,7 @@ module _ {K V S H I : Type 0} (rules : Rules K V S) (offers : Offers K V S I) (n
     pub says : SaysNewest rules (names i) old result new
     pub out_of_memory : OnErr result (IsOutOfMemoryFor rules offers names hash_of makes i old new)
 
--- the result of an insert, with the error `Memory` in place of `AllocError`
+-- the result of an insert, with the error `Memory` instead of `AllocError`
 abbrev pub or_memory : {E : Type 0} → Result Bool AllocError → Result Bool (GetOrInsertError E)
 or_memory (Ok kept) = Ok kept
 or_memory (Err e) = Err Memory

@@ -14,7 +14,7 @@ use Rattle.lru_model.specs.Place.{Place, Outcome, placed, refused, no_memory}
 abbrev pub unkept_of : {K V S : Type 0} → Replaced K V S → V
 unkept_of r = if r.taken then r.old_value else r.new_value
 
--- the result of an insert, with the flag `kept` in place of the record `Inserted`
+-- the result of an insert, with the flag `kept` instead of the record `Inserted`
 abbrev pub kept_of : {V E : Type 0} → Result (Inserted V) E → Result Bool E
 kept_of (Ok inserted) = Ok inserted.kept
 kept_of (Err e) = Err e

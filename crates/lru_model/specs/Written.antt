@@ -5,7 +5,7 @@ use Rattle.std.specs.Fn.{Mut, Called}
 use Rattle.lru_model.specs.State.{State}
 
 module _ {K V F : Type 0} (closure : Mut F (Bor K × (MutBor V × Unit {0})) (Unit {0} × (MutBor V × Unit {0}))) where
-  -- a call of f with the pair may write w in place of the pair's value, and change f into g
+  -- a call of f with the pair may replace the pair's value by w, and change f into g
   pub record Writes (f : F) (pair : K × V) (w : V) (g : F) : Type 0 where
     pub key : Bor K
     pub value : MutBor V

@@ -6,13 +6,13 @@ use Rattle.schnellru.specs.declared.map.get_or_insert.NotLent.TheVariants.{NotKe
 use mathlib.Core.Option as maybe
 
 module _ {V E : Type 0} where
-  -- the result of a get that inserts, with `Ok None` in place of the error `NotKept`
+  -- the result of a get that inserts, with `Ok None` instead of the error `NotKept`
   abbrev pub lent_or_none : Result (MutBor V) (NotLent E) → Result (Option (MutBor V)) E
   lent_or_none (Ok x) = Ok (Some x)
   lent_or_none (Err NotKept) = Ok None
   lent_or_none (Err (Failed e)) = Err e
 
-  -- the result with a flag in place of the lent value; the flag is true if a value is lent
+  -- the result with a flag instead of the lent value; the flag is true if a value is lent
   abbrev pub is_kept : Result (Option (MutBor V)) E → Result Bool E
   is_kept (Ok o) = Ok (is_some o)
   is_kept (Err e) = Err e

@@ -59,7 +59,7 @@ impl Hog {
         drop(self.spare.pop());
     }
 
-    /// Returns whether all memory was taken. An allocator with checks of its own may never give all memory.
+    /// Returns whether all memory was taken. An allocator with its own checks may never give all memory.
     pub fn took_all(&self) -> bool {
         self.held.len() < MOST
     }
