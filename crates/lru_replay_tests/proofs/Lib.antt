@@ -1,1 +1,2 @@
+pub mod MappedKeys
 pub mod Results

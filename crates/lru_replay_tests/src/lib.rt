@@ -8,6 +8,8 @@ mod callers;
 #[cfg(test)]
 mod costs;
 #[cfg(test)]
+mod curves;
+#[cfg(test)]
 mod examples;
 #[cfg(test)]
 mod misses;

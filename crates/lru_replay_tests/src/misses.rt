@@ -8,7 +8,7 @@ use crate::references::read_through;
 use schnellru::{ByLength, LruMap, RandomState, laws};
 use std::alloc::{AllocError, Global};
 
-fn misses_on_map(alloc: Global, texts: &[String], length: u32) -> Result<u64, AllocError>
+pub fn misses_on_map(alloc: Global, texts: &[String], length: u32) -> Result<u64, AllocError>
     requires { length ≤ 939524096 }
     ensures { IfOk result (λ count. count ≡ misses string_eq length [] texts.now) }
 {

@@ -8,7 +8,7 @@ use crate::erased::schnellru::{ByLength, LruMap, RandomState, laws};
 use crate::programs::lru_replay_tests::references::read_through;
 use crate::rattle_std::alloc::{AllocError, Global};
 
-fn misses_on_map(alloc: Global, texts: &[String], length: u32) -> Result<u64, AllocError> {
+pub fn misses_on_map(alloc: Global, texts: &[String], length: u32) -> Result<u64, AllocError> {
     laws::maps_keep_to_their_length::<String, u64, RandomState>();
     let mut map: LruMap<String, u64> = LruMap::new(alloc, ByLength::new(length), [1, 2, 3, 4], 40);
     read_through(&mut map, texts, &|_| 0)

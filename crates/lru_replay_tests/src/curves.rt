@@ -1,0 +1,30 @@
+//! The curve of a trace gives the misses of a map.
+ghost use Rattle.std.specs.Prelude.{◌≡◌, ◌≤◌, [], map, IfOk};
+ghost use Rattle.std.specs.String.{string_bytes};
+ghost use Rattle.lru_trace.specs.Counted.{IsOf};
+
+use crate::misses::misses_on_map;
+use lru_trace::Curve;
+use std::alloc::{AllocError, Global};
+
+fn curve_of(alloc: Global, texts: &[String]) -> Result<Curve, AllocError>
+    ensures { IfOk result (IsOf [] (map string_bytes texts.now)) }
+{
+    let mut curve = Curve::new(alloc)?;
+    for text in texts {
+        curve.refer(text)?;
+    }
+    Ok(curve)
+}
+
+/// Returns how many of the texts a map of `length` entries misses, by a curve and by a count. The numbers are equal.
+fn predict(alloc: Global, texts: &[String], length: u32) -> Result<(u64, u64), AllocError>
+    requires { length ≤ 939524096 }
+    ensures { IfOk result (λ misses. misses.0 ≡ misses.1) }
+{
+    let curve = curve_of(alloc, texts)?;
+    Ok((
+        curve.misses(length as usize),
+        misses_on_map(alloc, texts, length)?,
+    ))
+}
