@@ -288,7 +288,7 @@ impl<B: Copy, D: BlockDevice<B>, S: BuildHasher> PageCache<B, D, S> {
         self.cache.read(n)
     }
 
-    /// Lends a closure the block that `read` would return, and returns what the closure returns.
+    /// Does what `read` does, but lends the block to a closure, and returns what the closure returns.
     ///
     /// # Errors
     ///
@@ -338,8 +338,8 @@ impl<B: Copy, D: BlockDevice<B>, S: BuildHasher> PageCache<B, D, S> {
         self.cache.write(n, block)
     }
 
-    /// Lends a closure a block for writing in place, makes its page dirty and the newest, and returns what the closure
-    /// returns. The block is read first if its page is not cached. If the closure panics, the page is dirty, with what
+    /// Lends a block to a closure that may write to it, makes its page dirty and the newest, and returns what the closure
+    /// returns. If the page is not cached, the block is read first. If the closure panics, the page is dirty, with what
     /// the closure wrote.
     ///
     /// # Errors
