@@ -112,8 +112,8 @@ impl<K: Eq + Hash, V, F: Fn(&K) -> V, L: Admission<K, V>, S: BuildHasher> Memo<K
         self.memo.answer_full(key)
     }
 
-    /// Does what [`answer`](Self::answer) does, but lends the result to a closure, and returns what the closure returns. The
-    /// values need not be `Copy`.
+    /// Does what [`answer`](Self::answer) does, but lends the result to a closure, and returns what the closure returns.
+    /// The values need not be `Copy`.
     ///
     /// ```
     /// # use jeerdurian::{ByLength, caches::Memo};
@@ -138,8 +138,8 @@ impl<K: Eq + Hash, V, F: Fn(&K) -> V, L: Admission<K, V>, S: BuildHasher> Memo<K
         self.memo.get(&Named(key))
     }
 
-    /// Does what [`get`](Self::get) does, but lends the result to a closure, and returns what the closure returns. The
-    /// values need not be `Copy`.
+    /// Does what [`get`](Self::get) does, but lends the result to a closure, and returns what the closure returns.
+    /// The values need not be `Copy`.
     pub fn get_with<R>(&mut self, key: &(impl Hash + PartialEq<K> + ?Sized), read: impl FnOnce(&V) -> R) -> Option<R> {
         self.memo.get_with(&Named(key), read)
     }
@@ -273,8 +273,8 @@ where
         self.loader.load(key)
     }
 
-    /// Does what [`load`](Self::load) does, but lends the result to a closure, and returns what the closure returns. The
-    /// values need not be `Copy`.
+    /// Does what [`load`](Self::load) does, but lends the result to a closure, and returns what the closure returns.
+    /// The values need not be `Copy`.
     ///
     /// # Errors
     ///

@@ -338,9 +338,9 @@ impl<B: Copy, D: BlockDevice<B>, S: BuildHasher> PageCache<B, D, S> {
         self.cache.write(n, block)
     }
 
-    /// Lends a block to a closure that may write to it, makes its page dirty and the newest, and returns what the closure
-    /// returns. If the page is not cached, the block is read first. If the closure panics, the page is dirty, with what
-    /// the closure wrote.
+    /// Lends a block to a closure that may write to it, makes its page dirty and the newest, and returns what the
+    /// closure returns. If the page is not cached, the block is read first. If the closure panics, the page is dirty,
+    /// with what the closure wrote.
     ///
     /// # Errors
     ///
