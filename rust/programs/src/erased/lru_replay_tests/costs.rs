@@ -33,7 +33,7 @@ fn load_at_miss<L: Source>(
     Ok(1)
 }
 
-/// Returns how many values it loaded: one for each miss of a cache with this limit.
+/// Returns how many values it loaded: one for each miss of a cache with the map's limit.
 fn read_through<L: Source>(
     map: &mut LruMap<String, Vec<u8>, ByCost>,
     texts: &[String],
