@@ -3,8 +3,6 @@ ghost use Rattle.std.specs.Prelude.{nat_lt, true};
 ghost use Rattle.lru_limits.specs.Stores.{plain};
 
 use lru_limits::Limiter;
-use std::test::Fail;
-use test_helpers::check;
 
 /// Limits a map to `most` entries.
 #[derive(Clone, Copy, Debug)]
@@ -28,9 +26,4 @@ impl<K, V> Limiter<K, V> for Few {
     fn on_grow(&mut self, _new_memory_usage: usize) -> bool {
         true
     }
-}
-
-#[test]
-fn more_than_few_are_over_the_limit(rt: HostRuntime) {
-    check!(rt; Limiter::<u64, u64>::is_over_the_limit(&Few { most: 2 }, 3));
 }

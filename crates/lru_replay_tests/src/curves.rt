@@ -1,6 +1,7 @@
 //! The curve of a trace gives the misses of a map.
 ghost use Rattle.std.specs.Prelude.{◌≡◌, ◌≤◌, [], map, IfOk};
-ghost use Rattle.std.specs.String.{string_bytes};
+ghost use Rattle.std.specs.String.{string_bytes, string_eq};
+ghost use Rattle.lru_theory.specs.Traces.{misses};
 ghost use Rattle.lru_trace.specs.Counted.{IsOf};
 
 use crate::misses::misses_on_map;
@@ -17,10 +18,11 @@ fn curve_of(alloc: Global, texts: &[String]) -> Result<Curve, AllocError>
     Ok(curve)
 }
 
-/// Returns how many of the texts a map of `length` entries misses, by a curve and by a count. The numbers are equal.
+/// Returns how many of the texts a new map of `length` entries misses: the count of a curve, and that of a map.
 fn predict(alloc: Global, texts: &[String], length: u32) -> Result<(u64, u64), AllocError>
     requires { length ≤ 939524096 }
-    ensures { IfOk result (λ misses. misses.0 ≡ misses.1) }
+    ensures curve { IfOk result (λ counts. counts.0 ≡ misses string_eq length [] texts.now) }
+    ensures map { IfOk result (λ counts. counts.1 ≡ misses string_eq length [] texts.now) }
 {
     let curve = curve_of(alloc, texts)?;
     Ok((

@@ -2,8 +2,6 @@
 #![tactic(auto)]
 
 #[cfg(test)]
-mod curves;
-#[cfg(test)]
 mod examples;
 #[cfg(test)]
 mod lines;

@@ -1,5 +1,4 @@
-use lru_trace::{Form, Options, Policies, Progress, TraceEnd, TraceError, trace};
-use std::io::{self, ErrorKind, Write};
+use lru_trace::{Form, Options, Policies, Progress, TraceEnd, trace};
 use std::test::Fail;
 use test_helpers::check;
 
@@ -9,37 +8,6 @@ const TEXT: Options = Options {
     policies: Policies::Lru { warm_up: 0 },
     sample: 0,
 };
-
-#[derive(Drop)]
-struct Output {
-    bytes: Vec<u8>,
-}
-
-impl Write for Output {
-    fn write(&mut self, buf: &[u8]) -> io::Result<usize> {
-        self.bytes.write(buf)
-    }
-
-    fn flush(&mut self) -> io::Result<()> {
-        Err(io::Error::from(ErrorKind::StorageFull))
-    }
-}
-
-#[test]
-fn of_a_flush_that_fails(rt: HostRuntime) {
-    let mut output = Output {
-        bytes: Vec::new(rt.alloc()),
-    };
-    let mut progress = Progress::new(rt.alloc(), None::<Vec<u8>>);
-    let end = trace(
-        rt.alloc(),
-        TEXT,
-        &mut b"1\na\n".as_slice(),
-        &mut output,
-        &mut progress,
-    );
-    check!(rt; end == Err(TraceError::Write));
-}
 
 #[test]
 fn of_the_progress(rt: HostRuntime) -> Result<(), Fail> {

@@ -4,6 +4,7 @@ use jeerdurian::caches::{CountedMap, OrderedMap};
 use jeerdurian::{
     Both, ByBytes, ByCost, ByLength, Costed, GetOrInsertError, LruMap, More, OwnedBytes, RandomState, ReserveError,
     Unlimited, UnlimitedCompact, Updated,
+    trace::{SizeError, TraceError},
 };
 use std::error::Error;
 use std::hash::BuildHasher;
@@ -22,6 +23,14 @@ fn errors() {
     assert_eq!(refused.to_string(), "the limiter refused the larger table");
     let caller: Box<dyn Error> = Box::new(GetOrInsertError::Caller(ReserveError::Memory));
     assert_eq!(caller.to_string(), "the closure failed: out of memory");
+    let texts = [
+        (TraceError::Read, "read failed"),
+        (TraceError::Write, "write failed"),
+        (TraceError::Memory, "out of memory"),
+        (TraceError::TooLarge, "the sizes of the keys are too large"),
+    ];
+    texts.iter().for_each(|(error, text)| assert_eq!(error.to_string(), *text));
+    assert_eq!(SizeError::TooLarge.to_string(), TraceError::TooLarge.to_string());
 }
 
 #[test]

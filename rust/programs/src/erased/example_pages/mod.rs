@@ -25,7 +25,7 @@ const UNKNOWN: u8 = 4;
 
 const HELP: &str = "\
 example_pages < COMMANDS
-    Keeps records in a file of pages and a log, in the current folder. Both files are made anew.
+    Keeps records in a file of pages and a log, in the current folder. Both files begin empty.
 
 A command is a line: get N, put N TEXT, commit, checkpoint, stats or crashes N.
 The puts before a commit are one transaction. crashes N crashes a store in memory N times.

@@ -5,8 +5,6 @@
 use crate::rattle_std::prelude::*;
 
 use crate::erased::lru_limits::Limiter;
-use crate::programs::test_helpers::check;
-use crate::rattle_std::test::Fail;
 
 /// Limits a map to `most` entries.
 #[derive(Clone, Copy, Debug)]
@@ -28,12 +26,4 @@ impl<K, V> Limiter<K, V> for Few {
     fn on_grow(&mut self, _new_memory_usage: usize) -> bool {
         true
     }
-}
-
-#[test]
-fn more_than_few_are_over_the_limit() {
-    let run = |rt: HostRuntime| -> () {
-        check!(rt; Limiter::<u64, u64>::is_over_the_limit(&Few { most: 2 }, 3));
-    };
-    run(HostRuntime).passes();
 }

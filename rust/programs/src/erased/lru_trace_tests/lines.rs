@@ -2,37 +2,11 @@
 #[allow(unused_imports)]
 use crate::rattle_std::prelude::*;
 
-use crate::erased::lru_trace::{Form, Options, Policies, Progress, TraceEnd, TraceError, trace};
+use crate::erased::lru_trace::{Form, Options, Policies, Progress, TraceEnd, trace};
 use crate::programs::test_helpers::check;
-use crate::rattle_std::io::{self, ErrorKind, Write};
 use crate::rattle_std::test::Fail;
 
 const TEXT: Options = Options { column: None, form: Form::Text, policies: Policies::Lru { warm_up: 0 }, sample: 0 };
-
-struct Output {
-    bytes: Vec<u8>,
-}
-
-impl Write for Output {
-    fn write(&mut self, buf: &[u8]) -> io::Result<usize> {
-        self.bytes.write(buf)
-    }
-
-    fn flush(&mut self) -> io::Result<()> {
-        Err(io::Error::from(ErrorKind::StorageFull))
-    }
-}
-
-#[test]
-fn of_a_flush_that_fails() {
-    let run = |rt: HostRuntime| -> () {
-        let mut output = Output { bytes: Vec::new(rt.alloc()) };
-        let mut progress = Progress::new(rt.alloc(), None::<Vec<u8>>);
-        let end = trace(rt.alloc(), TEXT, &mut b"1\na\n".as_slice(), &mut output, &mut progress);
-        check!(rt; end == Err(TraceError::Write));
-    };
-    run(HostRuntime).passes();
-}
 
 #[test]
 fn of_the_progress() {

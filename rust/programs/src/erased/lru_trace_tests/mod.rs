@@ -5,8 +5,6 @@
 use crate::rattle_std::prelude::*;
 
 #[cfg(test)]
-mod curves;
-#[cfg(test)]
 mod examples;
 #[cfg(test)]
 mod lines;
