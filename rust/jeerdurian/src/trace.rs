@@ -13,6 +13,12 @@
 //! # }
 //! ```
 
+mod best;
+mod byte_curve;
+
+pub use best::Best;
+pub use byte_curve::{ByteCurve, SizeError};
+
 use crate::erased::lru_trace as proved;
 use crate::rattle_std::alloc::{AllocError, Global};
 use crate::rattle_std::vec::Vec;
@@ -96,135 +102,6 @@ impl core::error::Error for TraceError {}
 /// # }
 /// ```
 pub struct Curve(proved::Curve);
-
-/// Why a [`ByteCurve`] did not make a reference: out of memory, or the sizes of all keys would sum to 2^64 or more.
-///
-/// ```
-/// assert_eq!(jeerdurian::trace::SizeError::Memory.to_string(), "out of memory");
-/// ```
-pub use crate::erased::lru_trace::SizeError;
-
-/// How often LRU caches with limits of bytes miss on a trace, counted in one pass.
-///
-/// A key keeps the size of its first reference. Proved: each count is exact.
-///
-/// ```
-/// use jeerdurian::trace::ByteCurve;
-///
-/// let mut curve = ByteCurve::new(&[10, 30]).unwrap();
-/// for (key, bytes) in [("a", 10), ("b", 20), ("a", 10), ("a", 10)] {
-///     curve.refer(key, bytes).unwrap();
-/// }
-/// assert_eq!((curve.misses(10), curve.misses(30), curve.misses(20)), (Some(3), Some(2), None));
-/// ```
-pub struct ByteCurve(proved::ByteCurve);
-
-impl ByteCurve {
-    /// Makes the curve of a trace without references, for these limits.
-    ///
-    /// # Errors
-    ///
-    /// Out of memory.
-    pub fn new(limits: &[u64]) -> Result<Self, AllocError> {
-        Ok(ByteCurve(proved::ByteCurve::new(Global, Vec::from_slice(Global, limits)?)?))
-    }
-
-    /// References a key of this many bytes. Cost: `O(log n)` expected for n keys, and `O(limits)`.
-    ///
-    /// # Errors
-    ///
-    /// As [`SizeError`] says. The reference is not counted then.
-    pub fn refer(&mut self, key: &str, bytes: u64) -> Result<(), SizeError> {
-        self.0.refer(key, bytes)
-    }
-
-    /// References a key without counting the reference. Call this before the first `refer`.
-    ///
-    /// # Errors
-    ///
-    /// As for `refer`.
-    pub fn warm_up(&mut self, key: &str, bytes: u64) -> Result<(), SizeError> {
-        self.0.warm_up(key, bytes)
-    }
-
-    /// Returns the number of counted references.
-    pub fn references(&self) -> u64 {
-        self.0.references()
-    }
-
-    /// Returns the number of different keys, including the keys of the warm-up.
-    pub fn keys(&self) -> usize {
-        self.0.keys()
-    }
-
-    /// Returns how many bytes all keys take together, including the keys of the warm-up.
-    pub fn bytes(&self) -> u64 {
-        self.0.bytes()
-    }
-
-    /// Returns how many counted references miss in an LRU cache with this limit. `None` if `new` did not get the limit.
-    pub fn misses(&self, limit: u64) -> Option<u64> {
-        self.0.misses(limit)
-    }
-}
-
-/// The misses of the best possible policies, which know the rest of the trace. [`Curve::best`] returns it.
-///
-/// It takes 8 bytes for each reference.
-///
-/// ```
-/// use jeerdurian::trace::Curve;
-///
-/// # fn main() -> Result<(), jeerdurian::AllocError> {
-/// let mut curve = Curve::keeping_references()?;
-/// for key in ["a", "b", "c", "a", "b", "c"] {
-///     curve.refer(key)?;
-/// }
-/// let best = curve.best()?.expect("the references are kept");
-/// assert_eq!((curve.misses(2), best.min_misses(2)?, best.bypass_misses(2)?), (6, 4, 4));
-/// # Ok(())
-/// # }
-/// ```
-pub struct Best(proved::Best);
-
-impl Best {
-    /// Returns how often MIN misses in this many places. MIN stores each referenced key, and evicts the key whose next
-    /// reference comes last.
-    ///
-    /// Proved: no policy that stores each referenced key misses less often.
-    ///
-    /// # Errors
-    ///
-    /// None: without memory the program aborts, as with each sorted set of Rust.
-    ///
-    /// ```
-    /// # use jeerdurian::trace::Curve;
-    /// # let best = Curve::keeping_references()?.best()?.expect("the references are kept");
-    /// assert_eq!(best.min_misses(2)?, 0);
-    /// # Ok::<(), jeerdurian::AllocError>(())
-    /// ```
-    pub fn min_misses(&self, places: usize) -> Result<usize, AllocError> {
-        self.0.min_misses(places)
-    }
-
-    /// Returns how often MIN with bypass misses in this many places. This policy need not store a referenced key.
-    ///
-    /// Proved: no policy misses less often.
-    ///
-    /// # Errors
-    ///
-    /// As for `min_misses`.
-    ///
-    /// ```
-    /// # use jeerdurian::trace::Curve;
-    /// # let best = Curve::keeping_references()?.best()?.expect("the references are kept");
-    /// assert_eq!(best.bypass_misses(2)?, 0);
-    /// # Ok::<(), jeerdurian::AllocError>(())
-    /// ```
-    pub fn bypass_misses(&self, places: usize) -> Result<usize, AllocError> {
-        self.0.bypass_misses(places)
-    }
-}
 
 impl Curve {
     /// Makes the curve of a trace without references.

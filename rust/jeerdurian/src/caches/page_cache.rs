@@ -1,9 +1,18 @@
 //! A write-back cache of the blocks of a device.
 
+mod close;
+mod device;
+
+pub use close::Unclosed;
+#[cfg(feature = "runtime-rng")]
+pub use close::with_cache;
+pub use device::BlockDevice;
+
 use crate::RandomState;
 use crate::erased::lru_caches as proved;
 use crate::rattle_std::alloc::Global;
 use core::hash::BuildHasher;
+use device::Called;
 
 /// Why a call on a page cache failed. A failed call changes no block that the cache shows, unless a `sync` of the
 /// device failed. After that, writes and flushes return `Broken`, and so do reads and pins of uncached pages.
@@ -17,99 +26,6 @@ use core::hash::BuildHasher;
 pub use crate::erased::lru_caches::PageError;
 
 impl<E: core::error::Error> core::error::Error for PageError<E> {}
-
-/// A device of numbered blocks, such as a disk or a file. Any call may fail.
-///
-/// The promises of a [`PageCache`] are proved for devices whose calls do what their docs say.
-///
-/// ```
-/// use jeerdurian::caches::BlockDevice;
-///
-/// struct Disk([u64; 4]);
-///
-/// impl BlockDevice<u64> for Disk {
-///     type Error = &'static str;
-///
-///     fn has(&self, n: u64) -> bool {
-///         n < 4
-///     }
-///     fn read(&mut self, n: u64) -> Result<u64, &'static str> {
-///         Ok(self.0[n as usize])
-///     }
-///     fn write(&mut self, n: u64, block: &u64) -> Result<(), &'static str> {
-///         self.0[n as usize] = *block;
-///         Ok(())
-///     }
-///     fn sync(&mut self) -> Result<(), &'static str> {
-///         Ok(())
-///     }
-/// }
-///
-/// assert_eq!(Disk([10, 11, 12, 13]).read(1), Ok(11));
-/// ```
-pub trait BlockDevice<B> {
-    /// Why a call fails.
-    type Error;
-
-    /// Returns whether the device has a block of this number. A cache calls this before it reads or writes the block.
-    fn has(&self, n: u64) -> bool;
-
-    /// Returns whether all `sync`s succeeded so far. A cache itself remembers if one of its syncs failed.
-    fn is_usable(&self) -> bool {
-        true
-    }
-
-    /// Returns the block that was last written at this number.
-    ///
-    /// # Errors
-    ///
-    /// The device failed. No block has changed.
-    fn read(&mut self, n: u64) -> Result<B, Self::Error>;
-
-    /// Replaces a block. Until a `sync`, a crash may leave the old block, the new block, or a torn block.
-    ///
-    /// # Errors
-    ///
-    /// The device failed. This block may be anything then, and no other block has changed.
-    fn write(&mut self, n: u64, block: &B) -> Result<(), Self::Error>;
-
-    /// Makes the written blocks durable: after an `Ok`, a crash loses no block that was written before.
-    ///
-    /// # Errors
-    ///
-    /// The device failed. What was written since the last `sync` that returned `Ok` may be lost.
-    fn sync(&mut self) -> Result<(), Self::Error>;
-}
-
-/// A device as the proved cache calls it, and whether one of the syncs has failed.
-struct Called<D>(D, bool);
-
-impl<B, D: BlockDevice<B>> proved::BlockDevice<B> for Called<D> {
-    type Error = D::Error;
-    type Seen = B;
-
-    fn has(&self, n: u64) -> bool {
-        self.0.has(n)
-    }
-
-    fn is_usable(&self) -> bool {
-        !self.1 && self.0.is_usable()
-    }
-
-    fn read(&mut self, n: u64) -> Result<B, D::Error> {
-        self.0.read(n)
-    }
-
-    fn write(&mut self, n: u64, block: &B) -> Result<(), D::Error> {
-        self.0.write(n, block)
-    }
-
-    fn sync(&mut self) -> Result<(), D::Error> {
-        let synced = self.0.sync();
-        self.1 = synced.is_err();
-        synced
-    }
-}
 
 /// A write-back cache of the blocks of a device.
 ///
@@ -475,90 +391,4 @@ impl<B: Copy, D: BlockDevice<B>, S: BuildHasher> PageCache<B, D, S> {
     pub fn dirty_len(&self) -> usize {
         self.cache.dirty_len()
     }
-
-    /// Flushes the cache, and returns the device.
-    ///
-    /// # Errors
-    ///
-    /// The flush failed. The error contains the cache, with the same pages.
-    ///
-    /// ```
-    /// # use jeerdurian::caches::{FileDevice, PageCache};
-    /// # let file = std::io::Cursor::new(*b"zeroone.two.");
-    /// # let mut cache = PageCache::new(FileDevice::<_, 4>::new(file, 3), 2);
-    /// assert_eq!(cache.write(1, *b"uno."), Ok(()));
-    /// let device = cache.close().ok().unwrap();
-    /// assert_eq!(device.file().get_ref(), b"zerouno.two.");
-    /// ```
-    #[allow(clippy::result_large_err)]
-    pub fn close(self) -> Result<D, Unclosed<B, D, S>> {
-        match self.cache.close() {
-            Ok(device) => Ok(device.0),
-            Err(proved::Unclosed { cache, error }) => Err(Unclosed { cache: PageCache { cache }, error }),
-        }
-    }
-
-    /// Drops the cached pages and returns the device. Writes since the last flush may be lost.
-    ///
-    /// ```
-    /// # use jeerdurian::caches::{FileDevice, PageCache};
-    /// # let file = std::io::Cursor::new(*b"zeroone.two.");
-    /// # let mut cache = PageCache::new(FileDevice::<_, 4>::new(file, 3), 2);
-    /// assert_eq!(cache.write(1, *b"uno."), Ok(()));
-    /// assert_eq!(cache.discard().file().get_ref(), b"zeroone.two.");
-    /// ```
-    pub fn discard(self) -> D {
-        self.cache.discard().0
-    }
-}
-
-/// Makes a cache as [`PageCache::new`] does, lends it to a closure, and closes it at the end. Returns what the closure
-/// returned, and the device; or, if the last flush failed, the cache as [`PageCache::close`] returns it.
-///
-/// If the closure panics, the cache is dropped, and its dirty pages are lost.
-///
-/// ```
-/// use jeerdurian::caches::{FileDevice, with_cache};
-///
-/// let file = std::io::Cursor::new(*b"zeroone.two.");
-/// let (read, closed) = with_cache(FileDevice::<_, 4>::new(file, 3), 2, |cache| {
-///     cache.write(1, *b"uno.")?;
-///     cache.read(2)
-/// });
-/// assert_eq!(read, Ok(*b"two."));
-/// assert_eq!(closed.ok().unwrap().file().get_ref(), b"zerouno.two.");
-/// ```
-#[cfg(feature = "runtime-rng")]
-#[allow(clippy::type_complexity)]
-pub fn with_cache<B: Copy, D: BlockDevice<B>, R>(
-    device: D,
-    capacity: usize,
-    work: impl FnOnce(&mut PageCache<B, D>) -> R,
-) -> (R, Result<D, Unclosed<B, D>>) {
-    let mut cache = PageCache::new(device, capacity);
-    let done = work(&mut cache);
-    (done, cache.close())
-}
-
-/// A cache that was not closed, because its flush failed.
-///
-/// ```
-/// # use jeerdurian::caches::{FileDevice, PageCache};
-/// # let file = std::io::Cursor::new(*b"zeroone.two.");
-/// # let mut cache = PageCache::new(FileDevice::<_, 4>::new(file, 3), 2);
-/// assert_eq!(cache.write(1, *b"uno."), Ok(()));
-/// let device = match cache.close() {
-///     Ok(device) => device,
-///     Err(unclosed) => {
-///         println!("{}", unclosed.error);
-///         unclosed.cache.discard()
-///     }
-/// };
-/// assert_eq!(device.len(), 3);
-/// ```
-pub struct Unclosed<B: Copy, D: BlockDevice<B>, S = RandomState> {
-    /// The cache, with the same pages.
-    pub cache: PageCache<B, D, S>,
-    /// Why the flush failed.
-    pub error: PageError<D::Error>,
 }
