@@ -15,10 +15,6 @@ use Rattle.lru_model.proofs.CallerLemmas.{no_pair, without_none}
 use Rattle.lru_tenants.specs.TenantRuns.{Opens}
 use Rattle.lru_tenants.specs.declared.error.TenantError.TheVariants.{AlreadyOpen, Memory, OverTotal}
 
-pub absent-from : {X : Type 0} (found : Option X) → is_some found ≡ false → found ≡ None
-absent-from None absent = refl
-absent-from (Some x) absent = absurd (true≢false absent)
-
 pub found-all : {K X : Type 0} (P : X → Type 0) (test : K → Bool) (entries : List (K × X)) (x : X)
     → lookup test entries ≡ Some x → All P (values_of entries) → P x
 found-all P test entries x found all = subst (λ o. IfSome o P) found (IfSome-lookup_from_All P test entries all)

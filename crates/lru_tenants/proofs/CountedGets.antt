@@ -1,6 +1,7 @@
 use Rattle.std.proofs.Common.{◌≡◌, Bool, true, false, List, Option, Some, None, Ok, is_some, refl, sym, ap, ◌∙◌}
 use Rattle.std.proofs.lemmas.Bool.{true≢false}
 use Rattle.std.specs.Option.{option_map}
+use Rattle.lru_caches.proofs.Outcomes.{none_there}
 use Rattle.lru_caches.specs.Counted.{looked_up}
 use Rattle.lru_model.specs.Calls.{promoted}
 use Rattle.lru_model.specs.Lists.{first, lookup}
@@ -12,11 +13,7 @@ use Rattle.lru_tenants.specs.declared.counting.Counting.{Counting}
 
 pub absent-newest : {K V : Type 0} (names : K → Bool) (xs : List (K × V)) (there : Bool)
     → there ≡ is_some (lookup names xs) → there ≡ false → lookup names xs ≡ None
-absent-newest {K} {V} names xs there is gone = go (lookup names xs) (sym is ∙ gone)
-  where
-    go : (o : Option V) → is_some o ≡ false → o ≡ None
-    go None e = refl
-    go (Some v) e = absurd (true≢false e)
+absent-newest names xs there is gone = none_there (lookup names xs) (sym is ∙ gone)
 
 module _ {K V L S : Type 0} (names : K → Bool) (own new : State K V (Counting L) S) where
   pub found-newest : (there : Bool) → there ≡ is_some (lookup names own.pairs) → there ≡ true

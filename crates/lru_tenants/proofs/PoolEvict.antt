@@ -1,9 +1,9 @@
-use Rattle.std.proofs.Common.{◌≡◌, ◌≤◌, ◌<◌, ◌+◌, ℕ, zero, suc, Bool, true, List, [], ◌∷◌, Option, Some, None, length}
+use Rattle.std.proofs.Common.{◌≡◌, ◌≤◌, ◌<◌, ◌+◌, ℕ, zero, suc, Bool, true, List, [], ◌∷◌, Some, length}
 use Rattle.std.proofs.Common.{refl, sym, ap, ◌∙◌, arith, sum_by, nat_eq}
 use Rattle.std.specs.Borrow.{Bor}
 use Rattle.std.specs.Cmp.{IsEquivalence}
 use Rattle.std.specs.Fn.{Mut}
-use Rattle.std.specs.Prelude.{Contains, OnSome}
+use Rattle.std.specs.Prelude.{Contains}
 use Rattle.std.specs.List.{All, IsDistinct}
 use Rattle.std.specs.Map.{keys_of, lookup, set_value, values_of}
 use Rattle.std.proofs.lemmas.Bool.{eqb-true}
@@ -19,10 +19,6 @@ use Rattle.lru_tenants.proofs.Changes.{found-all}
 use Rattle.lru_tenants.proofs.Pools.{some-above}
 use Rattle.lru_tenants.specs.Cache.{IsTenant}
 use Rattle.lru_tenants.specs.Pool.{Part, cost, excess, total_cost, total_share, with_map, IsPart, Evicts}
-
-pub OnSome-some : {X P : Type 0} (o : Option X) (x : X) → o ≡ Some x → OnSome o P → P
-OnSome-some None x is h = absurd (cc)
-OnSome-some (Some y) x is h = h
 
 -- a search by a hash finds the value of the key of the pair that it returns
 pub given-found : {K V F : Type 0} {eq : K → K → Bool} {hash_of : K → ℕ} {all : List (K × V)} {hash : ℕ}

@@ -25,10 +25,6 @@ at_is a b = elim (cases_order a b) [
   | inr (inr more) ↦ rw (le-ltb a b (omega (arith, more)), ne_eqb a b (λ e. omega (arith, e, more))) refl
 ]
 
-pub some_is : {A : Type 0} (o : Option A) → is_some o ≡ true → (x : A) × (o ≡ Some x)
-some_is None e = absurd cc
-some_is (Some x) e = (x, refl)
-
 pub none_is : {A : Type 0} (o : Option A) → is_some o ≡ false → o ≡ None
 none_is None e = refl
 none_is (Some x) e = absurd cc

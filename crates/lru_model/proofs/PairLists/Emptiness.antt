@@ -21,7 +21,3 @@ module _ {X : Type 0} where
       go : (y : X) (ys : List X) → (z : X) × (last (y ∷ ys) ≡ Some z) × (0 < length (y ∷ ys))
       go y [] = (y, refl, omega arith)
       go y (z ∷ zs) = let on = go z zs in (on.0, on.1, omega arith)
-
-pub last-length : {X : Type 0} (xs : List X) (x : X) → last xs ≡ Some x → 0 < length xs
-last-length [] x e = absurd (grind (arith, e))
-last-length (y ∷ ys) x e = omega arith

@@ -1,5 +1,5 @@
 use Rattle.std.proofs.Common.{◌≡◌, Bool, Result, Ok, Err, arith}
-use Rattle.std.specs.Prelude.{IsOk, IsErr, IfOk, OnOk, OnErr}
+use Rattle.std.specs.Prelude.{IsOk, IsErr, OnErr}
 use Rattle.std.specs.declared.alloc.AllocError.{AllocError}
 use Rattle.lru_model.specs.Place.{placed, refused, no_memory}
 
@@ -15,15 +15,6 @@ refused-not_placed e = absurd (grind arith)
 pub ok-not_err : {A : Type 0} (result : Result Bool AllocError) → IsOk result → IsErr result → A
 ok-not_err (Ok b) h k = absurd (grind (arith, k))
 ok-not_err (Err e) h k = absurd (grind (arith, h))
-
-pub if_ok : {T E : Type 0} (result : Result T E) (P Q : T → Type 0) → ((v : T) → P v → Q v) → IfOk result P
-    → IfOk result Q
-if_ok (Ok v) P Q more h = more v h
-if_ok (Err e) P Q more h = h
-
-pub on_ok : {T E P Q : Type 0} (result : Result T E) → (P → Q) → OnOk result P → OnOk result Q
-on_ok (Ok v) more h = more h
-on_ok (Err e) more h = h
 
 pub on_err : {T E P : Type 0} (result : Result T E) → P → OnErr result P
 on_err (Ok v) h = tt

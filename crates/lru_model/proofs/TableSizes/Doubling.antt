@@ -1,5 +1,5 @@
 use Rattle.std.proofs.Common.{◌≡◌, ℕ, zero, suc, ◌+◌, ◌*◌, ◌/◌, ◌^◌, ◌<◌, ◌≤◌, ◌⊎◌, Bool, true, false, cond, Option}
-use Rattle.std.proofs.Common.{Some, None, refl, sym, ◌∙◌, arith, inl, inr, pow-add}
+use Rattle.std.proofs.Common.{Some, None, refl, sym, ap, ◌∙◌, arith, inl, inr, pow-add}
 use native.Mathlib.Decide.{dec_lt}
 use Rattle.std.specs.Prelude.{nat_lt, nat_le, ◌==◌}
 use Rattle.std.proofs.lemmas.Bool.Decides.{nat_tests}
@@ -8,8 +8,12 @@ use Rattle.group_table.specs.Sizes.{full_capacity, least_power, below, buckets_f
 use Rattle.group_table.proofs.PowerLemmas.{first_power_upper, power_gap}
 use Rattle.group_table.proofs.SizeLemmas.{full_capacity-large, power_pos}
 use Rattle.lru_model.specs.Sizes.{same_table, new_table, table_with, target_from, target}
-use Rattle.lru_model.proofs.TableSizes.Growth.{full_capacity-at_most, sizes_of, least_power_shape, buckets_double}
-use Rattle.lru_model.proofs.TableSizes.Growth.{table_with_is}
+use Rattle.lru_model.proofs.TableSizes.Growth.{full_capacity-at_most, full_capacity-eighths, sizes_of, least_power_shape, buckets_double}
+use Rattle.lru_model.proofs.TableSizes.Growth.{table_with_is, full_capacity-4}
+
+full_capacity-8 : full_capacity 8 ≡ 7
+unfolding full_capacity
+full_capacity-8 = refl
 
 pub least_power_upper : (n : ℕ) → 0 < n → least_power n < 2 * n
 unfolding least_power
@@ -127,41 +131,70 @@ target_small k max e b c n bytes size f = from (buckets_for max c) refl
         split false true h = absurd (grind arith)
         split false false h = double_small k b c max n size f (table_with_is e n bytes _ h).0
 
-pub half_needs : (k max b c : ℕ) → b ≡ 4 * 2 ^ k → b < max → b < 2 ^ 63 → c ≤ full_capacity b / 2 → (need : ℕ)
+-- if the table of b buckets is large enough for c pairs, a reservation for c pairs needs at most b buckets
+pub fit_needs : (k max b c : ℕ) → b ≡ 4 * 2 ^ k → b < max → 8 * c < 2 ^ 64 → c ≤ full_capacity b → (need : ℕ)
     × (buckets_for max c ≡ Some need) × (need ≤ b)
 unfolding buckets_for
-half_needs k max b c size reached addressable half =
+fit_needs k max b c size reached short fits =
     pick (c == 0) (nat_lt c 4) (nat_lt c 8) (nat_lt (8 * c) (2 ^ 64)) (λ e. grind (arith, nat_tests))
     (λ e. grind (arith, nat_tests)) (λ e. grind (arith, nat_tests))
   where
-    four : 4 ≤ b
-    four = power_pos b (k, size)
-
-    most : full_capacity b ≤ b
-    most = full_capacity-at_most b
-
-    eighths : 8 < b → full_capacity b ≡ b / 8 * 7
-    eighths = full_capacity-large b
-
     within : (m : ℕ) → m ≤ b → below max m ≡ Some m
     within m h = let l : m < max = omega arith in grind (arith, nat_tests)
 
-    gap : 2 * 2 ^ (k + 2) ≤ 2 ^ 63
-    gap = power_gap (k + 2) 63 (omega (arith, size, addressable, pow-add 2 k 2))
+    eight : 4 ≤ c → 8 ≤ b
+    eight h = go (sizes_of k b size)
+      where
+        go : (b ≡ 4) ⊎ ((b ≡ 8) ⊎ (16 ≤ b)) → 8 ≤ b
+        go (inl e) = absurd (omega (arith, h, fits, ap full_capacity e, full_capacity-4))
+        go (inr (inl e)) = omega (arith, e)
+        go (inr (inr l)) = omega (arith, l)
+
+    eighths : 8 ≤ c → (8 < b) × (b / 8 * 8 ≡ b)
+    eighths h = go k size (sizes_of k b size)
+      where
+        go : (k : ℕ) → b ≡ 4 * 2 ^ k → (b ≡ 4) ⊎ ((b ≡ 8) ⊎ (16 ≤ b)) → (8 < b) × (b / 8 * 8 ≡ b)
+        go k size (inl e) = absurd (omega (arith, h, fits, e, full_capacity-at_most b))
+        go k size (inr (inl e)) = absurd (omega (arith, h, fits, ap full_capacity e, full_capacity-8))
+        go zero size (inr (inr l)) = absurd (omega (arith, size, l))
+        go (suc k) size (inr (inr l)) =
+            let p : b ≡ 8 * 2 ^ k = omega (arith, size, pow-add 2 k 1) in (omega (arith, l), omega arith)
+
+    least : (m : ℕ) → 0 < m → m ≤ b → least_power m ≤ b
+    least m some few = go (least_power_shape m) (least_power_upper m some)
+      where
+        power : b ≡ 2 ^ (k + 2)
+        power = omega (arith, size, pow-add 2 k 2)
+
+        go : (j : ℕ) × (least_power m ≡ 2 ^ j) → least_power m < 2 * m → least_power m ≤ b
+        go (j, shape) upper = elim (dec_lt b (least_power m)) [
+          | yes more ↦ absurd
+              (let gap : 2 * 2 ^ (k + 2) ≤ 2 ^ j = power_gap (k + 2) j (omega (arith, power, shape, more)) in
+              omega (arith, gap, power, shape, upper, few))
+          | no few ↦ omega (arith, few)
+        ]
 
     pick : (a d e f : Bool) → (d ≡ false → 4 ≤ c) → (e ≡ false → 8 ≤ c) → (f ≡ false → 2 ^ 64 ≤ 8 * c)
         → (need : ℕ) × (cond a (Some 0)
         (cond d (below max 4) (cond e (below max 8) (cond f (below max (least_power (8 * c / 7))) None)))
         ≡ Some need) × (need ≤ b)
     pick true d e f p q r = (0, refl, omega arith)
-    pick false true e f p q r = (4, within 4 four, four)
-    pick false false true f p q r = let l : 8 ≤ b = omega (arith, p refl, most, half) in (8, within 8 l, l)
+    pick false true e f p q r = (4, within 4 (power_pos b (k, size)), power_pos b (k, size))
+    pick false false true f p q r = let l = eight (p refl) in (8, within 8 l, l)
     pick false false false true p q r =
-        let l : 8 ≤ c = q refl in let u = least_power_upper (8 * c / 7) (omega arith) in
-        let m : least_power (8 * c / 7) ≤ b = omega (arith, u, half, eighths (omega (arith, l, most, half))) in
-        (least_power (8 * c / 7), within _ m, m)
-    pick false false false false p q r = absurd
-        (omega (arith, r refl, half, eighths (omega (arith, q refl, most, half)), gap, size, pow-add 2 k 2))
+        let s = eighths (q refl) in
+        let few = least (8 * c / 7) (omega (arith, q refl)) (omega (arith, fits, full_capacity-large b s.0, s.1)) in
+        (least_power (8 * c / 7), within (least_power (8 * c / 7)) few, few)
+    pick false false false false p q r = absurd (omega (arith, r refl, short))
+
+pub half_needs : (k max b c : ℕ) → b ≡ 4 * 2 ^ k → b < max → b < 2 ^ 63 → c ≤ full_capacity b / 2 → (need : ℕ)
+    × (buckets_for max c ≡ Some need) × (need ≤ b)
+half_needs k max b c size reached addressable half =
+    fit_needs k max b c size reached
+    (omega (arith, half, full_capacity-eighths b, gap, size, pow-add 2 k 2)) (omega (arith, half))
+  where
+    gap : 2 * 2 ^ (k + 2) ≤ 2 ^ 63
+    gap = power_gap (k + 2) 63 (omega (arith, size, addressable, pow-add 2 k 2))
 
 pub target_keeps : (k max e b c : ℕ) → b ≡ 4 * 2 ^ k → b < max → b < 2 ^ 63 → c ≤ full_capacity b / 2
     → target max e b c ≡ same_table

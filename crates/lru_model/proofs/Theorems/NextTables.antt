@@ -44,7 +44,7 @@ module _ {K V S H : Type 0} (st : State K V S H) (ok : IsSized st) (some : 0 < s
           let usable = target_usage st.max st.entry_bytes (buckets st) (length st.pairs + 1) count bytes e in
           let takes = target_takes st.max st.entry_bytes (buckets st) (length st.pairs + 1) count bytes larger e in
           has_target_of_fit power.0 st.max st.entry_bytes count bytes power.1 reached usable
-          (few_buckets power.0 st.entry_bytes count bytes power.1 some usable) (buckets st) (length st.pairs + 0)
+          (buckets st) (length st.pairs + 0) (few_buckets power.0 st.entry_bytes count bytes power.1 some usable)
           ok.table.count
           (λ p. target_doubles p.0 st.max st.entry_bytes (buckets st) (length st.pairs + 1) count bytes p.1 e)
           (omega (arith, takes))

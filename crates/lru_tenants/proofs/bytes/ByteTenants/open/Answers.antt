@@ -6,7 +6,7 @@ use Rattle.lru_model.specs.Theorems.{KeepsBytes}
 use Rattle.lru_tenants.specs.Bytes.{fresh, reserved}
 use Rattle.lru_tenants.specs.TenantRuns.{Opens}
 use Rattle.lru_tenants.specs.declared.error.TenantError.TheVariants.{Memory}
-use Rattle.lru_tenants.proofs.Changes.{absent-from}
+use Rattle.lru_caches.proofs.Outcomes.{none_there}
 use Rattle.lru_tenants.proofs.ByteChanges.{leaves-opened, not-over, on-from, on-same}
 use Rattle.lru_tenants.proofs.ByteSums.{is_within, holds-at, run-kept}
 use Rattle.lru_tenants.proofs.bytes.ByteTenants.open.Goals as goal
@@ -59,7 +59,7 @@ returns-in_default-clause-opens g c =
     (c.saturating_add-bytes.ensures ∙ ap (λ n. in_word (n + c.args.limit)) c.owned_bytes.ensures) in
     rw (c.in_default.ensures.ends.keeps, limit, c.in_default.ensures.ends.hasher, over, ← c.self.view_is)
     (on-same (Opens false _) (Err Memory) _ None
-    (absent-from (lookup (g.N.PartialEq.eq c.args.name) old.pairs) (sym c.contains.ensures ∙ c.if-contains.false))
+    (none_there (lookup (g.N.PartialEq.eq c.args.name) old.pairs) (sym c.contains.ensures ∙ c.if-contains.false))
     (inr (refl, refl)))
 
 pub returns-clause-opens : goal.returns-clause-opens
@@ -72,6 +72,6 @@ returns-clause-opens g c =
     (c.saturating_add-bytes.ensures ∙ ap (λ n. in_word (n + c.args.limit)) c.owned_bytes.ensures) in
     rw (c.in-Ok.ensures.ends.added, limit, c.in-Ok.ensures.ends.hasher, over, ← c.self.view_is)
     (on-from (Opens false _) (Ok tt) _ _ None (Some c.new-own.result)
-    (absent-from (lookup (g.N.PartialEq.eq c.args.name) old.pairs) (sym c.contains.ensures ∙ c.if-contains.false))
+    (none_there (lookup (g.N.PartialEq.eq c.args.name) old.pairs) (sym c.contains.ensures ∙ c.if-contains.false))
     (inl (refl, ap Some (c.new-own.ensures.map ∙ ap (λ h. fresh _ h c.args.limit) c.hasher.ensures)))
     (leaves-opened g.met.N.Eq.laws c.args.name c.new-own.result _ _ _ old.pairs))

@@ -7,7 +7,9 @@ use Rattle.lru_tenants.specs.Cache.{tenant, fresh, is_above}
 use Rattle.lru_tenants.specs.Inside.{Holds}
 use Rattle.lru_tenants.specs.TenantRuns.{Opens}
 use Rattle.lru_tenants.specs.declared.error.TenantError.TheVariants.{Memory, OverTotal}
-use Rattle.lru_tenants.proofs.Changes.{cache_of, leaves-same, leaves-opened, on-from, open-again, absent-from}
+use Rattle.lru_caches.proofs.Outcomes.{none_there}
+use Rattle.lru_tenants.proofs.Changes.{cache_of, leaves-same, leaves-opened, on-from, open-again}
+use Rattle.lru_caches.proofs.Outcomes.{none_there}
 use Rattle.lru_tenants.proofs.Changes.{opens-over, opens-unmade, opens-made}
 use Rattle.lru_tenants.proofs.Kept.{kept-opened, sum-fits, sum-more}
 use Rattle.lru_tenants.proofs.cache.TenantCache.open.Goals as goal
@@ -28,7 +30,7 @@ pub returns-then-is_above-clause-opens : goal.returns-then-is_above-clause-opens
 returns-then-is_above-clause-opens g c =
     let cache = cache_of c.self.inside.tenants.pairs c.self.inside.hasher c.self.inside.total_limit in
     let eq = g.N.PartialEq.eq c.args.name in
-    let absent = absent-from (tenant eq cache) (sym c.contains.ensures ∙ c.if-contains.false) in
+    let absent = none_there (tenant eq cache) (sym c.contains.ensures ∙ c.if-contains.false) in
     let over = ap (is_above c.self.inside.total_limit)
     (sym (sum-more c.self.inside.tenants.pairs c.self.invariant eq absent c.self.inside.hasher c.args.budget))
     ∙ sym c.is_above.ensures ∙ c.if-is_above.true in
@@ -62,7 +64,7 @@ pub returns-clause-opens : goal.returns-clause-opens
 returns-clause-opens g c =
     let cache = cache_of c.self.inside.tenants.pairs c.self.inside.hasher c.self.inside.total_limit in
     let eq = g.N.PartialEq.eq c.args.name in
-    let absent = absent-from (tenant eq cache) (sym c.contains.ensures ∙ c.if-contains.false) in
+    let absent = none_there (tenant eq cache) (sym c.contains.ensures ∙ c.if-contains.false) in
     let over = ap (is_above c.self.inside.total_limit)
     (sym (sum-more c.self.inside.tenants.pairs c.self.invariant eq absent c.self.inside.hasher c.args.budget))
     ∙ sym c.is_above.ensures ∙ c.if-is_above.false in
@@ -81,7 +83,7 @@ pub returns-in_default : goal.returns-in_default
 returns-in_default g c =
     let cache = cache_of c.self.inside.tenants.pairs c.self.inside.hasher c.self.inside.total_limit in
     let eq = g.N.PartialEq.eq c.args.name in
-    let absent = absent-from (tenant eq cache) (sym c.contains.ensures ∙ c.if-contains.false) in
+    let absent = none_there (tenant eq cache) (sym c.contains.ensures ∙ c.if-contains.false) in
     let over = ap (is_above c.self.inside.total_limit)
     (sym (sum-more c.self.inside.tenants.pairs c.self.invariant eq absent c.self.inside.hasher c.args.budget))
     ∙ sym c.is_above.ensures ∙ c.if-is_above.false in

@@ -3,7 +3,8 @@ use Rattle.lru_tenants.specs.Inside.{HoldsPool}
 use Rattle.lru_tenants.specs.Pool.{part, is_over}
 use Rattle.lru_tenants.specs.TenantRuns.{Opens}
 use Rattle.lru_tenants.specs.declared.error.TenantError.TheVariants.{Memory}
-use Rattle.lru_tenants.proofs.Changes.{absent-from, opens-unmade, opens-made}
+use Rattle.lru_caches.proofs.Outcomes.{none_there}
+use Rattle.lru_tenants.proofs.Changes.{opens-unmade, opens-made}
 use Rattle.lru_tenants.proofs.PoolKept.{pool_of, pool-opened, is_pool, not-over, leaves-opened, on-from, on-same}
 use Rattle.lru_tenants.proofs.pool.TenantPool.open.Goals as goal
 
@@ -29,7 +30,7 @@ returns-clause-opens g c =
     let ps = c.self.inside.tenants.pairs in
     let pool = pool_of ps c.self.inside.limit c.self.inside.hasher in
     let eq = g.N.PartialEq.eq c.args.name in
-    let absent = absent-from (part eq pool) (sym c.contains.ensures ∙ c.if-contains.false) in
+    let absent = none_there (part eq pool) (sym c.contains.ensures ∙ c.if-contains.false) in
     let over = not-over ps c.self.invariant c.args.share (omega (arith, c.if-share-left.false, c.self.invariant.enough)) in
     let own = c.opened-own.result in
     rw (c.in-Ok.ensures.ends.added, ← c.self.view_is) (on-from (Opens (is_over pool c.args.share) _) (Ok tt) pool
@@ -43,7 +44,7 @@ returns-in_default-clause-opens g c =
     let ps = c.self.inside.tenants.pairs in
     let pool = pool_of ps c.self.inside.limit c.self.inside.hasher in
     let eq = g.N.PartialEq.eq c.args.name in
-    let absent = absent-from (part eq pool) (sym c.contains.ensures ∙ c.if-contains.false) in
+    let absent = none_there (part eq pool) (sym c.contains.ensures ∙ c.if-contains.false) in
     let over = not-over ps c.self.invariant c.args.share (omega (arith, c.if-share-left.false, c.self.invariant.enough)) in
     rw (c.in_default.ensures.ends.keeps, ← c.self.view_is) (on-same (Opens (is_over pool c.args.share) _) (Err Memory)
     pool None absent (opens-unmade _ over refl))

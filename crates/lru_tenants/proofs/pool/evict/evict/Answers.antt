@@ -6,7 +6,8 @@ use Rattle.std.specs.Map.{values_of}
 use Rattle.std.specs.Option.{option_copied_mut}
 use Rattle.lru_model.proofs.Theorems.KeySearches.{given-passes, none-fails}
 use Rattle.lru_tenants.proofs.Changes.{found-all}
-use Rattle.lru_tenants.proofs.PoolEvict.{OnSome-some, is-above, evicted, evict-frees, evict-fewer, evict-shares}
+use Rattle.lru_caches.proofs.Outcomes.{on_some}
+use Rattle.lru_tenants.proofs.PoolEvict.{is-above, evicted, evict-frees, evict-fewer, evict-shares}
 use Rattle.lru_tenants.proofs.PoolEvict.{evict-each, given-found}
 use Rattle.lru_tenants.proofs.Pools.{some-above}
 use Rattle.lru_tenants.specs.Cache.{IsTenant}
@@ -25,7 +26,7 @@ returns-in_err-own g c =
 pub drop_oldest-requires-clause-above : goal.drop_oldest-requires-clause-above
 drop_oldest-requires-clause-above g c =
     let own = c.in_ok-own.own.now in let most = c.furthest-most.result.0 in
-    let (pair, given, is, left) = OnSome-some _ _ c.in_ok-own.was (c.peek_by_hash_mut.follows.holds own) in
+    let (pair, given, is, left) = on_some _ _ c.in_ok-own.was (c.peek_by_hash_mut.follows.holds own) in
     let same : own ≡ pair.1 = ap (λ o. unwrap_or o own) (sym (ap option_copied_mut c.in_ok-own.was) ∙ is) in
     is-above g.L.Summing.account g.N.PartialEq.eq c.args.tenants.now.pairs most c.furthest-most.ensures.most c.requires.above pair own
     (given-found g.met.N.Eq.laws c.len-len.ensures.map.distinct pair given) same
@@ -34,7 +35,7 @@ drop_oldest-requires-clause-above g c =
 pub drop_oldest-requires-clause-tenant : goal.drop_oldest-requires-clause-tenant
 drop_oldest-requires-clause-tenant g c =
     let own = c.in_ok-own.own.now in
-    let (pair, given, is, left) = OnSome-some _ _ c.in_ok-own.was (c.peek_by_hash_mut.follows.holds own) in
+    let (pair, given, is, left) = on_some _ _ c.in_ok-own.was (c.peek_by_hash_mut.follows.holds own) in
     let same : own ≡ pair.1 = ap (λ o. unwrap_or o own) (sym (ap option_copied_mut c.in_ok-own.was) ∙ is) in
     found-all (λ own. IsTenant g.K.PartialEq.eq g.L.Summing.cost_of g.L.Summing.account g.L.Budgeted.budget_of own.1)
     (g.N.PartialEq.eq pair.0) c.args.tenants.now.pairs own
@@ -44,7 +45,7 @@ pub returns : goal.returns
 returns g c =
     let own = c.in_ok-own.own.now in let next = c.drop_oldest.new.own in
     let most = c.furthest-most.result.0 in let old = c.args.tenants.now.pairs in
-    let (pair, given, is, left) = OnSome-some _ _ c.in_ok-own.was (c.peek_by_hash_mut.follows.holds next) in
+    let (pair, given, is, left) = on_some _ _ c.in_ok-own.was (c.peek_by_hash_mut.follows.holds next) in
     let same : own ≡ pair.1 = ap (λ o. unwrap_or o own) (sym (ap option_copied_mut c.in_ok-own.was) ∙ is) in
     let there = given-found g.met.N.Eq.laws c.len-len.ensures.map.distinct pair given in
     let passes = given-passes (λ p. nat_eq (excess g.L.Summing.account p.1) most) (λ k v r h called. search rules)
