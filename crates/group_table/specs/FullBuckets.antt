@@ -5,8 +5,8 @@ use Rattle.group_table.specs.Control.{buckets_of, IsCircle}
 use Rattle.group_table.specs.Lanes.{HasLane}
 use Rattle.group_table.specs.declared.full_buckets.FullBuckets.{FullBuckets}
 
--- The lanes of the walk are the full buckets of the walk's group, except buckets before `from`. No bucket between
--- `from` and the group is full.
+-- The mask `walk.lanes` has a bit for each full bucket of the walk's group, except buckets before `from`. No bucket
+-- between `from` and the group is full.
 pub record IsAhead (control : List ℕ) (walk : FullBuckets) (from : ℕ) : Type 0 where
   pub circle : IsCircle control
   pub within : from ≤ buckets_of control

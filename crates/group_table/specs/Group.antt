@@ -42,8 +42,8 @@ module _ {T : Type 0} (slots : List (Slot T)) where
       → bucket_at (bucket_states slots) ((start + lane) % length slots) ≢ empty
 
 module _ {T F : Type 0} (closure : Mut F (Bor T × Unit {0}) Bool) (slots : List (Slot T)) (tag start : ℕ) (f : F) where
-  -- The closure f was called with the entries that have the tag, in the order of the lanes. The closure accepted the
-  -- entry in bucket b, and rejected each entry before bucket b.
+  -- f was called with the entries that have the tag, in the order of the lanes, up to the entry in bucket b. f accepted
+  -- this entry, and rejected each earlier entry.
   pub record AcceptsIn (b : ℕ) (g : F) : Type 0 where
     pub lanes : ℕ
     pub in_group : lanes ≤ width slots

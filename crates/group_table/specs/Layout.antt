@@ -16,7 +16,6 @@ module _ {T : Type 0} where
   slot_of byte (Some entry) = full (record { tag = byte; entry = entry })
   slot_of byte None = if nat_eq byte deleted_byte then deleted else empty
 
-  -- the buckets with these control bytes and entries
   abbrev pub slots_of : List ℕ → List (Option T) → List (Slot T)
   slots_of bytes [] = []
   slots_of [] (entry ∷ entries) = []

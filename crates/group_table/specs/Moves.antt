@@ -4,7 +4,6 @@ use Rattle.group_table.specs.Bucket.{Slot, empty, bucket_at, bucket_states}
 use Rattle.group_table.specs.Probe.{filled, Reaches}
 
 module _ {T : Type 0} where
-  -- the entry in place b, or `None` if the place has no entry
   abbrev pub place_at : List (Option T) → ℕ → Option T
   place_at places b = slice_index_or places b None
 

@@ -6,7 +6,7 @@ use Rattle.group_table.specs.Bucket.{Slot, BucketState, empty, full, bucket_at, 
 abbrev pub hash_tag : ℕ → ℕ
 hash_tag hash = hash / 2 ^ 57
 
--- a full bucket with this entry, and the tag of this hash
+-- a full bucket with this entry and the tag of this hash
 abbrev pub filled : {T : Type 0} → ℕ → T → Slot T
 filled hash entry = full (record { tag = hash_tag hash; entry = entry })
 

@@ -25,7 +25,6 @@ impl FullBuckets {
         }
     }
 
-    // Returns the next full bucket, or the number of buckets if there is none.
     #[inline]
     pub(crate) fn next(&mut self, control: &Control) -> usize
         requires { (from : ℕ) × IsAhead control.now self.old from }

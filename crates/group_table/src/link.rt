@@ -2,12 +2,12 @@
 ghost use Rattle.std.specs.Prelude.{◌≡◌, ◌<◌, ℕ};
 ghost use Rattle.group_table.specs.Link.{IsLinkType};
 
-/// The type of a link. A link is the number of a bucket, or `MAX`, which means no bucket.
+/// The type of a link: the number of a bucket, or `MAX`, which means no bucket.
 ///
 /// A table with links of type `N` has fewer than `N::MAX` buckets, so the width of the links limits the size of the
 /// table. The trait is implemented for `u8`, `u16`, `u32` and `usize`.
 pub trait LinkType: Copy {
-    /// The link that means no bucket: its number is greater than the number of every bucket.
+    /// The link that means no bucket. The number of `MAX` is greater than the number of every bucket.
     const MAX: Self;
 
     /// `MAX`, as contracts see it.
@@ -16,10 +16,10 @@ pub trait LinkType: Copy {
     /// The number of a link.
     ghost number: { Self → ℕ };
 
-    /// The link with this number, if the number is less than the number of `MAX`.
+    /// The link with the number n, if n is below the number of `MAX`.
     ghost link: { ℕ → Self };
 
-    /// Returns the link with this number. No bits are lost.
+    /// Returns the link with this number. `value` must be below the number of `MAX`.
     fn from_usize(value: usize) -> Self
         requires { value < number MAX }
         ensures { result ≡ link value };

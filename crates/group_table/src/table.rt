@@ -1,4 +1,4 @@
-//! Contracts describe a table by its `slots`, one for each bucket, and the counts of its `insertions`.
+//! Contracts describe a table by its `slots` (one for each bucket) and the counts of its `insertions`.
 ghost use Rattle.std.specs.Prelude.{◌≡◌, ℕ, ◌+◌, ◌^◌, ◌<◌, ◌≤◌, [], length, replicate, Some, IfSome, IfNone};
 ghost use Rattle.std.specs.Prelude.{IfOk, IfErr, OnErr, IsOk, nat_eq};
 ghost use Rattle.std.specs.Borrow.{sem};
@@ -229,8 +229,8 @@ impl<T> Table<T> {
     ///
     /// # Errors
     ///
-    /// Returns the entry, and changes nothing, if there are no buckets, or if no growth is left and the first free
-    /// bucket is empty.
+    /// There are no buckets, or no growth is left and the first free bucket is empty. Returns the entry. Nothing has
+    /// changed.
     #[inline(always)]
     pub fn try_place(&mut self, hash: u64, entry: T) -> Result<usize, T>
         ensures placed { IfOk result (Places self.old self.new hash entry) }

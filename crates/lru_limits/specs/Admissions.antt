@@ -2,7 +2,7 @@
 --     `Terms K V S`: which entries the limiter accepts, and the limiter after an offer.
 --     `offers_of terms`: the offers of a limiter that stores an entry unchanged if the terms accept the entry.
 --     `never_changes admits`: the terms of a limiter that never changes, and accepts each new value of a stored key.
---     `offers_of-lawful`: the laws of `Insertion`.
+--     `offers_of-lawful`: these offers satisfy the laws of `Insertion`.
 use Rattle.std.specs.Prelude.{ℕ, Bool, true}
 use Rattle.std.specs.Cmp.{IsEquivalence}
 use Rattle.lru_limits.specs.Rules.{Offers}

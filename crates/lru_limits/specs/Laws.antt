@@ -12,7 +12,7 @@ pub record IsLookup {Q K : Type 0} (names : Q → K → Bool) (eq : K → K → 
     (key_input : K → List (List ℕ)) : Type 0 where
   -- if a query names a key, the query and the key write the same bytes to a hasher
   pub writes : (q : Q) (k : K) → IsTrue (names q k) → query_input q ≡ key_input k
-  -- a query that names a key x names exactly the keys that equal x
+  -- if a query names a key x, the query names exactly the keys that equal x
   pub one : (q : Q) (x y : K) → IsTrue (names q x) → names q y ≡ eq x y
 
 pub record IsInsertion {K V S I : Type 0} (names : I → K → Bool) (eq : K → K → Bool)

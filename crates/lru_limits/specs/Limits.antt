@@ -2,7 +2,8 @@
 --     `IsFixed rules offers number`: no callback changes the `number` of the limiter.
 --     `LimitsLength rules offers most`: a map that is not over the limit has at most `most` entries.
 --     `LimitsMemory rules offers most`: a table that the limiter permits has at most `most` bytes.
---     `length-limits`, `memory-limits`: `ByLength` and `ByMemoryUsage` satisfy these laws.
+--     `length-limits`, `memory-limits`: `ByLength` satisfies `LimitsLength`, and `ByMemoryUsage` satisfies
+--         `LimitsMemory`.
 --     `storing-length`, `storing-memory`: if a limiter satisfies the law, `Storing` of this limiter satisfies the law,
 --         too.
 --     `both-first_length`, ..: if the first (or the second) limiter satisfies the law, `Both` satisfies the law, too.
@@ -74,7 +75,6 @@ module _ {K V S I : Type 0} {rules : Rules K V S} {offers : Offers K V S I} {mos
   pub storing-memory : LimitsMemory rules offers most → LimitsMemory (stored rules) all_offers (λ s. most s.0)
   storing-memory limits = record { fixed = storing-fixed limits.fixed; within = λ s bytes. limits.within s.0 bytes }
 
--- if no callback changes the `number` of the limiter, `admit` and `admit_in_place` do not change it
 module _ {K V S : Type 0} {rules : Rules K V S} {terms : Terms K V S} {number : S → ℕ}
     (fixed : IsFixed rules (offers_of terms) number) where
   admit : (s : S) (n : ℕ) (k : K) (v : V) → number (terms.admit s n k v) ≡ number s

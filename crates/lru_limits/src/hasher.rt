@@ -116,7 +116,6 @@ impl Model for DefaultHasher {
     ghost view = { λ h. record { state = h.state; word_key = h.word_key; rest_key = h.rest_key } };
 }
 
-// Returns the xor of the two 64-bit halves of a product.
 #[inline]
 const fn folded(a: u64, b: u64) -> u64
     ensures { result ≡ folded a b }

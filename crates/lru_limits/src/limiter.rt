@@ -78,8 +78,8 @@ pub trait Insertion<K: Eq + Hash, V, I: LookupKey<K>>: Limiter<K, V> {
     ghost offers: { Offers K V Self I };
 
     /// Called by an insert with a new key and its value, before the insert evicts anything. The map has `length`
-    /// entries. Returns the entry to store, or `None` if the limiter rejects it. If it is rejected, the map's entries
-    /// do not change.
+    /// entries. Returns the entry to store, or `None` to reject the offered entry. After a rejection, the map's entries
+    /// are unchanged.
     ///
     /// # Errors
     ///
@@ -118,6 +118,7 @@ pub trait Insertion<K: Eq + Hash, V, I: LookupKey<K>>: Limiter<K, V> {
         ensures new_value { new_value.new ≡
             (offers.on_replace self.old length old_key.old new_key old_value.old new_value.old).new_value };
 
-    /// States that the offered key names the key of the entry to store, and that a replacement leaves an equal key.
+    /// States that the offered key names the key of the entry to store, and that `on_replace` leaves a key equal to
+    /// `old_key`.
     ghost laws: { IsInsertion I.names K.eq offers };
 }

@@ -1,5 +1,5 @@
--- How an insert changes a list of pairs and a limiter. If no allocation fails, the list, the limiter, the result of
--- `on_insert` and the report of the table determine how the insert ends.
+-- How an insert changes a list of pairs and a limiter. If no allocation fails, the outcome of the insert depends only
+-- on its arguments, the list, the limiter, the result of `on_insert` and the report of the table.
 use Rattle.std.specs.Prelude.{◌≡◌, ◌≢◌, ℕ, ◌+◌, ◌-◌, ◌/◌, ◌<◌, ◌≤◌, nat_lt, nat_le, Bool, true, false, not}
 use Rattle.std.specs.Prelude.{if◌then◌else◌, ◌∷◌, length, Option, Some, None, MatchOption, Result, Ok, IsErr}
 use Rattle.std.specs.declared.alloc.AllocError.{AllocError}
@@ -11,7 +11,7 @@ use Rattle.lru_model.specs.State.{State, buckets, growth_left, Contents, content
 use Rattle.lru_model.specs.Place.{table_for, IsOutgrown}
 use Rattle.lru_model.specs.Inserts.{make_room, replacement, with_replaced, with_removed, MayGive}
 
--- what the table reports when a pair is inserted into the table
+-- what the table reports when a pair is inserted
 pub record Report : Type 0 where
   -- the bytes of the larger table for which the limiter was queried, or `None` if the limiter was not queried
   pub asked : Option ℕ
@@ -31,8 +31,7 @@ module _ {K V S : Type 0} (rules : Rules K V S) where
   abbrev pub refusal : Option ℕ → ℕ → Contents K V S → Report
   refusal asked n c = record { asked = asked; evicted = n; has_bucket = not (is_empty c.pairs) }
 
-  -- What a table reports, for each `Target` into which the table may grow. If the growth is refused, the n oldest pairs
-  -- of c are evicted.
+  -- what a table reports, for each `Target` into which the table may grow
   abbrev pub report_of : Target → ℕ → Contents K V S → Report
   report_of no_table n c = refusal None n c
   report_of same_table n c = at_once
@@ -42,8 +41,8 @@ module _ {K V S : Type 0} (rules : Rules K V S) where
 
   -- what the table of a map may report for a pair with this hash
   pub data MayReport {H : Type 0} (hash : ℕ) (st : State K V S H) (report : Report) : Type 0 where
-    -- A bucket takes the pair at once. Either growth is left, or a rehash is enough, or a deleted bucket of a table of
-    -- more than 16 buckets may take the pair.
+    -- The limiter is not queried, and no pair is evicted. Either growth is left, or a rehash is enough, or a deleted
+    -- bucket of a table of more than 16 buckets may take the pair.
     fits : (growth_left st ≡ 0 → full_capacity (buckets st) / 2 < length st.pairs + 1 → 16 < buckets st) →
         report ≡ at_once →
         MayReport hash st report
@@ -139,7 +138,7 @@ module _ {K V S I : Type 0} (rules : Rules K V S) (offers : Offers K V S I) (nam
     InsertsInSmallTable i v = InsertsGiven (λ s pair. small_report rules old
         (make_room rules (record { pairs = old.pairs; limiter = s }))) i v (contents old)
 
--- the limiter and the arguments determine the result of `on_insert`, and the limiter after it
+-- the limiter and the arguments determine what `on_insert` returns, and the limiter after the call
 abbrev pub IsDetermined : {K V S I : Type 0} → Offers K V S I → Type 0
 IsDetermined {K} {V} {S} {I} offers = (s : S) (n : ℕ) (i : I) (v : V) (t u : S) (given other : Option (K × V)) →
     offers.on_insert s n i v t given → offers.on_insert s n i v u other → (t ≡ u) × (given ≡ other)

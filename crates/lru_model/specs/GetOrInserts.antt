@@ -30,8 +30,8 @@ module _ {K V S H I : Type 0} (rules : Rules K V S) (offers : Offers K V S I) (n
   IsOutOfMemoryFor makes i old new = (v : V) × makes v × IsOutOfMemory rules offers names hash_of i v old new
 
 module _ {K V S H E : Type 0} (rules : Rules K V S) where
-  -- If the result is true, the pair of the key is the newest. If the key was also inserted, the limiter is not over its
-  -- limit. If the result is false or an error, the map does not contain the key.
+  -- If the result is true, the pair of the key is the newest. If the result is true and the key was new, the limiter is
+  -- not over its limit. If the result is false or an error, the map does not contain the key.
   abbrev pub SaysNewest : (K → Bool) → State K V S H → Result Bool E → State K V S H → Type 0
   SaysNewest names old (Ok true) new = IsNewest names new.pairs
       × (lookup names old.pairs ≡ None → rules.is_over_the_limit new.limiter (length new.pairs) ≡ false)

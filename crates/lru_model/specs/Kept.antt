@@ -11,9 +11,9 @@ use Rattle.lru_model.specs.Inserts.{replacement, with_old_value, MayGive}
 use Rattle.lru_model.specs.Theorems.{Stores}
 
 module _ {K V S H I : Type 0} (rules : Rules K V S) (offers : Offers K V S I) (names : I → K → Bool) where
-  -- A value is lost only if the insert replaces or rejects the value. After the insert, each old pair, and the pair
-  -- that the limiter returned for a new key, is in the map or was passed to the callback. `passed` lists the pairs that
-  -- the callback got, in order.
+  -- A value is lost only if the insert replaces or rejects the value. After the insert, each pair is in the map or was
+  -- passed to the callback: each old pair, and the pair that the limiter returned for a new key. `passed` lists the
+  -- pairs that the callback got, in order.
   pub data LosesNothing (i : I) (v : V) (old : State K V S H) (result : Result Bool AllocError)
       (passed : List (K × V)) (new : State K V S H) : Type 0 where
     -- A pair is stored as the newest, in front of the old pairs of other keys. The oldest pairs may be evicted. If no

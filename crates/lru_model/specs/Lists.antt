@@ -1,4 +1,4 @@
--- Functions on lists, mostly of pairs, newest first.
+-- Functions on lists, mostly of pairs, newest first. The function `names` tests whether a key is the named key.
 use Rattle.std.specs.Prelude.{◌≡◌, ℕ, zero, suc, Bool, true, false, if◌then◌else◌, List, [], ◌∷◌, ◌++◌, Option, Some}
 use Rattle.std.specs.Prelude.{None, ◌+◌, slice_get, option_map, option_to_list, position}
 use Rattle.std.specs.Option.{option_and_then}

@@ -15,7 +15,7 @@ MayTake {K} {V} {F} closure passes n f = (before : List (K × V)) (g : F) (pair 
     → All passes before → CalledWith closure f before g → passes pair → MayBeCalled closure g (pair.0, (pair.1, tt))
 
 module _ {K V S : Type 0} (rules : Rules K V S) where
-  -- `left` may be one of these pairs as `on_removed` leaves it
+  -- `left` is one of these pairs, as `on_removed` may leave the pair
   abbrev pub IsLeftOf : List (K × V) → K × V → Type 0
   IsLeftOf pairs left = (s : S) × (pair : K × V) × Contains pairs pair × (left_of rules s (Some pair) ≡ Some left)
 

@@ -1,4 +1,4 @@
--- Calls that reserve growth only when no growth is left. They pay for insertions into the table (`PaysForInsertions`).
+-- Calls that reserve growth only when no growth is left. `PaysForInsertions` holds for any sequence of these calls.
 use Rattle.std.specs.Prelude.{◌≡◌, ℕ, Bool, Result}
 use Rattle.lru_limits.specs.Rules.{Rules}
 use Rattle.lru_limits.specs.Admissions.{Terms, offers_of}
@@ -13,7 +13,7 @@ module _ {K V S H : Type 0} (terms : Terms K V S) (rules : Rules K V S) (eq : K 
   ReservesIfFull old new (calls (reserves n result h)) = growth_left old ≡ 0
   ReservesIfFull old new step = Unit {0}
 
-  -- A `try_insert`, or a step of `AnyStep`. If the step is a reservation, no growth was left before the reservation.
+  -- a `try_insert`, or a step of `AnyStep` with `ReservesIfFull`
   pub data PaidStep (old new : State K V S H) : Type 0 where
     tries : (key : K) (value : V) (result : Result (Unit {0}) (K × V)) →
         TryInsert terms rules key value old eq hash_of result new → PaidStep old new

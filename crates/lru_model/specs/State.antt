@@ -61,12 +61,12 @@ pub record IsSound (n entry_bytes max : ℕ) (states : List BucketState) (counts
   pub placed : counts.placed < 2 ^ 64
   pub shrunk : counts.shrunk < 2 ^ 64
 
--- if the count `shrunk` is below its maximum, n more moves are already paid for
+-- if the count `shrunk` is below its maximum, the bound of `IsPaid` permits n more moves
 abbrev pub IsAhead : ℕ → Counts → Type 0
 IsAhead n counts = counts.shrunk < 2 ^ 64 - 1 → counts.moved + n ≤ 2 * counts.placed + counts.shrunk
 
 -- Inserts moved at most two entries for each entry that they stored, plus one for each entry that a shrink rehashed.
--- The next `potential` moves are also paid for already, until the count `shrunk` stops at its maximum.
+-- The bound permits `potential` more moves, until the count `shrunk` stops at its maximum.
 pub record IsPaid (potential : ℕ) (counts : Counts) : Type 0 where
   pub moved : counts.moved ≤ 2 * counts.placed + counts.shrunk
   pub ahead : IsAhead potential counts

@@ -20,7 +20,7 @@ CountsInsertions old new = new.insertions < 2 ^ 64 - 1 → new.moved < 2 ^ 64 - 
     new.insertions + old.moved + old.placed ≡ old.insertions + new.moved + new.placed
 
 module _ {K V S H : Type 0} where
-  -- The count `moved`, plus the potential, rises by at most 2 for each stored entry. This bound holds until the count
+  -- The count `moved`, plus the `potential`, rises by at most 2 for each stored entry. This bound holds until the count
   -- `placed` stops at its maximum. The count `shrunk` does not change.
   pub record PaysByStoring (old new : State K V S H) : Type 0 where
     pub placed : old.counts.placed ≤ new.counts.placed
@@ -29,8 +29,8 @@ module _ {K V S H : Type 0} where
         new.counts.moved + potential new + 2 * old.counts.placed
         ≤ old.counts.moved + potential old + 2 * new.counts.placed
 
-  -- The number that `count` reads, plus the potential, rises by at most m for each stored entry, plus n for each entry
-  -- that a shrink rehashed. This bound holds until the count `placed` or `shrunk` stops at its maximum.
+  -- The number that `count` reads, plus the `potential`, rises by at most m for each stored entry, plus n for each
+  -- entry that a shrink rehashed. This bound holds until the count `placed` or `shrunk` stops at its maximum.
   pub record PaysFor (count : Counts → ℕ) (m n : ℕ) (old new : State K V S H) : Type 0 where
     pub placed : old.counts.placed ≤ new.counts.placed
     pub shrunk : old.counts.shrunk ≤ new.counts.shrunk
@@ -67,7 +67,8 @@ pub record IsNewest {K V : Type 0} (names : K → Bool) (pairs : List (K × V)) 
 -- limiter rejects the new value for this pair.
 pub data EvictsOldest {K V : Type 0} (names : K → Bool) (refuses : K × V → Type 0) (old new : List (K × V))
     : Type 0 where
-  -- `new` is a front of this list, maybe empty: the pair of the inserted key, then the old pairs of other keys.
+  -- Take the pair of the inserted key, and then the old pairs of other keys. `new` is a front of this list, maybe
+  -- empty.
   behind : (newest : K × V) → names newest.0 ≡ true → IsFront new (newest ∷ without names old) →
       EvictsOldest names refuses old new
   -- The inserted key was new, and its pair is not stored. The oldest pairs may have been evicted.

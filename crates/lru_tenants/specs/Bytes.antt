@@ -39,7 +39,7 @@ module _ {N K V S : Type 0} where
   abbrev pub IsWithin : (N → ℕ) → (K → V → ℕ) → ByteCache N K V S → Type 0
   IsWithin of_name of_pair cache = cache.table + sum_by (taken of_name of_pair) cache.tenants ≤ cache.limit
 
-  -- the bytes of the table of tenants, plus, for each tenant, its limit and the bytes that its name owns
+  -- the bytes of the table of tenants, plus the limit of each tenant, plus the bytes that each tenant's name owns
   abbrev pub reserved : (N → ℕ) → ByteCache N K V S → ℕ
   reserved of_name cache = cache.table + sum_by (λ t. both_own of_name limit_of t.0 t.1) cache.tenants
 

@@ -35,7 +35,7 @@ module _ {K V L S : Type 0} (account : L → ℕ) where
   excess own = cost own - own.0
 
   -- What a call may do to a tenant that the call does not name. If the tenant's entries cost more than its share, the
-  -- call may evict the oldest.
+  -- call may evict the tenant's oldest entries.
   pub record Spares (own left : Part K V L S) : Type 0 where
     pub share : left.0 ≡ own.0
     pub front : IsFront left.1.pairs own.1.pairs

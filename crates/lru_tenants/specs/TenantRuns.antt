@@ -51,7 +51,7 @@ module _ {K V L S : Type 0} where
   read_of reads None = Err NotOpen
   read_of reads (Some map) = Ok (reads map)
 
-  -- a call that does not fail if the tenant is open, and does not close the tenant
+  -- a call that succeeds if the tenant is open, and does not close the tenant
   abbrev pub IfOpen : {R : Type 0} → (State K V L S → R → State K V L S → Type 0) → Option (State K V L S)
       → Result R TenantError → Option (State K V L S) → Type 0
   IfOpen {R} does = OfOpen (λ map answer new.

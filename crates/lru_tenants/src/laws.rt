@@ -11,8 +11,8 @@ use lru_limits::Budgeted;
 use schnellru::KeyHasher;
 use std::hash::Hash;
 
-/// In any list of calls, each call finds its tenant as the previous call on the tenant left it, even if calls on other
-/// tenants come between (`own`). If no call names a tenant, the tenant does not change (`others`).
+/// In any list of calls, each call finds the named tenant as the previous call on this tenant left it. Calls on other
+/// tenants may come between (`own`). If no call names a tenant, the tenant does not change (`others`).
 ///
 /// The premise: each call changes only the tenant that it names, as each clause with `On` says.
 ///

@@ -26,8 +26,8 @@ use part::{Part, cost_of, opened};
 
 /// A cache for many tenants. Each tenant has its own share of one limit, and any tenant may use the rest.
 ///
-/// All costs add up to at most the limit. While a tenant's cost is within its share, no call on another tenant changes
-/// the tenant.
+/// All costs add up to at most the limit. While a tenant's cost is within its share, calls on other tenants do not
+/// change this tenant.
 ///
 /// In the examples of the calls, `pool` has a limit of 5 and two tenants. Tenant 1 has a share of 3 and the entry
 /// (7, 2). Tenant 2 has a share of 1 and no entry.

@@ -10,7 +10,7 @@ module _ {K V L S N H : Type 0} where
   abbrev pub drain_map : Drain K V L S N H → State K V L S
   drain_map d = d.map.now
 
-  -- the ghost name of the drain's reference to its map
+  -- the ghost name that identifies the drain's reference to its map
   abbrev pub drain_lender : Drain K V L S N H → GName
   drain_lender d = d.map.ghost_name
 

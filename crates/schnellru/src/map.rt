@@ -230,7 +230,7 @@ impl<K: Eq + Hash, V, L: Limiter<K, V>> LruMap<K, V, L, RandomState> {
 }
 
 impl<K: Eq + Hash, V, S: KeyHasher<K>> LruMap<K, V, ByMemoryUsage, S> {
-    /// Makes an empty map with this hasher and a table of at most `budget` bytes.
+    /// Makes an empty map with this hasher. `ByMemoryUsage` limits the table to `budget` bytes.
     ///
     /// Cost: `O(1)`, and no memory.
     ///
@@ -254,7 +254,7 @@ impl<K: Eq + Hash, V, S: KeyHasher<K>> LruMap<K, V, ByMemoryUsage, S> {
 }
 
 impl<K: Eq + Hash, V> LruMap<K, V, ByMemoryUsage, RandomState> {
-    /// Makes an empty map whose hasher has these seeds, with a table of at most `budget` bytes.
+    /// Makes an empty map whose hasher has these seeds. `ByMemoryUsage` limits the table to `budget` bytes.
     ///
     /// Cost: `O(1)`, and no memory.
     ///

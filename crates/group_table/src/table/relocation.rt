@@ -1,5 +1,5 @@
-//! The calls of `Table` that move every entry. Entries need not implement `Drop`, so the compiler rejects a call that
-//! loses an entry.
+//! The calls of `Table` that move every entry. An entry without `Drop` cannot be dropped, so the compiler rejects code
+//! that loses an entry.
 ghost use Rattle.std.specs.Prelude.{◌≡◌, ℕ, ◌+◌, ◌^◌, ◌<◌, ◌≤◌, [], length, count_by, IfOk, OnErr, OnOk, IsOk};
 ghost use Rattle.group_table.specs.Sizes.{IsBucketCount, full_capacity};
 ghost use Rattle.group_table.specs.Bucket.{bucket_states, entry_at, entry_count, is_deleted, growth_left};

@@ -10,11 +10,11 @@ use std::marker::Model;
 /// Limits the bytes of the table plus the bytes that the entries own. Contracts represent the limiter by its limit, the
 /// bytes of the table, and the owned bytes.
 ///
-/// `ByBytes` permits a table if the bytes of the table plus the owned bytes are within the limit. `ByBytes` rejects an
-/// entry or a new value if the entry alone owns more than the limit minus the bytes of the table (more than 0 if the
-/// table is above the limit), or if the owned bytes would pass `u64::MAX`. So the sum is at most the limit after each
-/// call of the map, under the premises of `calls_keep_the_bytes` of `lru_model`. While the table grows, the old table
-/// also exists, and is not counted.
+/// `ByBytes` permits a table if the bytes of the table plus the owned bytes are within the limit. Let n be the limit
+/// minus the bytes of the table, but at least 0. `ByBytes` rejects an entry or a new value if the entry alone owns more
+/// than n bytes, or if the owned bytes would pass `u64::MAX`. Under the premises of `calls_keep_the_bytes` of
+/// `lru_model`, the table plus the owned bytes are within the limit after each call of the map. While the table grows,
+/// the old table also exists, and is not counted.
 ///
 /// `shrink_to_fit` does not notify the limiter. `map.set_limiter(map.limiter().with_table(map.memory_usage() as u64))`
 /// makes the limiter count the smaller table.

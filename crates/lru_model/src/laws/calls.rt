@@ -26,8 +26,8 @@ pub fn calls_keep_maps<K: Eq + Hash, V, I: LookupKey<K>, L: Insertion<K, V, I>, 
         IsMap K.eq old → IsSized new → IsMap K.eq new }
 {}
 
-/// If the running total of the limiter is the sum of the costs of the entries, it is still this sum after each `Step`.
-/// The premise `IsAccount` is a law of `Summing`.
+/// If the running total of the limiter is the sum of the costs of the entries, this is still so after each `Step`. The
+/// premise `IsAccount` is a law of `Summing`.
 pub fn calls_keep_sums<K: Eq + Hash, V, I: LookupKey<K>, L: Insertion<K, V, I>, S: KeyHasher<K>>()
     ensures { (cost : K → V → ℕ) (account : L → ℕ) → IsAccount L.rules L.offers cost account →
         (old new : State K V L S) →
@@ -70,8 +70,8 @@ pub fn calls_keep_the_memory_usage<
 {}
 
 /// Suppose that the limiter has a budget, as `ByCost` and `ByWeight` have. No `Step` changes the budget (`budget`). If
-/// the running total is the sum of the costs of the entries, and at most the budget, it is still at most the budget
-/// after each `Step` (`total`).
+/// the running total is the sum of the costs of the entries, and at most the budget, the total is still at most the
+/// budget after each `Step` (`total`).
 pub fn calls_keep_the_budget<K: Eq + Hash, V, L: Budgeted<K, V>, S: KeyHasher<K>>()
     ensures budget { (old new : State K V L S) →
         Step L.rules (offers_of L.terms) K.eq S.hash_of old new → L.budget_of new.limiter ≡ L.budget_of old.limiter }
@@ -94,8 +94,8 @@ pub fn calls_add_one_pair<
         length new.pairs ≤ length old.pairs + 1 }
 {}
 
-/// A call evicts only the oldest of the entries whose keys it does not name, and keeps the others in their order. The
-/// law excludes `pop_newest`, which removes the newest entry.
+/// Consider the entries whose keys a call does not name. The call evicts only the oldest of these entries, and keeps
+/// the order of the rest. The law excludes `pop_newest`, which removes the newest entry.
 ///
 /// A call names the key that it inserts, updates, looks up or removes, and the key whose value it writes. A retain
 /// names the keys that its closure rejects.

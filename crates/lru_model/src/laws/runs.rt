@@ -11,15 +11,15 @@ ghost use Rattle.lru_model.specs.Theorems.{PaysForMoves, UsesAtMost, IsSummed, o
 use lru_limits::{Budgeted, Insertion, KeyHasher, Limiter, LookupKey};
 use std::hash::Hash;
 
-/// If `IsMap` holds of a map, it still holds after any calls, and any writes through references into the map. `IsMap`
-/// implies the clause `paid` of `inserts_pay_for_moves`, and that no two keys are equal.
+/// If a map satisfies `IsMap`, it still does after any sequence of calls, and of writes through references into the
+/// map. `IsMap` implies that no two keys are equal, and that the bound `paid` of `inserts_pay_for_moves` holds.
 pub fn runs_keep_maps<K: Eq + Hash, V, I: LookupKey<K>, L: Insertion<K, V, I>, S: KeyHasher<K>>()
     ensures map { (old new : State K V L S) →
         Run (AnyStep L.rules L.offers I.names S.hash_of) new old →
         IsMap K.eq old → IsMap K.eq new }
 {}
 
-/// If the running total of the limiter is the sum of the costs of the entries, it is this sum after any `Step`s, too.
+/// If the running total of the limiter is the sum of the costs of the entries, this is still so after any `Step`s.
 /// Values may be written between the steps, if each new value costs as much as the old value.
 pub fn runs_keep_sums<K: Eq + Hash, V, I: LookupKey<K>, L: Insertion<K, V, I>, S: KeyHasher<K>>()
     ensures sum { (cost : K → V → ℕ) (account : L → ℕ) → IsAccount L.rules L.offers cost account →
@@ -28,8 +28,9 @@ pub fn runs_keep_sums<K: Eq + Hash, V, I: LookupKey<K>, L: Insertion<K, V, I>, S
         IsSummed cost account old → IsSummed cost account new }
 {}
 
-/// Over any calls, the count of moved entries, plus the potential, rises by at most 2 for each stored entry, plus 1 for
-/// each entry that a shrink rehashed. The bound holds until the count `placed` or `shrunk` reaches `u64::MAX`.
+/// During any sequence of calls, the count of moved entries, plus the `potential` (`specs/State`), rises by at most 2
+/// for each stored entry, plus 1 for each entry that a shrink rehashed. The bound holds until the count `placed` or
+/// `shrunk` reaches `u64::MAX`.
 pub fn runs_pay_for_moves<
     K: Eq + Hash,
     V,
@@ -42,7 +43,8 @@ pub fn runs_pay_for_moves<
         IsSized old → PaysForMoves old new }
 {}
 
-/// A run without `pop_newest` evicts only the oldest of the entries whose keys no call of the run names.
+/// Consider the entries whose keys no call of a run names. A run without `pop_newest` evicts only the oldest of these
+/// entries.
 pub fn runs_evict_the_oldest<
     K: Eq + Hash,
     V,
@@ -55,7 +57,7 @@ pub fn runs_evict_the_oldest<
         IsFront (others test new.pairs) (others test old.pairs) }
 {}
 
-/// `inserts_evict_the_oldest` holds of each insert of a run, including each get that inserts, whatever the other calls
+/// `inserts_evict_the_oldest` holds for each insert of a run, including each get that inserts, whatever the other calls
 /// are.
 pub fn each_insert_of_a_run_evicts_the_oldest<
     K: Eq + Hash,
@@ -68,7 +70,7 @@ pub fn each_insert_of_a_run_evicts_the_oldest<
         EachStep (InsertEvictsOldest L.rules L.offers I.names S.hash_of) run }
 {}
 
-/// `calls_keep_the_length` also holds of any `Step`s and writes of values, one after another.
+/// `calls_keep_the_length` also holds for any sequence of `Step`s and writes of values.
 pub fn runs_keep_the_length<
     K: Eq + Hash,
     V,
@@ -83,7 +85,7 @@ pub fn runs_keep_the_length<
         length old.pairs ≤ most old.limiter → length new.pairs ≤ most old.limiter }
 {}
 
-/// `calls_keep_the_memory_usage` also holds of any `Step`s and writes of values, one after another.
+/// `calls_keep_the_memory_usage` also holds for any sequence of `Step`s and writes of values.
 pub fn runs_keep_the_memory_usage<
     K: Eq + Hash,
     V,
@@ -98,8 +100,8 @@ pub fn runs_keep_the_memory_usage<
         UsesAtMost (most old.limiter) old → UsesAtMost (most old.limiter) new }
 {}
 
-/// `calls_keep_the_budget` also holds of any `Step`s, one after another, and any writes of values that cost as much as
-/// the old values. Writes of other values do not change the budget, either (`budget`).
+/// `calls_keep_the_budget` also holds for any sequence of `Step`s and writes, if each written value costs as much as
+/// the old value (`total`). Without this premise, the budget is still unchanged (`budget`).
 pub fn runs_keep_the_budget<K: Eq + Hash, V, L: Budgeted<K, V>, S: KeyHasher<K>>()
     ensures total { (old new : State K V L S) →
         Run (StepOrKeptWrite L.rules (offers_of L.terms) K.eq S.hash_of L.cost_of) new old →

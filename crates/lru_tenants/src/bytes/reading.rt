@@ -99,7 +99,7 @@ impl<
 > ByteTenants<N, K, V, S> {
     ghost use Rattle.lru_tenants.specs.ByteLending.{ends_so};
 
-    /// Returns a tenant's value of a key, and makes its entry the tenant's newest.
+    /// Returns a tenant's value of a key, and makes the key's entry the tenant's newest.
     ///
     /// ```
     /// assert_eq!(rt; bytes.get(&1, &7), Ok(Some(&2)));

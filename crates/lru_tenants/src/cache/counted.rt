@@ -53,7 +53,7 @@ impl<N: Eq + Hash, K: Eq + Hash, V, L: Budgeted<K, V>, S: KeyHasher<K> + Copy> T
 
     /// Sets the counts of a tenant.
     ///
-    /// To count other calls, use the methods of [`Counts`].
+    /// To count calls without a `_counted` form, use the methods of [`Counts`].
     ///
     /// ```
     /// let mut counts = counted.counts(&1)?;

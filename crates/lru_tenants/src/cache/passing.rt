@@ -24,7 +24,7 @@ impl<
     L: Budgeted<K, V> + Drop,
     S: KeyHasher<K> + Copy,
 > TenantCache<N, K, V, L, S> {
-    /// Does what `put` does, and passes the same entries to the callback as `LruMap::insert_with` does.
+    /// Does what `put` does, and passes to the callback the entries that `LruMap::insert_with` passes.
     ///
     /// ```
     /// let mut left = 0u64;

@@ -22,7 +22,7 @@ impl<N: Eq + Hash, K: Eq + Hash, V, L: Budgeted<K, V>, S: KeyHasher<K> + Copy> T
 > {
     ghost use Rattle.lru_tenants.specs.Lending.{ends_so};
 
-    /// Returns a tenant's value of a key, and makes its entry the tenant's newest.
+    /// Returns a tenant's value of a key, and makes the key's entry the tenant's newest.
     ///
     /// ```
     /// assert_eq!(rt; cache.get(&1, &7), Ok(Some(&2)));

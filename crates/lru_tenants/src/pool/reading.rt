@@ -169,7 +169,7 @@ impl<N: Eq + Hash, K: Eq + Hash, V, L: Budgeted<K, V>, S: KeyHasher<K> + Copy> T
         Ok(map.peek(key))
     }
 
-    /// Returns a tenant's value of a key, and makes its entry the tenant's newest.
+    /// Returns a tenant's value of a key, and makes the key's entry the tenant's newest.
     ///
     /// ```
     /// assert_eq!(rt; pool.get(&1, &7), Ok(Some(&2)));

@@ -10,7 +10,6 @@ pub record Fields (S H : Type 0) : Type 0 where
   pub entry_bytes : ℕ
   pub max : ℕ
 
--- the `Fields` of the map m
 abbrev pub fields_of : {K V S H Link Hasher : Type 0} → Inside K V S H Link Hasher → ℕ → Fields S H
 fields_of m max = record {
   limiter = m.limiter;

@@ -28,7 +28,7 @@ module _ {V E : Type 0} where
   value_lent (Ok None) = None
   value_lent (Err e) = None
 
-  -- the ghost name of the lent reference
+  -- the ghost name that identifies the lent reference
   abbrev pub name_lent : Result (Option (MutBor V)) E → maybe.Option GName
   name_lent (Ok (Some x)) = maybe.some x.ghost_name
   name_lent (Ok None) = maybe.none

@@ -1,5 +1,5 @@
--- A get that inserts a missing key lends the value of the newest pair. `Step` says what the map is after the get, and
--- whether the get lends a value.
+-- A get that inserts a missing key lends the value of the newest pair, or no value. `Step` says what the map is after
+-- the get, and whether the get lends a value.
 use Rattle.std.specs.Prelude.{◌≡◌, Bool, Option, Result}
 use Rattle.std.specs.Borrow.{Fml, RattleType, MutBor, LendsSoOk, follows_so}
 use Rattle.std.specs.HashMap.Lent.{HashMembers}

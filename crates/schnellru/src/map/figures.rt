@@ -142,8 +142,8 @@ impl<K: Eq + Hash, V, L: Limiter<K, V>, S: KeyHasher<K>> LruMap<K, V, L, S> {
     /// Lends the limiter for writing. A lower limit takes effect at the next `trim`, or at the next insert or update
     /// that the limiter accepts. A lower limit of `ByMemoryUsage` takes effect at the next growth.
     ///
-    /// Do not assign a limiter whose running total differs. `*map.limiter_mut() = ByCost::new(n)` would count the
-    /// stored entries as 0. To change the limit, call `set_limiter` with `map.limiter().with_limit(n)`.
+    /// Do not assign a limiter with another running total. `*map.limiter_mut() = ByCost::new(n)` would count the stored
+    /// entries as 0. To change the limit, call `set_limiter` with `map.limiter().with_limit(n)`.
     ///
     /// ```
     /// *map.limiter_mut() = ByLength::new(1);

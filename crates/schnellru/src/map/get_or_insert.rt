@@ -44,8 +44,8 @@ fn kept_or<V>(lent: Result<&mut V, NotLent<AllocError>>) -> Result<Option<&mut V
 impl<K: Eq + Hash + Drop, V: Drop, L: Limiter<K, V>, S: KeyHasher<K>> LruMap<K, V, L, S> {
     ghost use Rattle.schnellru.specs.Lending.Made.{lends_or, lends_made};
 
-    /// Makes the entry of a key the newest. If the key is not there, inserts it with the value that the closure
-    /// returns, as `insert` does. Returns whether the key is in the map afterwards.
+    /// Makes the entry of a key the newest. If the key is not there, inserts the key as `insert` does, with the value
+    /// that the closure returns. Returns whether the key is in the map afterwards.
     ///
     /// ```
     /// if map.ensure_newest(1, || 0)? {

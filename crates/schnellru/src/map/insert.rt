@@ -178,7 +178,7 @@ impl<K: Eq + Hash, V, L: Limiter<K, V>, S: KeyHasher<K>> LruMap<K, V, L, S> {
 
     /// Does what `insert_full` does, but gets the hash of the key from the caller.
     ///
-    /// The hash must be the result of `map.hasher().hash_named(&key)`, as the prover checks.
+    /// The hash must be the result of `map.hasher().hash_named(&key)`. The prover checks this.
     ///
     /// ```
     /// let hash = map.hasher().hash_named(&5);

@@ -42,7 +42,8 @@ impl<K: Eq + Hash, V, L: Limiter<K, V>, S: KeyHasher<K>> LruMap<K, V, L, S> {
         }
     }
 
-    // The hash is the third argument, because its last multiplication leaves it in the register of the third argument.
+    // The hash is the third argument, because the last multiplication of the hasher leaves the hash in the register of
+    // this argument.
     #[inline(never)]
     fn insert_by_call<I: LookupKey<K>, F: FnMut(K, V)>(
         &mut self,

@@ -9,7 +9,7 @@ impl<K: Eq + Hash, V, L: Limiter<K, V>, S: KeyHasher<K>> LruMap<K, V, L, S> {
     /// Returns how many entries the inserts have moved, how many they have stored, and how many `shrink_to_fit` has
     /// rehashed. Each count stops at `u64::MAX`.
     ///
-    /// `moved <= 2 * placed + shrunk`. Cost: `O(1)`.
+    /// `moved` is at most `2 * placed + shrunk`. Cost: `O(1)`.
     ///
     /// ```
     /// let mut map: LruMap<u64, u64> = LruMap::with_limiter(alloc, ByLength::new(3));

@@ -49,7 +49,7 @@ impl<'a, K: Eq + Hash, V, L: Limiter<K, V>, S: KeyHasher<K>> IterMut<'a, K, V, L
         self.end.saturating_sub(self.start)
     }
 
-    /// Lends the newest remaining entry, whose value may be written, until the next call of the iterator.
+    /// Lends the newest remaining entry until the next call of the iterator. The value may be written.
     ///
     /// A caller's proof cannot use the clause `writes_back`, so proved code tests `len`, and then calls `lend_next`.
     ///

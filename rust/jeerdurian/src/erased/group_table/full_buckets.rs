@@ -20,7 +20,6 @@ impl FullBuckets {
         FullBuckets { start: 0, lanes: control.group(0).match_full() }
     }
 
-    // Returns the next full bucket, or the number of buckets if there is none.
     #[inline]
     pub(crate) fn next(&mut self, control: &Control) -> usize {
         let count = control.buckets();

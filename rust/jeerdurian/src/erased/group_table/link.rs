@@ -4,15 +4,15 @@
 #[allow(unused_imports)]
 use crate::rattle_std::prelude::*;
 
-/// The type of a link. A link is the number of a bucket, or `MAX`, which means no bucket.
+/// The type of a link: the number of a bucket, or `MAX`, which means no bucket.
 ///
 /// A table with links of type `N` has fewer than `N::MAX` buckets, so the width of the links limits the size of the
 /// table. The trait is implemented for `u8`, `u16`, `u32` and `usize`.
 pub trait LinkType: Copy {
-    /// The link that means no bucket: its number is greater than the number of every bucket.
+    /// The link that means no bucket. The number of `MAX` is greater than the number of every bucket.
     const MAX: Self;
 
-    /// Returns the link with this number. No bits are lost.
+    /// Returns the link with this number. `value` must be below the number of `MAX`.
     fn from_usize(value: usize) -> Self;
 
     /// Returns the number of this link.

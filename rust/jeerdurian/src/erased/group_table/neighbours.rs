@@ -1,5 +1,5 @@
 // Erased from crates/group_table/src/neighbours.rt: do not edit.
-//! Considers all runs of 16 neighbouring buckets that include bucket b: does each contain an empty bucket?
+//! Tests whether each run of 16 neighbouring buckets that includes bucket b contains an empty bucket.
 
 #[allow(unused_imports)]
 use crate::rattle_std::prelude::*;
@@ -27,9 +27,9 @@ fn ones_if_less(low: u32, high: u16) -> usize {
 // buckets around b.
 #[inline]
 pub(crate) fn ones_if_empty_neighbours(control: &Control, b: usize) -> usize {
-    // `used` has a bit for each used bucket from b up to the next empty bucket. This number is less than the mask of
-    // the empty buckets before b exactly if fewer than 16 used buckets are in a row around b. Comparing the masks takes
-    // fewer instructions than two counts and their sum.
+    // `used` has a bit for each used bucket from b up to the next empty bucket. If and only if fewer than 16 used
+    // buckets are in a row around b, `used` is less than the mask of the empty buckets before b. Comparing the masks
+    // takes fewer instructions than two counts and their sum.
     let used = lanes_below(empty_from(control, b));
     ones_if_less(used, empty_before(control, b))
 }

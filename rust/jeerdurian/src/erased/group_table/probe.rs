@@ -93,8 +93,8 @@ fn free_in_group(control: &Control, start: usize) -> Option<usize> {
     if control.byte(b) >= DELETED {
         return Some(b);
     }
-    // In a table of 4 or 8 buckets, empty bytes follow the bytes of the buckets. The lane is one of these empty bytes,
-    // so the buckets from `start` to the last are full.
+    // In a table of 4 or 8 buckets, empty bytes follow the bytes of the buckets. The lowest lane is one of these empty
+    // bytes, so the buckets from `start` to the last are full, and the group goes on at bucket 0.
     Some(lowest_lane(control.group(0).match_free()))
 }
 

@@ -1,5 +1,5 @@
 // Erased from crates/group_table/src/table.rt: do not edit.
-//! Contracts describe a table by its `slots`, one for each bucket, and the counts of its `insertions`.
+//! Contracts describe a table by its `slots` (one for each bucket) and the counts of its `insertions`.
 
 #[allow(unused_imports)]
 use crate::rattle_std::prelude::*;
@@ -136,8 +136,8 @@ impl<T> Table<T> {
     ///
     /// # Errors
     ///
-    /// Returns the entry, and changes nothing, if there are no buckets, or if no growth is left and the first free
-    /// bucket is empty.
+    /// There are no buckets, or no growth is left and the first free bucket is empty. Returns the entry. Nothing has
+    /// changed.
     #[inline(always)]
     pub fn try_place(&mut self, hash: u64, entry: T) -> Result<usize, T> {
         if is_without_buckets(&self.control, self.growth_left) {

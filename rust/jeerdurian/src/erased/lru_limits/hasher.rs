@@ -71,7 +71,6 @@ pub struct DefaultHasher {
     rest_key: u64,
 }
 
-// Returns the xor of the two 64-bit halves of a product.
 #[inline]
 const fn folded(a: u64, b: u64) -> u64 {
     let product = a as u128 * b as u128;

@@ -9,8 +9,8 @@ use crate::rattle_std::hash::{BuildHasher, Hash};
 /// A value that looks up a key: the value names at most one key, up to equality, and has the hash of this key.
 ///
 /// Every key type implements `LookupKey` for its own keys, and `&str` implements it for `String` keys. In your own
-/// impl, define in `names` which key a value names, compute `names` in `is_key`, and prove two laws. If a struct has
-/// one field, its derived `Hash` writes what the field writes.
+/// impl, define in `names` which key a value names, compute `names` in `is_key`, and prove two laws (`IsLookup`). For
+/// the law `writes`: if a struct has one field, its derived `Hash` writes what the field writes.
 pub trait LookupKey<K: Eq + Hash>: Hash {
     /// Returns whether the value names this key.
     fn is_key(&self, key: &K) -> bool;

@@ -56,8 +56,8 @@ pub trait Limiter<K, V> {
 /// out of memory, and what a replacement does. Each [`crate::Admission`] is an `Insertion`.
 pub trait Insertion<K: Eq + Hash, V, I: LookupKey<K>>: Limiter<K, V> {
     /// Called by an insert with a new key and its value, before the insert evicts anything. The map has `length`
-    /// entries. Returns the entry to store, or `None` if the limiter rejects it. If it is rejected, the map's entries
-    /// do not change.
+    /// entries. Returns the entry to store, or `None` to reject the offered entry. After a rejection, the map's entries
+    /// are unchanged.
     ///
     /// # Errors
     ///

@@ -30,7 +30,7 @@ pub use runs::{
 pub use shrinks::{shrinks_keep_the_list, shrinks_leave_a_tight_table, shrinks_pay_for_moves};
 
 /// An insert evicts only the oldest entries. If the limiter rejects a new value, the insert removes only the entry of
-/// its key.
+/// the inserted key.
 pub fn inserts_evict_the_oldest<K: Eq + Hash, V, I: LookupKey<K>, L: Insertion<K, V, I>, S: KeyHasher<K>>() {}
 
 /// If an insert finds n entries, leaves m, and passes p to its callback, m + p is at most n + 1 (`few`). An insert with
@@ -45,8 +45,8 @@ pub fn small_inserts_are_exact<K: Eq + Hash, V, I: LookupKey<K>, L: Insertion<K,
 
 /// An insert changes the entries as the `Report` of the table says (`exact`; see `small_inserts_are_exact`). Every
 /// insert has a report (`given`). Suppose that the limiter and the arguments determine what `on_insert` does
-/// (`IsDetermined`), and that two inserts return `Ok`. If their arguments, their reports, and the entries and limiters
-/// before them are equal, so are their results, and the entries and limiters after them (`alike`).
+/// (`IsDetermined`), and that two inserts return `Ok`. If both inserts have equal arguments and reports, and begin with
+/// equal entries and limiters, they return equal results, and end with equal entries and limiters (`alike`).
 pub fn inserts_are_exact_unless_refused<K: Eq + Hash, V, I: LookupKey<K>, L: Insertion<K, V, I>, S: KeyHasher<K>>() {}
 
 /// An insert changes the entries as it would change a plain list without a table (`InsertsInList`), under two premises.
@@ -64,9 +64,10 @@ pub fn inserts_grow_little<K: Eq + Hash, V, I: LookupKey<K>, L: Insertion<K, V, 
 /// deleted (`only`).
 pub fn deleted_buckets_serve<K: Eq + Hash, V, I: LookupKey<K>, L: Insertion<K, V, I>, S: KeyHasher<K>>() {}
 
-/// An insert pays for the entries that it moves. The count of moved entries, plus the potential, rises by at most 2 for
-/// the entry that the insert stores (`rise`). So inserts moved at most two entries for each stored entry, plus one for
-/// each entry that a shrink rehashed (`paid`). The table counts every insertion (`counted`).
+/// An insert pays for the entries that it moves. The count of moved entries, plus the `potential` (`specs/State`),
+/// rises by at most 2 for the entry that the insert stores (`rise`). So inserts moved at most two entries for each
+/// stored entry, plus one for each entry that a shrink rehashed (`paid`). The table counts every insertion (`counted`).
+/// `rise` and `counted` hold until a count stops at `u64::MAX`.
 pub fn inserts_pay_for_moves<K: Eq + Hash, V, I: LookupKey<K>, L: Insertion<K, V, I>, S: KeyHasher<K>>() {}
 
 /// If growth is refused (`IsRefusedGrowth`), the entries after the insertion, including the new entry, fill at least
@@ -88,5 +89,5 @@ pub fn reservations_keep_the_list<K: Eq + Hash, V, L: Limiter<K, V>, S: KeyHashe
 /// After a successful reservation for n entries, the growth left is at least n.
 pub fn reservations_make_room<K: Eq + Hash, V, L: Limiter<K, V>, S: KeyHasher<K>>() {}
 
-/// If the table of a map uses n bytes, the largest table within a budget of n bytes uses n bytes.
+/// If the table of a map uses n bytes, the largest table within a budget of n bytes uses exactly n bytes.
 pub fn usages_are_their_budgets<K: Eq + Hash, V, L: Limiter<K, V>, S: KeyHasher<K>>() {}

@@ -24,8 +24,8 @@ impl<N: Eq + Hash, K: Eq + Hash, V, L: Budgeted<K, V>, S: KeyHasher<K> + Copy> T
 
 /// A cache for many tenants. Each tenant has its own share of one limit, and any tenant may use the rest.
 ///
-/// All costs add up to at most the limit. While a tenant's cost is within its share, no call on another tenant changes
-/// the tenant.
+/// All costs add up to at most the limit. While a tenant's cost is within its share, calls on other tenants do not
+/// change this tenant.
 pub struct TenantPool<N: Eq + Hash, K: Eq + Hash, V, L: Budgeted<K, V> = ByCost, S: KeyHasher<K> + Copy = RandomState> {
     tenants: LruMap<N, Part<K, V, L, S>, Unlimited, S>,
     hasher: S,

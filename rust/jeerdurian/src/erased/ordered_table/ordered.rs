@@ -22,7 +22,7 @@ mod promoted;
 pub struct OrderedTable<K, V, N: LinkType> {
     linked: LinkedTable<K, V, N>,
     // The bucket of the pending promotion: a promotion that is not yet written into the links. The next call that
-    // changes the order writes it.
+    // changes the order writes the promotion.
     promoted: Option<usize>,
 }
 

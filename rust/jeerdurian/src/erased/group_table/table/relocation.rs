@@ -1,6 +1,6 @@
 // Erased from crates/group_table/src/table/relocation.rt: do not edit.
-//! The calls of `Table` that move every entry. Entries need not implement `Drop`, so the compiler rejects a call that
-//! loses an entry.
+//! The calls of `Table` that move every entry. An entry without `Drop` cannot be dropped, so the compiler rejects code
+//! that loses an entry.
 
 #[allow(unused_imports)]
 use crate::rattle_std::prelude::*;

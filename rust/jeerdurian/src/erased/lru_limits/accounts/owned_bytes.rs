@@ -4,8 +4,8 @@ use crate::rattle_std::prelude::*;
 
 use crate::erased::group_table::Table;
 
-/// A value that reports how many bytes it owns outside of itself: all blocks that it allocated, and what the values in
-/// these blocks own.
+/// A value that reports how many bytes it owns outside of itself: the bytes of its blocks, plus the bytes that the
+/// values in these blocks own.
 ///
 /// A block counts as its bytes rounded up to a multiple of 16, plus 16 for the allocator. The GNU allocator takes at
 /// most this number, except for very large blocks, which it maps page by page.

@@ -10,8 +10,8 @@ use crate::erased::lru_limits::limiter::Limiter;
 ///
 /// A map is over the limit if either limiter says so. The table may grow if both limiters permit it. The map queries
 /// both limiters for each growth. An entry or a new value is accepted if both limiters accept it. If either limiter
-/// rejects the entry or the value, neither changes. Both limiters are notified of each evicted or removed entry. The
-/// second limiter sees what the first limiter wrote to the entry.
+/// rejects the entry or the value, neither limiter changes. Both limiters are notified of each evicted or removed
+/// entry. The second limiter sees what the first limiter wrote to the entry.
 ///
 /// Put a limiter by cost first, because `Both` uses the link type and the running total of the first limiter.
 ///

@@ -16,6 +16,6 @@ use crate::rattle_std::hash::Hash;
 /// (`trimmed`).
 pub fn calls_keep_the_bytes<K: OwnedBytes + Eq + Hash, V: OwnedBytes, S: KeyHasher<K>>() {}
 
-/// Any `Step`s, one after another, keep a map within its limit (`kept`), and do not change the limit (`limit`). Values
-/// may be written between the steps, if each entry still owns as many bytes as before.
+/// Any sequence of `Step`s keeps a map within its limit (`kept`), and does not change the limit (`limit`). Values may
+/// be written between the steps, if each entry still owns as many bytes as before.
 pub fn runs_keep_the_bytes<K: OwnedBytes + Eq + Hash, V: OwnedBytes, S: KeyHasher<K>>() {}

@@ -13,8 +13,8 @@ use crate::rattle_std::hash::Hash;
 /// is sound.
 pub fn calls_keep_maps<K: Eq + Hash, V, I: LookupKey<K>, L: Insertion<K, V, I>, S: KeyHasher<K>>() {}
 
-/// If the running total of the limiter is the sum of the costs of the entries, it is still this sum after each `Step`.
-/// The premise `IsAccount` is a law of `Summing`.
+/// If the running total of the limiter is the sum of the costs of the entries, this is still so after each `Step`. The
+/// premise `IsAccount` is a law of `Summing`.
 pub fn calls_keep_sums<K: Eq + Hash, V, I: LookupKey<K>, L: Insertion<K, V, I>, S: KeyHasher<K>>() {}
 
 /// Suppose that the limiter limits the length to `most` entries (`LimitsLength`), as `ByLength` does. No `Step` changes
@@ -28,15 +28,15 @@ pub fn calls_keep_the_length<K: Eq + Hash, V, I: LookupKey<K>, L: Insertion<K, V
 pub fn calls_keep_the_memory_usage<K: Eq + Hash, V, I: LookupKey<K>, L: Insertion<K, V, I>, S: KeyHasher<K>>() {}
 
 /// Suppose that the limiter has a budget, as `ByCost` and `ByWeight` have. No `Step` changes the budget (`budget`). If
-/// the running total is the sum of the costs of the entries, and at most the budget, it is still at most the budget
-/// after each `Step` (`total`).
+/// the running total is the sum of the costs of the entries, and at most the budget, the total is still at most the
+/// budget after each `Step` (`total`).
 pub fn calls_keep_the_budget<K: Eq + Hash, V, L: Budgeted<K, V>, S: KeyHasher<K>>() {}
 
 /// Each `AnyStep` adds at most one entry.
 pub fn calls_add_one_pair<K: Eq + Hash, V, I: LookupKey<K>, L: Insertion<K, V, I>, S: KeyHasher<K>>() {}
 
-/// A call evicts only the oldest of the entries whose keys it does not name, and keeps the others in their order. The
-/// law excludes `pop_newest`, which removes the newest entry.
+/// Consider the entries whose keys a call does not name. The call evicts only the oldest of these entries, and keeps
+/// the order of the rest. The law excludes `pop_newest`, which removes the newest entry.
 ///
 /// A call names the key that it inserts, updates, looks up or removes, and the key whose value it writes. A retain
 /// names the keys that its closure rejects.

@@ -8,6 +8,7 @@ use crate::erased::lru_limits::{Admission, KeyHasher};
 use crate::rattle_std::hash::Hash;
 
 /// A `try_insert` pays for its insertions into the table, even if it reserves growth. The number of insertions, plus
-/// the potential, rises by at most 3 (`rise`), and `PaysForInsertions` holds (`stored`). `PaysForInsertions` also holds
-/// over any calls, one after another, including `try_insert`, if each reservation finds no growth left (`runs`).
+/// the `potential` (`specs/State`), rises by at most 3 (`rise`), and `PaysForInsertions` holds (`stored`). If each
+/// reservation finds no growth left, `PaysForInsertions` also holds for any sequence of calls, including `try_insert`
+/// (`runs`).
 pub fn try_inserts_pay_for_moves<K: Eq + Hash, V, L: Admission<K, V>, S: KeyHasher<K>>() {}

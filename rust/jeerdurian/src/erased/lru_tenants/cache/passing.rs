@@ -12,7 +12,7 @@ use crate::rattle_std::alloc::AllocError;
 use crate::rattle_std::hash::Hash;
 
 impl<N: Eq + Hash, K: Eq + Hash, V, L: Budgeted<K, V>, S: KeyHasher<K> + Copy> TenantCache<N, K, V, L, S> {
-    /// Does what `put` does, and passes the same entries to the callback as `LruMap::insert_with` does.
+    /// Does what `put` does, and passes to the callback the entries that `LruMap::insert_with` passes.
     ///
     /// Cost: as `put`, plus the calls of the callback.
     ///

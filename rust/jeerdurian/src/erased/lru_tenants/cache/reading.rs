@@ -9,7 +9,7 @@ use crate::erased::schnellru::{Iter, KeyHasher, Keys, LookupKey, LruMap};
 use crate::rattle_std::hash::Hash;
 
 impl<N: Eq + Hash, K: Eq + Hash, V, L: Budgeted<K, V>, S: KeyHasher<K> + Copy> TenantCache<N, K, V, L, S> {
-    /// Returns a tenant's value of a key, and makes its entry the tenant's newest.
+    /// Returns a tenant's value of a key, and makes the key's entry the tenant's newest.
     ///
     /// Cost: `O(1)` expected.
     ///

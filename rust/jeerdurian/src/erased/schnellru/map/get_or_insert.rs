@@ -33,8 +33,8 @@ fn kept_or<V>(lent: Result<&mut V, NotLent<AllocError>>) -> Result<Option<&mut V
 }
 
 impl<K: Eq + Hash, V, L: Limiter<K, V>, S: KeyHasher<K>> LruMap<K, V, L, S> {
-    /// Makes the entry of a key the newest. If the key is not there, inserts it with the value that the closure
-    /// returns, as `insert` does. Returns whether the key is in the map afterwards.
+    /// Makes the entry of a key the newest. If the key is not there, inserts the key as `insert` does, with the value
+    /// that the closure returns. Returns whether the key is in the map afterwards.
     ///
     /// Cost: as `get` if the key is there, else as `insert`.
     ///

@@ -11,7 +11,7 @@ impl<K: Eq + Hash, V, L: Limiter<K, V>, S: KeyHasher<K>> LruMap<K, V, L, S> {
     /// Returns how many entries the inserts have moved, how many they have stored, and how many `shrink_to_fit` has
     /// rehashed. Each count stops at `u64::MAX`.
     ///
-    /// `moved <= 2 * placed + shrunk`. Cost: `O(1)`.
+    /// `moved` is at most `2 * placed + shrunk`. Cost: `O(1)`.
     pub fn move_report(&self) -> MoveReport {
         self.show_map();
         MoveReport { moved: self.moved, placed: self.entries.placed(), shrunk: self.shrunk }
