@@ -187,8 +187,8 @@ impl ResponseCache {
         (stored, evicted)
     }
 
-    /// Returns a copy of the path's response and counts a hit, if the response is fresh. Otherwise counts a miss, and
-    /// removes a stale response.
+    /// If the path's response is fresh, returns a copy and counts a hit. Otherwise counts a miss, and removes a stale
+    /// response.
     pub fn get(&mut self, host: &str, path: &str, now: u64) -> Result<Option<Response>, TenantError>
         ensures fresh { IfOk result (λ found. IfSome found (λ response. now < response.expires)) }
         ensures gets { On string_eq (names_text host.now) (OfOpen (GetsCopy (names_text path.now) now))
@@ -222,7 +222,7 @@ impl ResponseCache {
     }
 }
 
-/// Shows that a just purged path has no response.
+/// Shows that a path has no response after a purge of its prefix.
 fn get_purged(
     cache: &mut ResponseCache,
     host: &str,

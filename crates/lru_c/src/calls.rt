@@ -127,7 +127,7 @@ pub fn copied(alloc: Global, map: &Map) -> Option<Box<Map>>
     }
 }
 
-/// Copies entries, newest first, until the slice is full or no entry is left. Returns how many it copied.
+/// Copies entries, newest first, until the slice is full or no entry is left. Returns how many were copied.
 pub fn copy_entries(map: &Map, entries: &mut [Entry]) -> usize
     ensures filled { entries.new ≡ filled map.now.pairs entries.old }
     ensures count { result ≡ fitting map.now.pairs entries.old }

@@ -15,7 +15,7 @@ with_tail block number = take (length block - 8) block ++ to_le_bytes w64 number
 abbrev pub with_checksum : ℕ → List ℕ → List ℕ
 with_checksum n block = with_tail block (hash_of (with_tail block n))
 
--- the bytes of an event; if a read or write succeeded, these bytes are the block with its checksum
+-- the bytes of an event on the file: for a successful read or write, the block with its checksum
 abbrev pub event_bytes : ℕ → ℕ → List ℕ → List ℕ
 event_bytes zero n bytes = bytes
 event_bytes (suc zero) n bytes = with_checksum n bytes

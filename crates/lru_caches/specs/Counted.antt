@@ -12,7 +12,6 @@ pub record Counted (K V S H : Type 0) : Type 0 where
 abbrev pub count_up : ℕ → ℕ → ℕ
 count_up n more = min (n + more) (2 ^ 64 - 1)
 
--- the counts after a look-up
 abbrev pub looked_up : Bool → Counts → Counts
 looked_up found counts = if found then record counts { hits = count_up counts.hits 1 }
     else record counts { misses = count_up counts.misses 1 }
@@ -29,7 +28,7 @@ inserted (Ok false) n counts = record counts {
 }
 inserted (Err error) n counts = record counts { evictions = count_up counts.evictions n }
 
--- how many evicted pairs have a key other than the named key
+-- how many evicted entries have a key other than the named key
 abbrev pub evicted : {K V : Type 0} → (K → Bool) → List (K × V) → List (K × V) → ℕ
 evicted names old new = length (without names old) - length (without names new)
 

@@ -6,7 +6,7 @@ use Rattle.std.specs.Prelude.{◌≡◌, ℕ, zero, suc, nat_eq, Bool, if◌then
 abbrev pub Event : Type 0
 Event = ℕ × ℕ × List ℕ
 
--- The events of a failed and a successful read, write and sync.
+-- The six events: a read, a write or a sync, which failed or succeeded.
 abbrev pub unread : ℕ → Event
 unread n = (0, n, [])
 
@@ -46,8 +46,8 @@ abbrev pub known : List Event → ℕ → Option (List ℕ)
 known [] n = None
 known (e ∷ earlier) n = known_after e.0 (nat_eq n e.1) e.2 (known earlier n)
 
--- The bytes that a crash after an event leaves in a block, or `None` if the events do not determine these bytes.
--- Before the event, `block` was known of this block, and a crash would leave `old`.
+-- The bytes that a crash after an event leaves in a block, or `None` if the events do not determine these bytes. Before
+-- the event, the known bytes of the block were `block`, and a crash would leave `old`.
 abbrev pub left_after : ℕ → Bool → Option (List ℕ) → Option (List ℕ) → Option (List ℕ)
 left_after zero same block old = old
 left_after (suc zero) same block old = old

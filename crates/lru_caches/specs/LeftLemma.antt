@@ -1,4 +1,5 @@
--- If a record of calls on a file determines which bytes a crash leaves in a block, these are the known bytes.
+-- If a record of calls on a file determines the bytes that a crash leaves in a block, these bytes are the block's known
+-- bytes.
 use Rattle.std.specs.Prelude.{◌≡◌, ℕ, zero, suc, nat_eq, Bool, true, false, if◌then◌else◌, List, [], ◌∷◌, Option, Some, None, refl}
 use Rattle.std.proofs.Common.{sym, ◌∙◌, ap, subst, unwrap_or, option_map}
 use Rattle.std.proofs.lemmas.Option.{none-some}

@@ -78,7 +78,6 @@ module _ {B : Type 0} where
 abbrev pub hit : Counts → Counts
 hit counts = record counts { hits = min (counts.hits + 1) (2 ^ 64 - 1) }
 
--- the counts after n pages were evicted
 abbrev pub evicts : ℕ → Counts → Counts
 evicts n counts = record counts { evictions = min (counts.evictions + n) (2 ^ 64 - 1) }
 
@@ -150,7 +149,7 @@ module _ {B D E S : Type 0} (d : device.Ghosts D B E S) where
   IsWritten None block = ⊥
   IsWritten (Some page) block = IsTrue page.is_dirty × ((block ≡ d.seen page.block) ⊎ d.IsTorn block)
 
-  -- A crash may leave only what a crash before the call might leave, or the block of a dirty page, whole or torn.
+  -- Now a crash may leave only what a crash before the call might leave, or the block of a dirty page, whole or torn.
   abbrev pub CrashAdds : List (ℕ × Page B) → D → D → Type 0
   CrashAdds pages old new = (n : ℕ) (block : S) → d.may_leave new n block
       → d.may_leave old n block ⊎ IsWritten (lookup (nat_eq n) pages) block

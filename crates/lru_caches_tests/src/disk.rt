@@ -40,7 +40,6 @@ impl<'a> Disk<'a> {
         }
     }
 
-    // Counts a call, and returns whether the disk works.
     fn works(&mut self) -> bool
         ensures same { self.new ≡ record self.old { faults = self.new.faults } }
         ensures faults { self.new.faults ≡ self.old.faults ↔ IsTrue result }

@@ -38,7 +38,7 @@ module _ {K V S : Type 0} where
   SetsNoLimiter call = Unit {0}
 
 module _ {K V S : Type 0} (eq : K → K → Bool) (cost : K → V → ℕ) (account : S → ℕ) where
-  -- If the call writes a value, the cost of the pair stays. If the call sets a limiter, the running total stays.
+  -- If the call writes a value, the pair keeps its cost. If the call sets a limiter, the running total stays the same.
   abbrev pub KeepsCost : Contents K V S → Call K V S → Type 0
   KeepsCost old (calls.Write key v) =
       MatchOption (lookup_entry (eq key) old.pairs) (Unit {0}) (λ there. cost there.0 v ≡ cost there.0 there.1)
@@ -69,7 +69,7 @@ module _ {K V S H : Type 0} (rules : Rules K V S) (offers : Offers K V S K) (eq 
     SummingStep old call reply new = (KeepsCost eq cost account (contents old) call × CallStep old call reply new)
         ⊎ ((KeepsCost eq cost account (contents old) call → ⊥) × (reply ≡ cost_differs) × (new ≡ old))
 
-  -- The calls, one after another, are steps of the map. A call that changes nothing is no step.
+  -- The calls, one after another, are a run of the map. A call that changes nothing is no step of the run.
   pub record AreSteps (calls : List (Call K V S)) (old new : State K V S H) : Type 0 where
     pub any : Run (AnyStep rules offers eq hash_of) new old
     -- if the calls name only keys that pass a test, the steps name only such keys, too

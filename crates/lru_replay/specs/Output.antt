@@ -97,7 +97,7 @@ figures_text figures = named_text (codes "len ") figures.len ++ (named_text (cod
     ++ (named_text (codes " memory ") figures.memory ++ (named_text (codes " moved ") figures.moved
     ++ placed_text figures.placed figures.shrunk)))
 
--- The text of a reply. `cost` is the limiter's running total, if it keeps one. No line gets the reply `cost_differs`.
+-- The text of a reply. `cost` is the limiter's running total, if any. No line gets the reply `cost_differs`.
 abbrev pub reply_text : Option ℕ → Reply ℕ ℕ → List ℕ
 reply_text cost (flag there) = flag_text there
 reply_text cost (given result out) = insert_text result ++ rest_text out

@@ -1,5 +1,5 @@
--- What a program does to the keys of a map, whatever calls it makes. The map is an LRU cache with a maximum length or a
--- limit of cost.
+-- What a program does to the keys of a map, whatever calls the program makes. The map is an LRU cache with a maximum
+-- length or a limit of cost.
 use Rattle.std.specs.Prelude.{◌≡◌, ℕ, ◌+◌, ◌*◌, ◌^◌, ◌<◌, ◌≤◌, Bool, true, List, [], ◌∷◌, ◌++◌, length, sum_by}
 use Rattle.std.specs.List.{AllByRecursion}
 use Rattle.group_table.specs.Change.{count_up}

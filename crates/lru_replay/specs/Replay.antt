@@ -17,11 +17,11 @@ use Rattle.lru_replay.specs.Maps.{empty}
 use Rattle.lru_replay.specs.Output.{no_limiter_text, Begins}
 use Rattle.lru_replay.specs.LineRuns.{IsTextOf, OfAll, OfRead, BeginsText}
 
--- the bytes of an entry, if the first line names no number of bytes
+-- how many bytes an entry takes, if the first line does not say
 abbrev pub plain_entry_bytes : ℕ
 plain_entry_bytes = 32
 
--- The text consists of the answers to the lines, if the calls are made on an empty map with this limit.
+-- The lines are carried out on an empty map with this limit, and the text consists of their answers.
 abbrev pub IsTextUnder : Limit → List (List ℕ) → List ℕ → Type 0
 IsTextUnder (limits.Length most) =
     IsTextOf length_rules length_offers no_cost (empty most plain_entry_bytes max_of_32_bits)
@@ -65,7 +65,7 @@ module _ (from to old new : Option (List ℕ)) where
     pub reads : TakesFirst from to
     pub writes : Appends old new no_limiter_text
 
-  -- The answers to all lines that were read whole were written, and no other text.
+  -- The replay wrote the answers to all lines that it read whole, and no other text.
   abbrev pub ReadFailed : Type 0
   ReadFailed = OfRead (SoFar IsReplay) from to (Appends old new)
 

@@ -105,8 +105,8 @@ module _ {K V S H : Type 0} (rules : Rules K V S) (offers : Offers K V S K) (eq 
       (λ old result new. FindsByHash eq (hash_of old.hasher) hash key old.pairs result × (new ≡ after result old))
       (λ h c result d. FindsByHash eq (hash_of h) hash key c.pairs result × (d ≡ contents (after result (bare h c))))
 
-  -- What each call does. The results of a reservation and of a shrink, and all figures except the number of pairs,
-  -- depend on the table. A list of pairs has no table, so the step on a list permits any of these results and figures.
+  -- What each call does. A list of pairs has no table, so the step on a list permits any result of a reservation or a
+  -- shrink, and any figures with the right number of pairs.
   abbrev pub does : Call K V S → Does K V S H
   does (calls.Insert key v) = gives (a_key key) insert_reply (Insert rules offers eq hash_of key v)
       (λ h. InsertsInList rules offers eq key v)

@@ -26,8 +26,8 @@ fn serve(pages: &mut Pages, host: &str, paths: Vec<String>) -> Result<u64, Tenan
     Ok(hits)
 }
 
-/// Serves a host. Whatever `serve` returns, the table of hosts, their names, tables, paths and pages take at most the
-/// limit.
+/// Serves a host. Whatever `serve` returns, the cache takes at most its limit: the table of hosts, and each host's
+/// name, table, paths and pages.
 fn serve_within(pages: &mut Pages, host: &str, paths: Vec<String>) -> Result<u64, TenantError>
     ensures { pages.new.table + sum_by (taken (λ name. block_bytes (string_capacity name))
         (both_own (λ path. block_bytes (string_capacity path)) (λ page. block_bytes (string_capacity page))))

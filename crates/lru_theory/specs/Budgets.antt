@@ -7,7 +7,7 @@ use Rattle.std.specs.Set.{remove_key}
 use Rattle.lru_theory.specs.Traces.{is_in, recency, since, cached_by, faults_by}
 
 module _ {K : Type 0} (cost : K → ℕ) where
-  -- the longest beginning of the list that costs at most n
+  -- the longest prefix of the list whose keys together cost at most n
   abbrev pub affordable : ℕ → List K → List K
   affordable n [] = []
   affordable n (key ∷ keys) = if nat_le (cost key) n then key ∷ affordable (n - cost key) keys else []

@@ -23,13 +23,13 @@ module _ {K : Type 0} (test : K → Bool) where
   place_of [] = 0
   place_of (place ∷ places) = if contains_it place then 0 else suc (place_of places)
 
-  -- the places after the first key that passes the test was removed: its place is free
+  -- the places after a removal of the first key that passes the test: its place becomes free
   abbrev pub freed : List (Option K) → List (Option K)
   freed [] = []
   freed (place ∷ places) = if contains_it place then None ∷ places else place ∷ freed places
 
   -- The places without the first place that is free or whose key passes the test. If the omitted place was free, the
-  -- later places are `freed`.
+  -- first key that passes the test is removed, too (`freed`).
   abbrev pub vacated : List (Option K) → List (Option K)
   vacated [] = []
   vacated (None ∷ places) = freed places
@@ -57,7 +57,7 @@ module _ {K : Type 0} (eq : K → K → Bool) where
   call_fault clears keys = 0
   call_fault looks keys = 0
 
-  -- how many of these calls reference a key that is not in an LRU cache of n places, which begins with the keys `keys`
+  -- How many of these calls reference a key that is not cached. The LRU cache has n places, and begins with `keys`.
   abbrev pub call_faults : ℕ → List (KeyCall K) → List K → ℕ
   call_faults n [] keys = 0
   call_faults n (call ∷ calls) keys = call_fault call keys + call_faults n calls (after_call eq n call keys)

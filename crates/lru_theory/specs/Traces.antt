@@ -6,8 +6,7 @@ use Rattle.std.specs.Cmp.Lexicographic.{pointwise}
 use Rattle.std.specs.List.{list_any}
 use Rattle.std.specs.Set.{remove_key}
 
--- The keys of a cache after a trace. The cache begins with the keys `keys`, and `refer` changes the keys at each
--- reference.
+-- The keys of a cache after a trace. The cache begins with `keys`, and `refer` changes them at each reference.
 abbrev pub cached_by : {K : Type 0} → (K → List K → List K) → List K → List K → List K
 cached_by refer keys [] = keys
 cached_by refer keys (key ∷ trace) = cached_by refer (refer key keys) trace
@@ -53,8 +52,7 @@ module _ {K : Type 0} (eq : K → K → Bool) where
   abbrev pub fault : K → List K → ℕ
   fault key keys = if is_in key keys then 0 else 1
 
-  -- how many references of the trace miss in a cache with the keys `keys`, if `refer` changes the keys at each
-  -- reference
+  -- How many references of the trace miss. The cache begins with `keys`, and `refer` changes them at each reference.
   abbrev pub faults_by : (K → List K → List K) → List K → List K → ℕ
   faults_by refer keys [] = 0
   faults_by refer keys (key ∷ trace) = fault key keys + faults_by refer (refer key keys) trace

@@ -13,9 +13,9 @@ ghost use Rattle.lru_theory.specs.Best.{min_misses, bypass_misses};
 ghost use Rattle.lru_theory.specs.Inclusion.{KeyCall, refers, after_calls, IsIncluded, IsSubsequence};
 ghost use Rattle.lru_theory.specs.Places.{keys_in, place_of, place_calls, call_faults, IsNoPromotion};
 
-/// If an LRU cache of n places contains the n keys that were referenced last, it still does after any trace (`keys`).
-/// The cache misses exactly at the references whose reuse distance is at least n, and at the first reference to each
-/// key (`misses`).
+/// If an LRU cache of n places contains the n keys that were referenced last, this is still so after any trace
+/// (`keys`). The cache misses exactly at the references whose reuse distance is at least n, and at the first reference
+/// to each key (`misses`).
 pub fn a_cache_is_the_newest<K: Eq>()
     ensures keys { (n : ℕ) (past trace : List K) →
         cached K.eq n (take n (recency K.eq past)) trace ≡ take n (recency K.eq (past_after past trace)) }
@@ -50,7 +50,7 @@ pub fn lru_is_competitive<K: Eq>()
         (k - h) * misses K.eq k past trace ≤ k * paid + (k - h) * length first }
 {}
 
-/// Take a policy with h places that may load keys ahead, begins with at most h keys, and pays `paid` times. Some demand
+/// Take a policy that has h places, begins with at most h keys, may load keys ahead, and pays `paid` times. Some demand
 /// policy with h places and the same first keys misses at most `paid` times.
 pub fn loading_ahead_gains_nothing<K: Eq>()
     ensures { (h : ℕ) (trace first left : List K) (paid : ℕ) → length first ≤ h →
@@ -58,9 +58,10 @@ pub fn loading_ahead_gains_nothing<K: Eq>()
         (demanded : ℕ) × (other : List K) × Served (Demands K.eq h) other first trace demanded × (demanded ≤ paid) }
 {}
 
-/// A cache of n places is *included* in a cache of m ≥ n places if the larger cache contains its keys, in the same
-/// order, and at most m - n more keys. Any calls (`KeyCall`) keep the smaller cache included (`included`). So the
-/// larger cache finds each key that the smaller cache finds (`finds`), and misses no more often in a trace (`misses`).
+/// A cache of n places is *included* in a cache of m ≥ n places if the larger cache contains the keys of the smaller
+/// cache, in the same order, and at most m - n more keys. Any calls (`KeyCall`) keep the smaller cache included
+/// (`included`). So the larger cache finds each key that the smaller cache finds (`finds`), and misses no more often in
+/// a trace (`misses`).
 pub fn a_smaller_cache_is_included<K: Eq>()
     ensures included { (n m : ℕ) (calls : List (KeyCall K)) (small large : List K) → n ≤ m →
         IsIncluded K.eq n m small large →
@@ -73,9 +74,10 @@ pub fn a_smaller_cache_is_included<K: Eq>()
 
 /// One list of places holds the keys of LRU caches of every size, even if keys are removed. If no call is a `promotes`,
 /// the cache of n places contains exactly the keys in the first n places (`keys`). A removed key leaves a free place. A
-/// reference puts its key in front, in exchange for the first place that is free or contains the key. If this place was
-/// free, the old place of the key becomes free. So the cache of n places contains a key if fewer than n places come
-/// before it (`finds`). If all calls are references, they miss as often as in a trace (`misses`).
+/// reference adds its key in a place at the front, and takes out the first other place that is free or contains the
+/// key, if any. If a free place was taken out, the key's old place becomes free. So the cache of n places contains a
+/// key if fewer than n places come before the key (`finds`). If all calls are references, they miss as often as in a
+/// trace (`misses`).
 pub fn deletes_leave_places<K: Eq>()
     ensures keys { (n : ℕ) (calls : List (KeyCall K)) (places : List (Option K)) → AllByRecursion IsNoPromotion calls →
         keys_in (take n (place_calls K.eq calls places)) ≡ after_calls K.eq n calls (keys_in (take n places)) }
@@ -85,8 +87,8 @@ pub fn deletes_leave_places<K: Eq>()
         call_faults K.eq n (map refers trace) keys ≡ faults K.eq n keys trace }
 {}
 
-/// If the cache with the smaller budget contains the newest keys of the other cache, it still does after any trace
-/// (`front`), and misses at least as often (`misses`).
+/// If the cache with the smaller budget contains the newest keys of the other cache, this is still so after any trace
+/// (`front`). The smaller cache misses at least as often (`misses`).
 pub fn a_larger_budget_never_misses_more<K: Eq>()
     ensures front { (cost : K → ℕ) (n m some : ℕ) (keys trace : List K) → n ≤ m →
         let small = cached_within K.eq cost n (take some keys) trace in
@@ -96,8 +98,9 @@ pub fn a_larger_budget_never_misses_more<K: Eq>()
 {}
 
 /// Suppose that equal keys cost the same. If a cache with the limit n contains the first keys of the recency list, up
-/// to a cost of n, it still does after any trace (`keys`). A key alone may cost more than n. The cache misses exactly
-/// at the references to keys that need more than n (`needs`), and at the first reference to each key (`misses`).
+/// to a cost of n, this is still so after any trace (`keys`). A key alone may cost more than n. The cache misses
+/// exactly at the references to keys that need more than n (`needs`), and at the first reference to each key
+/// (`misses`).
 pub fn a_budget_keeps_the_newest<K: Eq>()
     ensures keys { (cost : K → ℕ) (n : ℕ) (past trace : List K) → EqualCosts K.eq cost →
         cached_within K.eq cost n (affordable cost n (recency K.eq past)) trace

@@ -41,7 +41,8 @@ limits_of (curves.Bytes curve) = Some curve.limits
 abbrev pub Has : AnyCurve → ℕ → Type 0
 Has curve size = IfSome (limits_of curve) (λ limits. is_in nat_eq size limits ≡ true)
 
--- For a sample of one key in 2 ^ bits, the curve counts the misses for each of the `sizes`, divided by 2 ^ bits.
+-- The sample has one key in 2 ^ bits. For each size of `sizes`, the curve counts the misses in a cache of the size
+-- `size / 2 ^ bits`.
 abbrev pub HasAll : AnyCurve → ℕ → List ℕ → Type 0
 HasAll curve bits sizes = All (λ size. Has curve (size / 2 ^ bits)) sizes
 

@@ -16,7 +16,6 @@ call_of reference = if reference.1 == 0 then removes reference.0 else refers ref
 abbrev pub calls_of : List (List ℕ × ℕ) → List (KeyCall (List ℕ))
 calls_of references = map call_of references
 
--- how many of the calls are references
 abbrev pub referred : List (KeyCall (List ℕ)) → ℕ
 referred [] = 0
 referred (refers key ∷ calls) = referred calls + 1

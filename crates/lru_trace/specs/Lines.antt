@@ -23,15 +23,15 @@ fed line = line ++ 10 ∷ []
 abbrev pub LacksFeed : List ℕ → Type 0
 LacksFeed bytes = AllByRecursion (λ b. b ≢ 10) bytes
 
--- `line` is `bytes` without a line feed at the end
+-- `line` is `bytes` without the line feed at the end, if there is one
 abbrev pub EndsSo : Ending → List ℕ → List ℕ → Type 0
 EndsSo endings.Feed bytes line = bytes ≡ fed line
 EndsSo endings.InputEnd bytes line = (line ≡ bytes) × (0 < length line) × ((front : List ℕ) → bytes ≡ fed front → ⊥)
 EndsSo endings.Nothing bytes line = (line ≡ bytes) × (line ≡ [])
 
--- `from` and `to` list the unread bytes before and after. Each list may be unknown (`None`).
+-- `from` and `to` list the unread bytes before and after a read. Each list may be unknown (`None`).
 module _ (from to : Option (List ℕ)) where
-  -- These bytes, without a line feed, were read. The reader has no bytes left.
+  -- These bytes, which contain no line feed, were read. The reader has no bytes left.
   abbrev pub TakesRest : List ℕ → Type 0
   TakesRest bytes = LacksFeed bytes × Consumes from to bytes × OnSome from (IsAtEnd to)
 

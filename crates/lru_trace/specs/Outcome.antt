@@ -16,8 +16,8 @@ use Rattle.lru_trace.specs.declared.lines.Others.{Others}
 use Rattle.lru_trace.specs.Report.{output}
 use Rattle.lru_trace.specs.Sizes.{sizes_from}
 
--- `from` and `to` list the unread bytes before and after. Each list may be unknown (`None`). The reader was read to the
--- end, and `curve` counts the references that the lines make.
+-- The reader was read to the end, and `curve` counts the references that the lines make. `from` and `to` list the
+-- unread bytes before and after the reads. Each list may be unknown (`None`).
 pub record KeysRead (from to : Option (List ℕ)) (options : Options) (curve : AnyCurve) (others : Others) : Type 0 where
   pub input : List ℕ
   pub reads : Consumes from to input
@@ -56,8 +56,8 @@ pub record TooLargeRead (n : ℕ) (from to : Option (List ℕ)) (options : Optio
   pub reads : Consumes from to input
   pub large : AreTooLarge (warm_in options (drop n (lines_of input))) (counted_in options (drop n (lines_of input)))
 
--- A beginning of the text was written. `old` and `new` list the written bytes before and after. Each list may be
--- unknown (`None`).
+-- A prefix of the text was written. `old` and `new` list the written bytes before and after. Each list may be unknown
+-- (`None`).
 abbrev pub Begins : Option (List ℕ) → Option (List ℕ) → List ℕ → Type 0
 Begins old new text = (begun rest : List ℕ) × (text ≡ begun ++ rest) × Appends old new begun
 

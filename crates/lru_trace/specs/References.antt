@@ -37,7 +37,6 @@ measure_of (Sized n column) = Bytes
 abbrev pub bits_of : Options → ℕ
 bits_of options = min options.sample 20
 
--- whether the line deletes a key
 abbrev pub deletes : Policies → List ℕ → Bool
 deletes (Lru n) line = false
 deletes (Deletes n) line = starts_with nat_eq line (codes "- ")
@@ -55,7 +54,7 @@ size_of (Deletes n) line = Some (if deletes (Deletes n) line then 0 else 1)
 size_of Best line = Some 1
 size_of (Sized n column) line = number_from None (cell column.separator column.index line)
 
--- whether a line with this reference counts as a reference, and is no delete
+-- whether a line with this key and size is a reference, not a delete
 abbrev pub refers_to : Policies → List ℕ × ℕ → Bool
 refers_to (Lru n) reference = true
 refers_to (Deletes n) reference = nat_lt 0 reference.1
@@ -99,8 +98,8 @@ module _ (options : Options) where
     abbrev pub counted_in : List (List ℕ × ℕ)
     counted_in = sampled (bits_of options) (drop warm_up_in references_in)
 
-    -- how many lines were malformed, how many references after the warm-up the sample skipped, and how many lines were
-    -- deletes
+    -- how many lines were malformed, how many references after the warm-up were outside the sample, and how many lines
+    -- deleted a key
     abbrev pub others_in : Others
     others_in = record {
       malformed = malformed_in;

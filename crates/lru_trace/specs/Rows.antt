@@ -44,8 +44,8 @@ references_of Places trace = length trace
 references_of PlacesWithDeletes trace = referred (calls_of trace)
 references_of Bytes trace = length trace
 
--- How many different keys were referenced. With deletes, the most keys that were there at once in a cache that evicts
--- nothing.
+-- How many different keys were referenced. With deletes, the largest number of keys that an unlimited cache contained
+-- at once.
 abbrev pub keys_among : Measure → List (List ℕ × ℕ) → List (List ℕ × ℕ) → ℕ
 keys_among Places warm trace = keys (keys_of warm) (keys_of trace)
 keys_among PlacesWithDeletes warm trace = length (places_of (calls_of warm) (calls_of trace))

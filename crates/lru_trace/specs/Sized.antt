@@ -33,7 +33,7 @@ pub record Sized : Type 0 where
   pub recency : List ℕ
   pub sizes : List ℕ
   pub limits : List ℕ
-  -- For each limit, how many counted references miss at the previous limit, but not at this limit. The last count is
+  -- For each limit, how many counted references hit at this limit, and miss at all limits before it. The last count is
   -- how many counted references miss at every limit.
   pub counts : List ℕ
   pub references : ℕ

@@ -16,7 +16,7 @@ use std::marker::Model;
 /// The misses of a trace in LRU caches of every size, counted in one pass. The trace may also delete keys.
 ///
 /// A delete removes its key from each cache that contains the key. The memory is in proportion to the largest number of
-/// keys that were there at once.
+/// keys that an unlimited cache contained at once.
 ///
 /// ```
 /// let mut curve = DeleteCurve::new(alloc)?;
@@ -199,7 +199,7 @@ impl DeleteCurve {
         self.references
     }
 
-    /// Returns the largest number of keys that were there at once, in a cache that evicts nothing.
+    /// Returns the largest number of keys that an unlimited cache contained at once.
     pub fn places(&self) -> usize
         ensures { (warm trace : List (KeyCall (List ℕ))) → IsDeleteOf warm trace self.now →
             result ≡ length (places_of warm trace) }

@@ -27,7 +27,7 @@ pub enum Ending {
     Nothing,
 }
 
-/// How many lines are malformed, skipped or deletes.
+/// How many lines are malformed, are skipped, or delete a key.
 #[derive(Clone, Copy, Debug, PartialEq, Eq)]
 pub struct Others {
     /// How many lines make no reference.
@@ -172,7 +172,7 @@ fn refer_line(
 }
 
 /// References the key of each remaining line (see `docs/TRACE.md`) if the key is in the sample. Returns how many lines
-/// are malformed, skipped or deletes. After each million lines, writes the number of lines to `progress`.
+/// are malformed, are skipped, or delete a key. After each million lines, writes the number of lines to `progress`.
 ///
 /// # Errors
 ///

@@ -33,7 +33,7 @@ pub enum Measure {
 /// The policies whose misses are counted.
 #[derive(Clone, Copy, Debug, PartialEq, Eq)]
 pub enum Policies {
-    /// LRU. The first `warm_up` keys fill the caches, and their references are not counted.
+    /// LRU. The first `warm_up` references fill the caches, and are not counted.
     Lru { warm_up: u64 },
     /// As `Lru`. A line that begins with a minus and a space deletes its key.
     Deletes { warm_up: u64 },

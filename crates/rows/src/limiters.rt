@@ -8,8 +8,8 @@ pub trait Numbered: Sized {
     fn of(number: u64) -> Self;
 }
 
-/// Returns the number that these words of a limiter mean. For words that are not listed here, this is the number at
-/// their end, or 0.
+/// Returns the number that these words of a limiter mean. Words that are not listed here mean the number at their end,
+/// or 0.
 pub fn number_of(words: &str) -> u64 {
     match words {
         "no growth at first" | "blank values" => 0,

@@ -1,4 +1,4 @@
-//! A cache of texts that takes at most 200 MiB: a line of code and a theorem.
+//! A cache of texts that takes at most 200 MiB, by the law `calls_keep_the_bytes`.
 ghost use Rattle.std.specs.Prelude.{◌≡◌, ◌*◌, ◌^◌, IfOk, string_capacity};
 ghost use Rattle.lru_limits.specs.Bytes.{both_own, block_bytes};
 ghost use Rattle.lru_model.specs.Theorems.{KeepsBytes, TakesAtMost};
@@ -43,7 +43,7 @@ fn change(
     kept
 }
 
-/// Counts the smaller table after a shrink. The cache still takes at most its limit.
+/// Shrinks the table, and sets a limiter that counts the new table. The cache still takes at most its limit.
 fn shrink(map: &mut LruMap<String, String, ByBytes>)
     requires { KeepsBytes (both_own (λ k. block_bytes (string_capacity k)) (λ v. block_bytes (string_capacity v)))
         map.old }

@@ -1,7 +1,7 @@
 //! Public calls that may change a map are steps, so the laws on steps and on runs hold for these calls.
 //!
-//! A call that gets a hash has the clauses of a call below. A `drain` pops each entry that it returns. No caller's proof
-//! can use the loan of `get_or_insert`, which is a step by `writes_newest` of `EveryCall`.
+//! A call that gets a hash has the clauses of a call below. A `drain` pops each entry that it returns. The loan of
+//! `get_or_insert` is a step (`writes_newest` of `EveryCall`), but no caller's proof can use it.
 ghost use Rattle.lru_limits.specs.Admissions.{offers_of};
 ghost use Rattle.lru_model.specs.Runs.{Step, AnyStep, Run, RunWithoutInsert};
 ghost use Rattle.lru_model.specs.Theorems.{PaysForInsertions};

@@ -3,7 +3,8 @@
 //! No contract can say what memory is left, so these calls are only proved safe.
 use std::alloc::{AllocError, Global};
 
-// The tried sizes are `LARGEST`, its half, and so on, and from `SMALL` down each multiple of `STEP`.
+// The sizes of the requests: `LARGEST`, half of it, and so on down to `SMALL`, and then each smaller multiple of
+// `STEP`.
 const LARGEST: usize = 1 << 46;
 
 const SMALL: usize = 2048;

@@ -84,7 +84,7 @@ impl BytesSlot {
 }
 
 /// A handle: a map of byte strings on the heap, or none. The running total of the map is the weight of its entries, and
-/// at most its budget. Nothing drops a handle ([`Lru`](crate::handle::Lru)).
+/// at most its budget. Nothing drops a handle (see [`Lru`](crate::handle::Lru)).
 #[repr(C)]
 pub struct LruBytes {
     pub(crate) slot: BytesSlot,

@@ -14,8 +14,8 @@ use std::io::{Read, Seek, Write};
 /// A device whose blocks are parts of a file. Each block has `N` bytes.
 ///
 /// A write replaces the last 8 bytes of a block by a checksum: the hash of the other bytes and of the block's number.
-/// Contracts do not see the checksum. A read returns `Ok` only if the checksum is right. So a read detects a torn or
-/// damaged block, or a block with another number, unless the hashes happen to be equal.
+/// Contracts do not see the checksum. A read returns `Ok` only if the checksum is right. So a read detects a torn,
+/// damaged or misplaced block, unless the hashes happen to be equal.
 ///
 /// ```
 /// let file = Cursor::new([0u8; 48]);

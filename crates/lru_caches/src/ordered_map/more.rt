@@ -47,7 +47,7 @@ impl<K: Eq + Hash, V, S: KeyHasher<K>> OrderedMap<K, V, S> {
     /// assert_eq!(rt; map.try_reserve(100), Ok(()));
     /// ```
     ///
-    /// Cost: `O(1)` if there is enough growth left, else `O(buckets)` of both tables.
+    /// Cost: `O(1)` if there is enough growth left, else `O(old buckets + new buckets)`.
     ///
     /// # Errors
     ///

@@ -1,4 +1,4 @@
-//! The calls of a run that return pairs. Each call requests the memory for the pairs before it changes the map.
+//! Calls that return pairs. Each call requests the memory for the pairs before it changes the map.
 ghost use Rattle.std.specs.Prelude.{◌≡◌, ◌++◌, ◌+◌, ◌≤◌, ◌<◌, option_to_list};
 ghost use Rattle.std.specs.Vec.{vec_len, vec_capacity};
 ghost use Rattle.lru_model.specs.Drains.{newest_given, oldest_given, pops_first};

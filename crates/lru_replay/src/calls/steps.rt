@@ -1,4 +1,4 @@
-//! The calls of a run that copy a lent value, write a value, or join several results into one answer.
+//! Calls that copy a lent value, write a value, or join several results into one answer.
 ghost use Rattle.std.specs.Prelude.{◌≡◌, Option, is_some, if◌then◌else◌};
 ghost use Rattle.lru_model.specs.Calls.{promoted, written};
 ghost use Rattle.lru_model.specs.Lists.{lookup, first, last, newest_value};

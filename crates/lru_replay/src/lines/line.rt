@@ -10,7 +10,7 @@ use std::marker::Model;
 /// The length in bytes of the longest line with a meaning: `insert` with two numbers of 20 digits.
 const LONGEST: usize = 48;
 
-/// How many bytes of a line `Line` holds at most: one more than `LONGEST`, so that a longer line is noticed.
+/// The most bytes of a line that a `Line` stores: one more than `LONGEST`, so that a longer line is noticed.
 pub const HELD: usize = LONGEST + 1;
 
 #[derive(Drop)]
@@ -133,7 +133,7 @@ pub enum Ending {
     Nothing,
 }
 
-/// Reads the next line to its end, and holds its first `HELD` bytes. Repeats a read of the buffer if it is interrupted.
+/// Reads the next line to its end, and stores its first `HELD` bytes. Repeats an interrupted read of the buffer.
 ///
 /// # Errors
 ///

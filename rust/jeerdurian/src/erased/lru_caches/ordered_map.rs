@@ -21,8 +21,8 @@ mod more;
 ///
 /// The map evicts nothing.
 ///
-/// Each call follows the call of indexmap's `IndexMap` with the same name, unless its comment names another. In the
-/// examples, `map` contains (1, 11) and then (2, 20).
+/// Each call follows the call of indexmap's `IndexMap` with the same name, unless the comment names another call. In
+/// the examples, `map` contains (1, 11) and then (2, 20).
 
 pub struct OrderedMap<K, V, S = RandomState> {
     map: LruMap<K, V, Unlimited, S>,

@@ -29,8 +29,8 @@ impl Best {
         (*at!(self.nexts, now))
     }
 
-    /// Returns how often MIN with `places` places misses if it begins with no keys. Each policy with `places` places
-    /// misses at least as often, if it begins with no keys, stores each referenced key, and loads keys only on demand.
+    /// Returns how often MIN with `places` places misses if it begins with no keys. If a policy with `places` places
+    /// begins with no keys, stores each referenced key, and loads keys only on demand, it misses at least as often.
     ///
     /// Cost: for n places, `O(log n)` for each reference. The memory is in proportion to the smaller of n and the
     /// number of keys.
@@ -53,8 +53,8 @@ impl Best {
         Ok(misses)
     }
 
-    /// Returns how often MIN with bypass and `places` places misses if it begins with no keys. Each policy with
-    /// `places` places misses at least as often, if it begins with no keys, and loads keys only on demand.
+    /// Returns how often MIN with bypass and `places` places misses if it begins with no keys. If a policy with
+    /// `places` places begins with no keys, and loads keys only on demand, it misses at least as often.
     ///
     /// Cost: as `min_misses`.
     ///

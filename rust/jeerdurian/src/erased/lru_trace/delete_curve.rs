@@ -11,7 +11,7 @@ use crate::rattle_std::collections::HashMap;
 /// The misses of a trace in LRU caches of every size, counted in one pass. The trace may also delete keys.
 ///
 /// A delete removes its key from each cache that contains the key. The memory is in proportion to the largest number of
-/// keys that were there at once.
+/// keys that an unlimited cache contained at once.
 
 pub struct DeleteCurve {
     numbers: HashMap<String, usize>,
@@ -119,7 +119,7 @@ impl DeleteCurve {
         self.references
     }
 
-    /// Returns the largest number of keys that were there at once, in a cache that evicts nothing.
+    /// Returns the largest number of keys that an unlimited cache contained at once.
     pub fn places(&self) -> usize {
         self.places.len()
     }

@@ -132,7 +132,7 @@ fn check(store: &mut Store, model: &mut Model, counts: &mut Counts) {
     }
 }
 
-/// Crashes a store `count` times: crash n comes after n % `CALLS` calls on the files, or after all the work. Half of
+/// Crashes a store `count` times: crash n comes after n % `CALLS` calls on the files, or after the last call. Half of
 /// the time, crashes the store again in the recovery.
 pub fn crashes(alloc: Global, count: u64) -> Result<Counts, StoreError> {
     let power = Power::new();

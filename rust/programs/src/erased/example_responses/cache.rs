@@ -130,8 +130,8 @@ impl ResponseCache {
         (stored, evicted)
     }
 
-    /// Returns a copy of the path's response and counts a hit, if the response is fresh. Otherwise counts a miss, and
-    /// removes a stale response.
+    /// If the path's response is fresh, returns a copy and counts a hit. Otherwise counts a miss, and removes a stale
+    /// response.
     pub fn get(&mut self, host: &str, path: &str, now: u64) -> Result<Option<Response>, TenantError> {
         drop_stale(&mut self.entries, host, path, now)?;
         match self.entries.get_counted(&host, &path)? {
@@ -157,7 +157,7 @@ impl ResponseCache {
     }
 }
 
-/// Shows that a just purged path has no response.
+/// Shows that a path has no response after a purge of its prefix.
 fn get_purged(
     cache: &mut ResponseCache,
     host: &str,

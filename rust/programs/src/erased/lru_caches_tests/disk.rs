@@ -33,7 +33,6 @@ impl<'a> Disk<'a> {
         Disk { blocks, synced: blocks, dropped, calls_left, faults: 0, is_usable: true }
     }
 
-    // Counts a call, and returns whether the disk works.
     fn works(&mut self) -> bool {
         let left = self.calls_left.get();
         self.calls_left.set(left.wrapping_sub(1));

@@ -68,7 +68,7 @@ pub enum Answer<K, V> {
     Given {
         /// Whether the key is in the map now. `Err` means out of memory.
         done: Result<bool, AllocError>,
-        /// The pairs that `insert_with` passes to its callback, in order.
+        /// The pairs that `insert_and_keep` returned, in order.
         out: Vec<(K, V)>,
     },
     /// For `Update`.

@@ -25,12 +25,12 @@ pub fn gets_that_insert_make_references<K: Eq + Hash, V, F: FnOnce() -> V, S: Ke
 /// reference if they return `Ok`.
 pub fn gets_that_insert_if_made_make_references<K: Eq + Hash, V, E, F: FnOnce() -> Result<V, E>, S: KeyHasher<K>>() {}
 
-/// After the references of a trace, the map contains the keys that an LRU cache with this limit of cost contains
-/// (`keys`), and the program missed as often as this cache (`misses`). The map counts the misses in `placed`
-/// (`stored`). Equal keys must cost the same.
+/// After the references of a trace, the map contains the same keys as an LRU cache with this limit of cost (`keys`),
+/// and the program missed as often as this cache (`misses`). The map counts the misses in `placed` (`stored`). Equal
+/// keys must cost the same.
 pub fn references_keep_the_newest<K: Eq + Hash, V, S: KeyHasher<K>>() {}
 
 /// Suppose that the references of one trace are made on two maps, by any calls. If the keys of the map with the smaller
-/// limit were the newest keys of the other map, they still are after the trace (`front`), and the map with the smaller
+/// limit were the newest keys of the other map, this is still so after the trace (`front`). The map with the smaller
 /// limit missed at least as often (`misses`).
 pub fn more_capacity_never_misses_more<K: Eq + Hash, V, S: KeyHasher<K>>() {}

@@ -40,9 +40,9 @@ pub fn calls_change_the_keys<K: Eq + Hash, V, S: KeyHasher<K>>() {
     laws::calls_keep_the_length::<K, V, K, ByLength, S>();
 }
 
-/// A program that made the references of a trace, and then makes one more, has made the references of the longer trace.
-/// The number of misses stays if the last reference hits (`hits`), and rises by one if it misses (`misses`). The map
-/// still keeps to its length (`keeps`).
+/// If a program made the references of a trace, and then makes one more, it has made the references of the longer
+/// trace. The number of misses stays if the last reference hits (`hits`), and rises by one if it misses (`misses`). The
+/// map still keeps to its length (`keeps`).
 pub fn programs_make_references<K: Eq + Hash, V, S: KeyHasher<K>>() {}
 
 /// After the references of a trace, the map contains the `max_length` keys that were referenced last (`keys`). A
@@ -52,8 +52,8 @@ pub fn programs_make_references<K: Eq + Hash, V, S: KeyHasher<K>>() {}
 pub fn references_keep_the_newest<K: Eq + Hash, V, S: KeyHasher<K>>() {}
 
 /// Suppose that the references of one trace are made on two maps, by any calls. If the keys of the smaller map were the
-/// newest keys of the larger map, they still are its newest keys after the trace (`front`). If the keys of the smaller
-/// map were included in the keys of the larger map (`IsIncluded`), the smaller map misses at least as often (`misses`).
+/// newest keys of the larger map, this is still so after the trace (`front`). If the keys of the smaller map were
+/// included in the keys of the larger map (`IsIncluded`), the smaller map misses at least as often (`misses`).
 pub fn more_capacity_never_misses_more<K: Eq + Hash, V, S: KeyHasher<K>>() {}
 
 /// If the keys of a smaller map are included in the keys of a larger map, they are included after the same calls, too
@@ -65,7 +65,7 @@ pub fn a_smaller_map_is_included<K: Eq + Hash, V, S: KeyHasher<K>>() {}
 /// advance. It begins with the keys `first`, and loads (or bypasses) keys `paid` times for the same references. If the
 /// policy stores each referenced key, the map misses at most `k / (k + 1 - h) * paid + length first` times. The bound
 /// holds for a policy that may load keys ahead (`loads`), and for a policy that loads on demand and begins with at most
-/// h keys (`demands`). If the policy need not store the key, and h < k, the map misses at most
+/// h keys (`demands`). If the policy need not store referenced keys, and h < k, the map misses at most
 /// `k / (k - h) * paid + length first` times (`bypasses`).
 pub fn maps_are_competitive<K: Eq + Hash, V, S: KeyHasher<K>>() {
     references_keep_the_newest::<K, V, S>();

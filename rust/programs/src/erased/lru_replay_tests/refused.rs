@@ -47,8 +47,8 @@ fn hog_that_meets(alloc: Global, requests: &[usize], met: usize) -> Result<Hog, 
     Ok(hog)
 }
 
-/// Makes three calls on a map of seven entries: an insert that grows a table of 8 buckets, a list, and a drain. Only
-/// the first `met` requests for memory succeed.
+/// Makes three calls on a map of seven entries: first an insert that grows a table of 8 buckets, then a list, then a
+/// drain. Only the first `met` requests for memory succeed.
 fn is_as_expected(alloc: Global, met: usize, sums: bool) -> Result<bool, AllocError> {
     let mut map = map_of(alloc, ByCost::new(1000));
     insert_all(&mut map, 1..=7)?;

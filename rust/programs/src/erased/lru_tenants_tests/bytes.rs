@@ -25,8 +25,8 @@ fn serve(pages: &mut Pages, host: &str, paths: Vec<String>) -> Result<u64, Tenan
     Ok(hits)
 }
 
-/// Serves a host. Whatever `serve` returns, the table of hosts, their names, tables, paths and pages take at most the
-/// limit.
+/// Serves a host. Whatever `serve` returns, the cache takes at most its limit: the table of hosts, and each host's
+/// name, table, paths and pages.
 fn serve_within(pages: &mut Pages, host: &str, paths: Vec<String>) -> Result<u64, TenantError> {
     let served = serve(pages, host, paths);
     // Shows the prover the clause `within` of `len`.

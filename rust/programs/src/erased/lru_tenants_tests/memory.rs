@@ -20,7 +20,7 @@ fn lists_made(alloc: Global, cache: &mut TenantCache<u64, u64, u64>) -> u32 {
     made
 }
 
-// A list of calls fails without memory for its answers, and frees what it took: one free block serves 100 lists.
+// Without memory for its answers, a list of calls fails. Each list frees its memory: one free block serves 100 lists.
 #[test]
 fn a_list_takes_the_memory_of_its_answers() {
     let run = |rt: HostRuntime| -> Result<(), Fail> {

@@ -47,8 +47,8 @@ pub enum Failure {
     NoBytes,
 }
 
-/// Takes at most `most` bytes in each write. From write number `fails_at` on, counted from 0, `times` writes fail.
-/// Counts its flushes.
+/// Takes at most `most` bytes in each write. The first `fails_at` writes succeed, and then `times` writes fail. Counts
+/// its flushes.
 
 pub struct Narrow {
     bytes: Vec<u8>,

@@ -1,5 +1,5 @@
 // Erased from crates/schnellru_tests/src/bytes.rt: do not edit.
-//! A cache of texts that takes at most 200 MiB: a line of code and a theorem.
+//! A cache of texts that takes at most 200 MiB, by the law `calls_keep_the_bytes`.
 
 #[allow(unused_imports)]
 use crate::rattle_std::prelude::*;
@@ -32,7 +32,7 @@ fn change(
     kept
 }
 
-/// Counts the smaller table after a shrink. The cache still takes at most its limit.
+/// Shrinks the table, and sets a limiter that counts the new table. The cache still takes at most its limit.
 fn shrink(map: &mut LruMap<String, String, ByBytes>) {
     laws::calls_keep_the_bytes::<String, String, RandomState>();
     let _len = map.len();

@@ -1,8 +1,8 @@
 // Erased from crates/schnellru_tests/src/every_call.rt: do not edit.
 //! Public calls that may change a map are steps, so the laws on steps and on runs hold for these calls.
 //!
-//! A call that gets a hash has the clauses of a call below. A `drain` pops each entry that it returns. No caller's proof
-//! can use the loan of `get_or_insert`, which is a step by `writes_newest` of `EveryCall`.
+//! A call that gets a hash has the clauses of a call below. A `drain` pops each entry that it returns. The loan of
+//! `get_or_insert` is a step (`writes_newest` of `EveryCall`), but no caller's proof can use it.
 
 #[allow(unused_imports)]
 use crate::rattle_std::prelude::*;

@@ -7,7 +7,8 @@ use crate::rattle_std::prelude::*;
 
 use crate::rattle_std::alloc::{AllocError, Global};
 
-// The tried sizes are `LARGEST`, its half, and so on, and from `SMALL` down each multiple of `STEP`.
+// The sizes of the requests: `LARGEST`, half of it, and so on down to `SMALL`, and then each smaller multiple of
+// `STEP`.
 const LARGEST: usize = 1 << 46;
 
 const SMALL: usize = 2048;

@@ -12,8 +12,8 @@ use crate::rattle_std::io::{Read, Seek, Write};
 /// A device whose blocks are parts of a file. Each block has `N` bytes.
 ///
 /// A write replaces the last 8 bytes of a block by a checksum: the hash of the other bytes and of the block's number.
-/// Contracts do not see the checksum. A read returns `Ok` only if the checksum is right. So a read detects a torn or
-/// damaged block, or a block with another number, unless the hashes happen to be equal.
+/// Contracts do not see the checksum. A read returns `Ok` only if the checksum is right. So a read detects a torn,
+/// damaged or misplaced block, unless the hashes happen to be equal.
 
 pub struct HashedFileDevice<F, const N: usize> {
     file: RecordedFile<F>,

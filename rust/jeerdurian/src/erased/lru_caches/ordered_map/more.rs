@@ -28,7 +28,7 @@ impl<K: Eq + Hash, V, S: KeyHasher<K>> OrderedMap<K, V, S> {
 
     /// Reserves memory for n more entries.
     ///
-    /// Cost: `O(1)` if there is enough growth left, else `O(buckets)` of both tables.
+    /// Cost: `O(1)` if there is enough growth left, else `O(old buckets + new buckets)`.
     ///
     /// # Errors
     ///

@@ -1,5 +1,5 @@
 // Erased from crates/lru_replay/src/calls/pairs.rt: do not edit.
-//! The calls of a run that return pairs. Each call requests the memory for the pairs before it changes the map.
+//! Calls that return pairs. Each call requests the memory for the pairs before it changes the map.
 
 #[allow(unused_imports)]
 use crate::rattle_std::prelude::*;

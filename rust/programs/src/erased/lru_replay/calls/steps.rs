@@ -1,5 +1,5 @@
 // Erased from crates/lru_replay/src/calls/steps.rt: do not edit.
-//! The calls of a run that copy a lent value, write a value, or join several results into one answer.
+//! Calls that copy a lent value, write a value, or join several results into one answer.
 
 #[allow(unused_imports)]
 use crate::rattle_std::prelude::*;

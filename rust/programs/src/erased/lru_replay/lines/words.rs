@@ -82,7 +82,7 @@ fn number(word: &[u8]) -> Option<u64> {
     text.parse().ok()
 }
 
-/// Returns false if the word is empty, begins with a plus, or has a leading zero, as `07` has. `parse` rejects all
+/// Returns false if the word is empty, begins with a plus, or has a leading zero, such as `07`. `parse` rejects all
 /// other words that are no numbers.
 fn starts_as_number(word: &[u8]) -> bool {
     if word.is_empty() || word[0] == b'+' {
