@@ -31,6 +31,10 @@ pub full_capacity-eighths : (b : ℕ) → 8 * full_capacity b ≤ 7 * b
 unfolding full_capacity
 full_capacity-eighths b = grind (arith, nat_tests)
 
+pub full_capacity-mono : (m n : ℕ) → m ≤ n → full_capacity m ≤ full_capacity n
+unfolding full_capacity
+full_capacity-mono m n h = grind (arith, nat_tests)
+
 pub least_power_at_least : (n : ℕ) → n ≤ 2 ^ 64 → n ≤ least_power n
 unfolding least_power
 least_power_at_least n h = first_power_least 64 n 1 (omega arith)

@@ -13,7 +13,8 @@ use Rattle.lru_model.specs.State.{State, buckets, IsSized}
 use Rattle.lru_model.specs.Place.{table_for}
 use Rattle.lru_model.proofs.TableSizes.Budgets.{bytes_mono}
 use Rattle.lru_model.proofs.TableSizes.Doubling.{fit_needs, half_needs}
-use Rattle.lru_model.proofs.TableSizes.Growth.{full_capacity-at_most, full_capacity-eighths, usage_addressable, usage_bytes}
+use Rattle.lru_model.proofs.TableSizes.Growth.{full_capacity-at_most, full_capacity-eighths, full_capacity-mono}
+use Rattle.lru_model.proofs.TableSizes.Growth.{usage_addressable, usage_bytes}
 
 usage_of_less : (e m n bytes : ℕ) → m ≤ n → usage e n ≡ Some bytes → (other : ℕ) × (usage e m ≡ Some other)
 unfolding usage
@@ -37,10 +38,6 @@ double_takes (suc (suc k)) b size =
     let p : b ≡ 16 * 2 ^ k = omega (arith, size, pow-add 2 k 2) in
     let q : b / 8 * 8 ≡ b = omega (arith, p) in grind (arith, nat_tests, p, q)
 
-capacity_mono : (m n : ℕ) → m ≤ n → full_capacity m ≤ full_capacity n
-unfolding full_capacity
-capacity_mono m n h = grind (arith, nat_tests)
-
 twice_within : (j k b count : ℕ) → b ≡ 4 * 2 ^ j → count ≡ 4 * 2 ^ k → full_capacity b < full_capacity count
     → 2 * b ≤ count
 twice_within j k b count power size fewer =
@@ -48,7 +45,7 @@ twice_within j k b count power size fewer =
     let q : count ≡ 2 ^ (k + 2) = omega (arith, size, pow-add 2 k 2) in
     let more : b < count = elim (dec_lt b count) [
       | yes l ↦ l
-      | no l ↦ absurd (omega (arith, fewer, capacity_mono count b (omega (arith, l))))
+      | no l ↦ absurd (omega (arith, fewer, full_capacity-mono count b (omega (arith, l))))
     ] in
     let gap : 2 * 2 ^ (j + 2) ≤ 2 ^ (k + 2) = power_gap (j + 2) (k + 2) (omega (arith, p, q, more)) in
     omega (arith, gap, p, q)
@@ -60,7 +57,7 @@ module _ (k max e count bytes : ℕ) (size : count ≡ 4 * 2 ^ k) (reached : cou
       let table : new_table m other ≡ no_table = rw u at is in absurd (grind (arith, table))
 
   -- a reservation for c pairs needs at most `count` buckets
-  Fits : ℕ → Type 0
+  abbrev Fits : ℕ → Type 0
   Fits c = (need : ℕ) × (buckets_for max c ≡ Some need) × (need ≤ count)
 
   half_fits : (c : ℕ) → c ≤ full_capacity count / 2 → Fits c
@@ -68,7 +65,7 @@ module _ (k max e count bytes : ℕ) (size : count ≡ 4 * 2 ^ k) (reached : cou
 
   module _ (b c : ℕ) where
     target_there : Fits c → (full_capacity b / 2 < c → Fits (full_capacity (2 * b))) → target max e b c ≢ no_table
-    unfolding target Fits
+    unfolding target
     target_there (need, is, small) double h =
         split (nat_lt b need) (nat_le c (full_capacity b / 2)) (λ f. grind (arith, nat_tests, f)) (rw is at h)
       where

@@ -12,7 +12,8 @@ use Rattle.lru_model.specs.Reservations.{Reserve, unchanged, rehashed, reserved,
 use Rattle.lru_model.specs.Reservations.{no_such_table, no_memory_to_rehash}
 use Rattle.lru_model.specs.declared.results.ReserveError.{ReserveError}
 use Rattle.lru_model.proofs.TableSizes.NextTable.{larger_takes}
-use Rattle.lru_model.proofs.TableSizes.Growth.{least_power_at_least, least_power_shape, table_with_is, target-same}
+use Rattle.lru_model.proofs.TableSizes.Growth.{full_capacity-mono, least_power_at_least, least_power_shape}
+use Rattle.lru_model.proofs.TableSizes.Growth.{table_with_is, target-same}
 
 buckets_take : (max c n : ℕ) → buckets_for max c ≡ Some n → c ≤ full_capacity n
 unfolding buckets_for
@@ -37,10 +38,6 @@ buckets_take max c n =
         (omega (arith, most)) in
         (takes_enough c n (shape.0, sym is ∙ shape.1) (s refl) (omega (arith, is, least))).1
     pick false false false false p q r s t h = absurd (grind arith)
-
-full_capacity-mono : (a b : ℕ) → a ≤ b → full_capacity a ≤ full_capacity b
-unfolding full_capacity
-full_capacity-mono a b h = grind (arith, nat_tests)
 
 pub target_takes : (max e b c n bytes : ℕ) → full_capacity b ≤ full_capacity n → target max e b c ≡ new_table n bytes → c
     ≤ full_capacity n
