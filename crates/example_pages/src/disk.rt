@@ -51,7 +51,7 @@ impl<'a> CrashFile<'a> {
         })
     }
 
-    /// Leaves in each sector what was last made durable, or what was last written.
+    /// Leaves each sector at random as it was last made durable, or as it was last written.
     pub fn crash(&mut self, random: &mut Random) {
         let sectors = self
             .now

@@ -1,5 +1,5 @@
 //! A cache of responses with a tenant for each host. The program reads lines from standard input, and prints an answer
-//! to each line except `now`.
+//! to each line, except to a `now` line.
 #![tactic(auto)]
 
 mod cache;

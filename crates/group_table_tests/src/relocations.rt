@@ -60,7 +60,8 @@ fn moves_many(alloc: Global, table: &mut Table<u64>) -> Result<bool, AllocError>
     Ok(is_rehashed && is_copied && is_relocated)
 }
 
-// A call may run out of memory, so the prover accepts a body that fails above some size. This test rejects such a body.
+// A call may run out of memory, so the prover accepts an implementation that fails above some size. This test rejects
+// such an implementation.
 #[test]
 fn many_buckets(rt: HostRuntime) -> Result<(), Fail> {
     let mut table = table_of(rt.alloc(), 1 << 20)?;

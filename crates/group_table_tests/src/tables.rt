@@ -98,8 +98,8 @@ pub(super) fn exchange(keys: &mut [Option<u64>], b: usize, key: Option<u64>) -> 
 }
 
 /// Moves the keys of `old` in order, each into the first free bucket. In a rehash, a key stays if its bucket is among
-/// the first 16 that a search for it visits. If a key takes the bucket of a key that has not moved yet, this other key
-/// moves next.
+/// the first 16 buckets that a search for the key visits. If a key takes the bucket of a key that has not moved yet,
+/// this other key moves next.
 pub(super) fn keys_after(
     alloc: Global,
     old: &[Option<u64>],

@@ -30,7 +30,7 @@ inserted_of code (Some old_value) evicted =
 abbrev pub noted_pair : Bool → Entry → Option (ℕ × ℕ)
 noted_pair noted place = if noted then Some (place.key, place.value) else None
 
--- the caller's slots, after pairs were copied into the slots until no pair or no slot was left
+-- The caller's slots after pairs were copied into the slots. The copying ends when no pair or no slot is left.
 abbrev pub filled : List (ℕ × ℕ) → List Entry → List Entry
 filled [] slots = slots
 filled (pair ∷ pairs) [] = []
@@ -41,7 +41,8 @@ fitting [] slots = 0
 fitting (pair ∷ pairs) [] = 0
 fitting (pair ∷ pairs) (slot ∷ slots) = suc (fitting pairs slots)
 
--- The pair that was noted before. If no pair was noted, the result is `pair`, or `None` if the key of `pair` is `key`.
+-- If a pair was noted before, the result is this pair. Otherwise the result is `None` if the key of `pair` is `key`,
+-- and else `pair`.
 abbrev pub noting_other : ℕ → Option (ℕ × ℕ) → ℕ × ℕ → Option (ℕ × ℕ)
 noting_other key None pair = if nat_eq key pair.0 then None else Some pair
 noting_other key (Some noted) pair = Some noted
@@ -56,7 +57,8 @@ put_code (Ok false) = 1
 put_code (Err error) = 2
 
 -- An insert that may write a pair to an entry of the caller. The entry is `place` before the insert, and `left` after
--- the insert. `left` is the first evicted pair of another key, or `place` if there is none.
+-- the insert. If the insert evicts pairs of other keys, `left` is the first of these pairs. Otherwise `left` is
+-- `place`.
 pub record Inserts (key value : ℕ) (old : Map) (answer : Inserted) (place left : Entry) (new : Map) : Type 0 where
   pub result : Result Bool AllocError
   pub passed : List (ℕ × ℕ)
@@ -74,8 +76,8 @@ GetsOrInserts key value old answer place left new = MatchOption (lookup (nat_eq 
     (Inserts key value old answer place left new)
     (λ there. (answer ≡ inserted_of 0 (Some there) false) × (left ≡ place) × (new ≡ promoted (nat_eq key) old))
 
--- If the handle has a map, the map changes as `step` says. Otherwise the handle has no map after the call either,
--- and `returns_nothing` is true.
+-- If the handle has a map, the map changes as `step` says. If the handle has no map, it has none after the call, and
+-- `returns_nothing` is true.
 abbrev pub OnMap : {M : Type 0} → Type 0 → (M → M → Type 0) → Option M → Option M → Type 0
 OnMap returns_nothing step None None = returns_nothing
 OnMap returns_nothing step None (Some after) = ⊥

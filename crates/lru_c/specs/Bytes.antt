@@ -1,7 +1,7 @@
 -- The map from byte strings to byte strings, and what the calls of this map do.
 --     `names_bytes bytes k`: the key k has these bytes.
 --     `weight key value`: the weight of an entry with a key and a value of these lengths.
---     `poured bytes buffer`: the buffer, with the bytes at its beginning if they fit.
+--     `poured bytes buffer`: the buffer after the bytes were copied to its beginning, if the bytes fit.
 use Rattle.std.specs.Prelude.{◌≡◌, ◌++◌, ◌<◌, ◌≤◌, ◌+◌, ◌&&◌, ℕ, Bool, true, false, List, length, drop, Option, Some}
 use Rattle.std.specs.Prelude.{None, nat_le, nat_lt, option_map, vec_items, vec_len, is_some, if◌then◌else◌, map}
 use Rattle.std.specs.Vec.{vec_ptr}
@@ -31,7 +31,6 @@ use Rattle.lru_c.specs.declared.bytes.answers.Value.{Value}
 abbrev pub Bytes : Type 0
 Bytes = Vec ℕ Global
 
--- what contracts say of a map of byte strings with a budget
 abbrev pub BytesMap : Type 0
 BytesMap = State Bytes Bytes Budget Mixer
 
@@ -136,8 +135,8 @@ pub data Pops (old : BytesMap) (answer : Popped) (key key_left value value_left 
 abbrev pub others_weight : List ℕ → BytesMap → ℕ
 others_weight key map = total_weight (without (names_bytes key) map.pairs)
 
--- Whether a put must evict: the new entry alone is within the budget, but with the entries of other keys it is over the
--- budget.
+-- Whether a put must evict: the new entry alone is within the budget, but the new entry and the entries of other keys
+-- together are over the budget.
 abbrev pub must_evict : List ℕ → ℕ → BytesMap → Bool
 must_evict key value_len map = let added = weight (length key) value_len in
     nat_le added map.limiter.limit && nat_lt map.limiter.limit (others_weight key map + added)
@@ -166,9 +165,7 @@ pub data IsReady (key : List ℕ) (old ready : BytesMap) : Type 0 where
   reserved : has_bytes key old ≡ false → Reserve bytes_rules 1 old (Ok tt) ready → IsReady key old ready
 
 pub data Puts (key value : List ℕ) (old : BytesMap) (code : ℕ) (new : BytesMap) : Type 0 where
-  -- The key alone has more bytes than the budget.
   too_long : old.limiter.limit < length key → code ≡ 1 → new ≡ old → Puts key value old code new
-  -- The new entry alone is over the budget. The old entry of the key is removed.
   too_heavy : old.limiter.limit < weight (length key) (length value) → code ≡ 1 →
       (value_gone : Option Bytes) → Remove bytes_rules (names_bytes key) old value_gone new →
       Puts key value old code new

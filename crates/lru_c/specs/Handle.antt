@@ -22,7 +22,6 @@ use Rattle.lru_model.specs.Sizes.{max_of_32_bits}
 use Rattle.lru_model.specs.State.{State}
 use Rattle.schnellru.specs.contracts.map.LruMap as lru_map
 
--- what contracts say of a map of numbers with a maximum length
 abbrev pub Map : Type 0
 Map = State ℕ ℕ ℕ Mixer
 

@@ -1,5 +1,5 @@
-//! Maps for programs in C and in Rust: from numbers of 64 bits to numbers of 64 bits, and from byte strings to byte
-//! strings.
+//! Maps for programs in C and in Rust. Keys and values are numbers of 64 bits in one map, and byte strings in the
+//! other.
 //!
 //! [`exports`] and [`bytes::exports`] have the functions that `bindings/c/lru.h` declares. C keeps a
 //! [`Lru`](handle::Lru) or a [`LruBytes`](bytes::handle::LruBytes): the address of a map on the heap, or null.

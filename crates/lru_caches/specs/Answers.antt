@@ -8,7 +8,6 @@ use Rattle.lru_limits.specs.Rules.{Rules, Offers}
 use Rattle.lru_model.specs.GetOrInserts.{MakesNewest}
 use Rattle.lru_model.specs.State.{State}
 
--- a memo or a loader, as contracts see it
 pub record Memoized (K V S H F : Type 0) : Type 0 where
   pub map : State K V S H
   pub function : F

@@ -4,7 +4,6 @@ use Rattle.lru_caches.specs.declared.counted.Counts.{Counts}
 use Rattle.lru_model.specs.Lists.{without}
 use Rattle.lru_model.specs.State.{State}
 
--- a counted map, as contracts see it
 pub record Counted (K V S H : Type 0) : Type 0 where
   pub map : State K V S H
   pub counts : Counts
@@ -28,7 +27,7 @@ inserted (Ok false) n counts = record counts {
 }
 inserted (Err error) n counts = record counts { evictions = count_up counts.evictions n }
 
--- how many evicted entries have a key other than the named key
+-- the number of evicted entries whose key is not the named key
 abbrev pub evicted : {K V : Type 0} → (K → Bool) → List (K × V) → List (K × V) → ℕ
 evicted names old new = length (without names old) - length (without names new)
 

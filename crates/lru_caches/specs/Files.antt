@@ -6,7 +6,7 @@ use Rattle.std.specs.Prelude.{◌≡◌, ℕ, zero, suc, nat_eq, Bool, if◌then
 abbrev pub Event : Type 0
 Event = ℕ × ℕ × List ℕ
 
--- The six events: a read, a write or a sync, which failed or succeeded.
+-- The six events: a read, a write and a sync, each of which failed or succeeded.
 abbrev pub unread : ℕ → Event
 unread n = (0, n, [])
 
@@ -32,8 +32,8 @@ abbrev pub or_else : Option (List ℕ) → List ℕ → Option (List ℕ)
 or_else None bytes = Some bytes
 or_else (Some known) bytes = Some known
 
--- What is known of a block after an event, if `old` was known before the event. `same` says whether the event is on
--- this block. A failed write may leave any bytes.
+-- The known bytes of a block after an event. Before the event, the known bytes were `old`. `same` says whether the
+-- event is on this block. A failed write may leave any bytes.
 abbrev pub known_after : ℕ → Bool → List ℕ → Option (List ℕ) → Option (List ℕ)
 known_after zero same bytes old = old
 known_after (suc zero) same bytes old = if same then or_else old bytes else old

@@ -9,7 +9,6 @@ use Rattle.lru_caches.specs.contracts.ordered_map.OrderedMap.{the_row}
 
 module _ (K V S H : RattleType) (key : HashMembers K.Denot)
     (hashed : HasherMembers S.Denot K.Denot H.Denot) (hash : hasher.Ghosts H.Denot) where
-  -- the type of the map, as a `RattleType`
   abbrev pub map_row : RattleType
   map_row = the_row K V S H (record { eq = key.eq }) (record { hash_input = key.hash_input })
       (record { hash_of = hashed.hash_of }) (record { build_hasher = hashed.build_hasher }) hash

@@ -13,7 +13,6 @@ use Rattle.lru_caches.specs.declared.page_cache.pages.Page.{Page}
 use Rattle.lru_caches.specs.declared.page_cache.PageError.{PageError}
 use Rattle.lru_caches.specs.declared.page_cache.PageError.TheVariants.{Device, Memory, NoBlock, Broken, Full}
 
--- a page cache, as contracts see it
 pub record Cached (B D : Type 0) : Type 0 where
   -- the cached pages by their numbers, newest first
   pub pages : List (ℕ × Page B)
@@ -149,7 +148,8 @@ module _ {B D E S : Type 0} (d : device.Ghosts D B E S) where
   IsWritten None block = ⊥
   IsWritten (Some page) block = IsTrue page.is_dirty × ((block ≡ d.seen page.block) ⊎ d.IsTorn block)
 
-  -- Now a crash may leave only what a crash before the call might leave, or the block of a dirty page, whole or torn.
+  -- After the call, a crash may leave as block n only what a crash before the call might leave, the block of the dirty
+  -- page n, or a torn block.
   abbrev pub CrashAdds : List (ℕ × Page B) → D → D → Type 0
   CrashAdds pages old new = (n : ℕ) (block : S) → d.may_leave new n block
       → d.may_leave old n block ⊎ IsWritten (lookup (nat_eq n) pages) block
@@ -185,7 +185,7 @@ module _ {B D E S : Type 0} (d : device.Ghosts D B E S) where
     pub writes : AreWritten numbers pages old written
     pub synced : d.sync_gives written new
 
-  -- a flush that stopped after some of the writes, or in the `sync` after all writes
+  -- a flush that stopped after some of its writes, or that failed in the `sync` after all writes
   pub record IsCutOff (pages : List (ℕ × Page B)) (old new : D) : Type 0 where
     pub numbers : List ℕ
     pub rest : List ℕ
@@ -212,7 +212,6 @@ module _ {B D E S : Type 0} (d : device.Ghosts D B E S) where
       ⊎ ((e ≡ Memory) × (new.pages ≡ with_room old.capacity old.keeps_dirty old.pages)
       × (new.counts ≡ evicts (evictions old) old.counts))
 
-  -- why a call on page n fails
   abbrev pub IsCause : ℕ → Cached B D → D → PageError E → Type 0
   IsCause n old new e = IsFault old.device new e ⊎ ((e ≡ Broken) × (d.is_usable old.device ≡ false))
       ⊎ ((e ≡ NoBlock) × (d.has old.device n ≡ false)) ⊎ (e ≡ Memory) ⊎ ((e ≡ Full) × IsFull n old)

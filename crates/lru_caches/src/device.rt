@@ -2,9 +2,9 @@ ghost use Rattle.std.specs.Prelude.{◌≡◌, ◌≢◌, ◌⊎◌, ℕ, Bool, 
 
 /// A device of numbered blocks, such as a disk or a file. Each `read`, `write` or `sync` may fail.
 ///
-/// After a crash, each block may be as it was at the last `sync`, as it was written later, or torn. A write changes
-/// only its own block, even if the write fails or the machine stops in the middle. After a failed `sync`, no clause
-/// says what the blocks are, and no `read`, `write` or `sync` may be called.
+/// After a crash, each block may be the block of the last `sync`, a block that was written later, or a torn block. A
+/// write changes only its own block, even if the write fails or the machine stops in the middle. After a failed `sync`,
+/// no clause says what the blocks are, and no `read`, `write` or `sync` may be called.
 ///
 /// For most devices, contracts see the block itself: `ghost seen = { λ block. block };`.
 ///
@@ -29,10 +29,10 @@ pub trait BlockDevice<B> {
     /// Whether the device has a block with this number. No call changes this.
     ghost has: { Self → ℕ → Bool };
 
-    /// The block of each number, if it is known.
+    /// The block with each number, or `None` if the block is not known.
     ghost blocks: { Self → ℕ → Option Self.Seen };
 
-    /// What a crash at this moment may leave as the block with this number.
+    /// Says that a crash at this moment may leave this block at this number.
     ghost may_leave: { Self → ℕ → Self.Seen → Type 0 };
 
     /// True unless a `sync` has failed.
@@ -41,18 +41,18 @@ pub trait BlockDevice<B> {
     /// A number that changes exactly when a call fails, such as the number of failed calls.
     ghost faults: { Self → ℕ };
 
-    /// What a crash during a write may leave, other than the old and the new block. By default, a crash may leave any
-    /// block. A device that never tears a block defines `λ _. ⊥` (none).
+    /// The blocks that a crash during a write may leave, besides the old and the new block. By default, a crash may
+    /// leave any block. A device that never tears a block defines `λ _. ⊥` (none).
     ghost IsTorn: { Self.Seen → Type 0 } = { λ _. Unit {0} };
 
-    /// Says that each read of a known block has returned this block. For a file, `IsHonest` is a premise.
+    /// Says that every read of a known block so far has returned the known block. For a file, `IsHonest` is a premise.
     ghost IsHonest: { Self → Type 0 } = { λ _. Unit {0} };
 
-    /// Says that a `write` of a block to this number may lead from the first state to the second. By default,
+    /// Says that a `write` of this block to this number may change the first state into the second state. By default,
     /// `write_gives` holds for any two states.
     ghost write_gives: { Self → ℕ → Self.Seen → Self → Type 0 } = { λ _ _ _ _. Unit {0} };
 
-    /// Says that a `sync` may lead from the first state to the second.
+    /// Says that a `sync` may change the first state into the second state.
     ghost sync_gives: { Self → Self → Type 0 } = { λ _ _. Unit {0} };
 
     /// Returns whether the device has a block with this number.
@@ -114,6 +114,6 @@ pub trait BlockDevice<B> {
         ensures usable { is_usable self.new ≡ is_ok result }
         ensures numbers { (m : ℕ) → has self.new m ≡ has self.old m };
 
-    /// A crash may leave each known block as it is, so no impl can claim that a crash is impossible.
+    /// A crash may leave each known block unchanged. So no impl can claim that crashes are impossible.
     ghost stays: { (device : Self) (n : ℕ) (b : Self.Seen) → blocks device n ≡ Some b → may_leave device n b };
 }

@@ -125,13 +125,13 @@ impl<
     /// Returns a result of the function for a key or an equal key. If no result is stored, calls the function and
     /// stores the result.
     ///
-    /// Returns the result even if memory runs out, or if a limit prevents storing it.
+    /// If memory runs out, or a limit prevents storing the result, still returns the result.
     ///
     /// ```
     /// assert_eq!(rt; (squares.answer(3), squares.len()), (9, 1));
     /// ```
     ///
-    /// Cost: a get, and if no result is stored, a call of the function and an insert.
+    /// Cost: a get. If no result is stored, also a call of the function and an insert.
     pub fn answer(&mut self, key: K) -> V
         requires callable { F.IsAlwaysCallable self.old.function }
         requires known { AreAnswers K.eq (FnReturnsAt F.Fn self.old.function) self.old.map.pairs }
@@ -265,7 +265,7 @@ impl<K: Eq + Hash + Drop, V: Drop, F: Fn(&K) -> V, L: Insertion<K, V, K>, S: Key
     }
 
     /// Sets another limiter, and drops the oldest results while the new limiter is over its limit. Returns the old
-    /// limiter. `LruMap::set_limiter` says with which running total a limiter must begin.
+    /// limiter. `LruMap::set_limiter` says which running total the new limiter must have.
     ///
     /// ```
     /// assert_eq!(rt; (squares.answer(3), squares.answer(4)), (9, 16));

@@ -28,7 +28,7 @@ mod more;
 ///
 /// The map evicts nothing.
 ///
-/// Each call follows the call of indexmap's `IndexMap` with the same name, unless the comment names another call. In
+/// Each call follows the call with the same name in indexmap's `IndexMap`, unless its comment names another call. In
 /// the examples, `map` contains (1, 11) and then (2, 20).
 ///
 /// ```
@@ -299,8 +299,8 @@ impl<K: Eq + Hash + Drop, V, S: KeyHasher<K>> OrderedMap<K, V, S> {
 }
 
 impl<K: Eq + Hash + Drop, V: Drop, S: KeyHasher<K>> OrderedMap<K, V, S> {
-    /// Inserts a key with a value as the newest entry. If the key is in the map, replaces and returns the old value,
-    /// and the entry keeps its key and its place.
+    /// Inserts a key with a value as the newest entry. If the key is in the map, replaces and returns the old value.
+    /// The entry keeps its key and its place in the order.
     ///
     /// ```
     /// let mut map: OrderedMap<u64, u64> = OrderedMap::new(alloc);
@@ -312,7 +312,7 @@ impl<K: Eq + Hash + Drop, V: Drop, S: KeyHasher<K>> OrderedMap<K, V, S> {
     ///
     /// # Errors
     ///
-    /// Out of memory for a new key, or there is no larger table. Nothing has changed.
+    /// The key is new, and memory ran out or there is no larger table. Nothing has changed.
     pub fn insert(&mut self, key: K, value: V) -> Result<Option<V>, AllocError>
         ensures old { IfOk result (λ was. was ≡ lookup (K.eq key) self.old) }
         ensures entries { OnOk result (self.new ≡ put (K.eq key) (key, value) self.old) }
@@ -340,7 +340,7 @@ impl<K: Eq + Hash + Drop, V: Drop, S: KeyHasher<K>> OrderedMap<K, V, S> {
     ///
     /// Cost: `O(len)`.
     ///
-    /// Follows std's `HashMap::retain`, whose closure may write the value.
+    /// Follows std's `HashMap::retain`. There, the closure may also write the value.
     pub fn retain<F: FnMut(&K, &V) -> bool>(&mut self, keep: F)
         requires callable { F.IsAlwaysCallable keep }
         ensures kept { IsFiltered (Asks F.FnMut) keep self.old self.new }

@@ -20,8 +20,7 @@ fn an_ordered_map_of_many_keys(rt: HostRuntime) {
     }
 }
 
-/// A disk that fails at each of its calls in turn, and then fails again after the same number of calls, or stays
-/// broken.
+/// In run k, the disk fails after k calls. Then the disk fails again after k more calls, or stays broken.
 #[test]
 fn a_disk_that_fails(rt: HostRuntime) {
     for stays_broken in [false, true] {

@@ -14,7 +14,7 @@ pub struct ByTextLength {
 }
 
 impl ByTextLength {
-    /// Returns the total with a text of `bytes` bytes, if the text is within the limit and the total fits 64 bits.
+    /// Returns `total` plus `bytes`. If `bytes` is above the limit, or the sum has more than 64 bits, returns `None`.
     fn total_with(&self, total: u64, bytes: u64) -> Option<u64>
         ensures { result ≡ (if can_add self.now.limit total bytes then Some (total + bytes) else None) }
     {

@@ -1,4 +1,4 @@
--- The rules and the offers of `ByCost` if values are numbers, and the running total that a replay reports.
+-- The rules and offers of `ByCost` for values that are numbers, and the running total that a replay reports.
 use Rattle.std.specs.Prelude.{ℕ, Option, Some, None}
 use Rattle.lru_limits.specs.Rules.{Rules, Offers}
 use Rattle.lru_limits.specs.Budget.{Budget, by_cost, charges}

@@ -65,7 +65,8 @@ module _ (IsText : List (List ℕ) → List ℕ → Type 0) (from : Option (List
       × IsText lines text × TakesLines from to lines part × Wrote text
 
 module _ (IsText IsTextSoFar : List (List ℕ) → List ℕ → Type 0) (from to old new : Option (List ℕ)) where
-  -- Either all lines or some whole lines were read. A prefix of the answers to these lines was written.
+  -- All lines were read, or some whole lines and a part of the next line. A prefix of the answers to the whole lines
+  -- was written.
   abbrev pub BeginsText : Type 0
   BeginsText = (OfAll IsText from (Begins old new) × OnSome from (IsAtEnd to))
       ⊎ OfRead IsTextSoFar from to (Begins old new)

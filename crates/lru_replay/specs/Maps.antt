@@ -4,7 +4,6 @@ use Rattle.std.specs.Hash.{le_bytes}
 use Rattle.lru_limits.specs.Mixing.{Mixer, seeded, written, closed}
 use Rattle.lru_model.specs.State.{State, empty_map}
 
--- a map of numbers, with the default hasher and a limiter with states S
 abbrev pub Map : Type 0 → Type 0
 Map S = State ℕ ℕ S Mixer
 

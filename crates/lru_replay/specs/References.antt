@@ -17,9 +17,9 @@ use Rattle.lru_theory.specs.Traces.{AreEqual, fault, refer}
 pub record Cache (K V S H : Type 0) : Type 1 where
   pub eq : K → K → Bool
   pub limit : S → ℕ
-  -- the keys of the cache after a reference to this key, if the limit is this number
+  -- the keys of a cache with this limit after a reference to this key
   pub refer : ℕ → K → List K → List K
-  -- a cache whose limit is this number stores each missed key
+  -- a cache with this limit stores each missed key
   pub Stores : ℕ → Type 0
   -- what holds for the map before and after each reference
   pub Keeps : State K V S H → Type 0
@@ -63,8 +63,8 @@ module _ {K V S H : Type 0} (cache : Cache K V S H) where
     pub keeps : cache.Keeps old → cache.Keeps new
 
   -- After a reference, the referenced key is the newest, and the old keys follow in their order. The oldest keys are
-  -- evicted while the cache is over its limit (`does`). If the limit permits an entry, and the key was not in the map,
-  -- an entry was stored (`stored`).
+  -- evicted while the cache is over its limit (`does`). If a cache with this limit stores each missed key, `placed`
+  -- rises by one, up to `u64::MAX`, exactly if the key was not in the map (`stored`).
   pub record Reference (key : K) (old new : State K V S H) : Type 0 where
     pub does : LeavesKeys (cache.refer (cache.limit old.limiter) key (keys_of old.pairs)) old new
     pub stored : cache.Stores (cache.limit old.limiter)

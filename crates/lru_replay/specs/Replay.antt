@@ -17,7 +17,7 @@ use Rattle.lru_replay.specs.Maps.{empty}
 use Rattle.lru_replay.specs.Output.{no_limiter_text, Begins}
 use Rattle.lru_replay.specs.LineRuns.{IsTextOf, OfAll, OfRead, BeginsText}
 
--- how many bytes an entry takes, if the first line does not say
+-- the number of bytes of an entry, unless the first line names this number
 abbrev pub plain_entry_bytes : ℕ
 plain_entry_bytes = 32
 
@@ -46,7 +46,7 @@ NamesNoLimit lines = (limit : Limit) (first : List ℕ) (others : List (List ℕ
 abbrev pub IsOutput : List (List ℕ) → List ℕ → Type 0
 IsOutput lines text = IsReplay lines text ⊎ (NamesNoLimit lines × (text ≡ no_limiter_text))
 
--- What is written for the lines that were read: nothing if no line was read.
+-- The text for the lines that were read. If no line was read, the text is empty.
 abbrev pub SoFar : (List (List ℕ) → List ℕ → Type 0) → List (List ℕ) → List ℕ → Type 0
 SoFar IsText [] text = text ≡ []
 SoFar IsText (first ∷ others) text = IsText (first ∷ others) text
@@ -69,7 +69,8 @@ module _ (from to old new : Option (List ℕ)) where
   abbrev pub ReadFailed : Type 0
   ReadFailed = OfRead (SoFar IsReplay) from to (Appends old new)
 
-  -- The written text is a prefix of the output for all lines, and of the output for the lines that were read.
+  -- The written text is a prefix of the output for all lines (`cut`). It is also a prefix of the output for the lines
+  -- that were read (`reads`).
   pub record WriteFailed : Type 0 where
     pub cut : OfAll IsOutput from (Begins old new)
     pub reads : BeginsText IsOutput (SoFar IsOutput) from to old new

@@ -57,7 +57,7 @@ module _ {K V : Type 0} where
   insert_reply (Ok there) = flag there
   insert_reply (Err e) = no_memory
 
-  -- the reply to a get that inserts, if the get returned this result, and the map then contains these pairs
+  -- the reply to a get that inserts; the get returned this result, and left these pairs in the map
   abbrev pub made_reply : Result Bool AllocError → List (K × V) → Reply K V
   made_reply (Ok true) pairs = value (newest_value pairs)
   made_reply (Ok false) pairs = value None

@@ -1,5 +1,5 @@
--- What each call does to a map. On a list of pairs (newest first) with a limiter and no table, each call does what it
--- would do if a bucket were always free.
+-- What each call does to a map. A call on a list of pairs (newest first), with a limiter but no table, does what it
+-- would do on a map that always has a free bucket.
 --     `rules`, `offers`: the limiter's `Rules` and `Offers` (`lru_limits`).
 --     `eq`: when two keys are equal.
 --     `hash_of h k`: the hash of k by the hasher h.
@@ -28,9 +28,9 @@ use Rattle.lru_replay.specs.Replies.{Reply, flag, given, updated, value, pair, l
 use Rattle.lru_replay.specs.Replies.{insert_reply, made_reply}
 
 module _ {K V : Type 0} (eq : K → K → Bool) (hash_of : K → ℕ) where
-  -- What a search by a hash finds for a key. If an equal key is stored, and its hash has the same tag as the searched
-  -- hash, the search may find its pair. If no equal key is stored, or the stored key's hash differs from the searched
-  -- hash, the search may find nothing.
+  -- What a search by a hash finds for a key. If an equal key is stored, and the stored key's hash has the same tag as
+  -- the searched hash, the search may find the pair of the stored key. If no equal key is stored, or the stored key's
+  -- hash differs from the searched hash, the search may find nothing.
   pub data FindsByHash (hash : ℕ) (key : K) (pairs : List (K × V)) (result : Option V) : Type 0 where
     found : (there : K × V) → lookup_entry (eq key) pairs ≡ Some there → hash_tag (hash_of there.0) ≡ hash_tag hash
         → result ≡ Some there.1 → FindsByHash hash key pairs result
@@ -47,7 +47,6 @@ pub data Named (K : Type 0) : Type 0 where
 pub record Does (K V S H : Type 0) : Type 1 where
   pub names : Named K
   pub on_map : (old : State K V S H) (reply : Reply K V) (new : State K V S H) → Type 0
-  -- the call changes the contents from c to d, if the hasher is h
   pub on_list : (h : H) (c : Contents K V S) (reply : Reply K V) (d : Contents K V S) → Type 0
 
 module _ {K V S H : Type 0} where
@@ -85,7 +84,6 @@ module _ {K V S H : Type 0} where
 
 module _ {K V S : Type 0} (rules : Rules K V S) (offers : Offers K V S K) (eq : K → K → Bool) (key : K) (v : V)
     (c : Contents K V S) where
-  -- what an update of the pair `there` returns, and the contents after the update
   abbrev pub updates_pair : K × V → Updated V × Contents K V S
   updates_pair there = let r = replacement rules offers eq there key v c in
       if r.taken then (Replaced r.old_value, trim rules (with_updated rules offers eq there key v c))
@@ -105,8 +103,8 @@ module _ {K V S H : Type 0} (rules : Rules K V S) (offers : Offers K V S K) (eq 
       (λ old result new. FindsByHash eq (hash_of old.hasher) hash key old.pairs result × (new ≡ after result old))
       (λ h c result d. FindsByHash eq (hash_of h) hash key c.pairs result × (d ≡ contents (after result (bare h c))))
 
-  -- What each call does. A list of pairs has no table, so the step on a list permits any result of a reservation or a
-  -- shrink, and any figures with the right number of pairs.
+  -- A list of pairs has no table. So the step on a list permits any result of a reservation or a shrink, and any
+  -- figures with the right number of pairs.
   abbrev pub does : Call K V S → Does K V S H
   does (calls.Insert key v) = gives (a_key key) insert_reply (Insert rules offers eq hash_of key v)
       (λ h. InsertsInList rules offers eq key v)

@@ -17,9 +17,9 @@ ghost use Rattle.lru_replay.specs.References.{KeepsToCost, CostsAlike, Reference
 use lru_limits::KeyHasher;
 use std::hash::Hash;
 
-/// A new map keeps to its cost (`KeepsToCost`) under these premises. The limit is below 2 ^ 63, and below 234,881,023
-/// times the cost of each key. An entry takes fewer than 2 ^ 32 - 1 bytes, and the links are wide enough for 2 ^ 31
-/// buckets.
+/// A new map keeps to its cost (`KeepsToCost`) under these premises. The limit is below 2 ^ 63, and for each key below
+/// 234,881,023 times the cost of the key. An entry takes fewer than 2 ^ 32 - 1 bytes, and the links are wide enough for
+/// 2 ^ 31 buckets.
 pub fn maps_keep_to_their_cost<K: Eq + Hash + Drop, V: Drop, S: KeyHasher<K>>()
     ensures { (weight : K → V → ℕ) (cost : K → ℕ) (limit entry_bytes max : ℕ) (hasher : S) →
         limit < 2 ^ 63 → ((key : K) → limit < 234881023 * cost key) → entry_bytes < 2 ^ 32 - 1 →
@@ -110,9 +110,9 @@ pub fn references_keep_the_newest<K: Eq + Hash + Drop, V: Drop, S: KeyHasher<K>>
         new.counts.placed ≡ count_up old.counts.placed missed }
 {}
 
-/// Suppose that the references of one trace are made on two maps, by any calls. If the keys of the map with the smaller
-/// limit were the newest keys of the other map, this is still so after the trace (`front`). The map with the smaller
-/// limit missed at least as often (`misses`).
+/// Suppose that equal keys cost the same, and that the references of one trace are made on two maps, by any calls. If
+/// the map with the smaller limit has the newest keys of the other map before the trace, the same holds after the trace
+/// (`front`). In this case, the map with the smaller limit misses at least as often as the other map (`misses`).
 pub fn more_capacity_never_misses_more<K: Eq + Hash + Drop, V: Drop, S: KeyHasher<K>>()
     ensures front { (weight : K → V → ℕ) (cost : K → ℕ) (trace : List K) (missed other_missed : ℕ)
         (old small other large : State K V Budget S) →

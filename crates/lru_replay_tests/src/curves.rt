@@ -18,7 +18,8 @@ fn curve_of(alloc: Global, texts: &[String]) -> Result<Curve, AllocError>
     Ok(curve)
 }
 
-/// Returns how many of the texts miss in a new map of `length` entries: by a curve, and by the map itself.
+/// Counts the misses of the texts in a new map of `length` entries. Returns the count of a curve, and the count of the
+/// map itself.
 fn predict(alloc: Global, texts: &[String], length: u32) -> Result<(u64, u64), AllocError>
     requires { length ≤ 939524096 }
     ensures curve { IfOk result (λ counts. counts.0 ≡ misses string_eq length [] texts.now) }

@@ -13,7 +13,6 @@ use mathlib.Core.Option.{none}
 
 module _ (K V S H : RattleType) (key : HashMembers K.Denot) (of_key : K.Denot → ℕ) (of_value : V.Denot → ℕ)
     (hashed : HasherMembers S.Denot K.Denot H.Denot) (hash : hasher.Ghosts H.Denot) where
-  -- the type of a tenant's map, as a `RattleType`
   abbrev pub map_row : RattleType
   map_row = tenant_row K V S H (record { eq = key.eq }) (record { hash_input = key.hash_input })
       (record { owned = of_key }) (record { owned = of_value }) (record { hash_of = hashed.hash_of })

@@ -34,8 +34,8 @@ module _ {N K V L S : Type 0} where
   abbrev pub tenant : (N → Bool) → Cache N K V L S → Option (State K V L S)
   tenant named cache = lookup named cache.tenants
 
-  -- The empty map of a new tenant. `made` makes the limiter, an entry takes `entry_bytes` bytes, and `max` is the
-  -- number of `LinkType::MAX`.
+  -- The empty map of a new tenant. `made` makes the limiter, an entry takes `entry_bytes` bytes, and `max` is
+  -- `LinkType::MAX` as a number.
   abbrev pub fresh : (ℕ → L) → ℕ → ℕ → Cache N K V L S → ℕ → State K V L S
   fresh made entry_bytes max cache budget = empty_map (made budget) cache.hasher entry_bytes max
 

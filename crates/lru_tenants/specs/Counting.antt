@@ -39,7 +39,7 @@ module _ {K V L : Type 0} where
     admit_in_place = λ s n k v w. with_inside s (terms.admit_in_place s.limiter n k v w);
   }
 
-  -- for an offer, the limiter inside returns what the outer limiter returns
+  -- the limiter inside and the outer limiter return the same pair for an offer
   gives-inside : (s t : Counting L) {accepts : Bool} {limiter : L} {k : K} {v : V} {given : Option (K × V)}
       → ReturnsPairIf accepts (with_inside s limiter) k v t given → ReturnsPairIf accepts limiter k v t.limiter given
   gives-inside s t h = record { limiter = ap (λ t. t.limiter) h.limiter; pair = h.pair }
@@ -81,7 +81,8 @@ abbrev pub is_kept : {E : Type 0} → Result Bool E → Bool
 is_kept (Ok kept) = kept
 is_kept (Err e) = false
 
--- The counts after a get that inserts an absent key: a hit, or a miss and an insert. The insert evicted n entries.
+-- The counts after a get that inserts an absent key. The get counts a hit, or a miss and an insert that evicted n
+-- entries.
 abbrev pub got_or_put : {E : Type 0} → (found : Bool) → Result Bool E → ℕ → Counts → Counts
 got_or_put true answer n counts = looked_up true counts
 got_or_put false answer n counts = looked_up false (inserted answer n counts)
@@ -90,7 +91,6 @@ module _ {K V L S : Type 0} where
   abbrev pub with_counts : Counts → State K V (Counting L) S → State K V (Counting L) S
   with_counts counts map = with_limiter (record map.limiter { counts = counts }) map
 
-  -- the map with f applied to its counts
   abbrev pub counted : (Counts → Counts) → State K V (Counting L) S → State K V (Counting L) S
   counted f map = with_counts (f map.limiter.counts) map
 
@@ -107,18 +107,15 @@ module _ {K V L S : Type 0} where
   abbrev pub TakesCounts : State K V (Counting L) S → Counts → State K V (Counting L) S → Type 0
   TakesCounts old taken new = (taken ≡ old.limiter.counts) × (new ≡ with_counts zeros old)
 
-  -- a get that counts a hit or a miss
   abbrev pub CountsGet : (K → Bool) → State K V (Counting L) S → Option V → State K V (Counting L) S → Type 0
   CountsGet names old found new = (found ≡ lookup names old.pairs)
       × (new ≡ counted (looked_up (is_some found)) (promoted names old))
 
-  -- an insert that counts an insertion or a rejection, and the evictions
   abbrev pub CountsInsert : {E : Type 0} → (State K V (Counting L) S → Result Bool E → State K V (Counting L) S → Type 0)
       → (K → Bool) → State K V (Counting L) S → Result Bool E → State K V (Counting L) S → Type 0
   CountsInsert Inserts names old answer new = (left : State K V (Counting L) S) × Inserts old answer left
       × (new ≡ counted (inserted answer (evicted names old.pairs left.pairs)) left)
 
-  -- a put that counts an insertion or a rejection, and the evictions
   abbrev pub CountsPut : (Puts : State K V (Counting L) S → Result Bool TenantError
       → Option (State K V (Counting L) S) → Type 0)
       → (K → Bool) → State K V (Counting L) S → Result Bool TenantError → Option (State K V (Counting L) S) → Type 0

@@ -9,7 +9,8 @@ use Rattle.lru_model.specs.State.{State}
 use Rattle.lru_tenants.specs.declared.error.TenantError.{TenantError}
 use Rattle.lru_tenants.specs.declared.error.TenantError.TheVariants.{Memory}
 
--- The answer: if the result is true, the value of the newest pair. If it is false, `None`. If it is an error, `Memory`.
+-- The answer is the value of the newest pair if the result is true, `None` if the result is false, and `Memory` if the
+-- result is an error.
 abbrev pub newest_answer : {K V L S : Type 0} → Result Bool AllocError → State K V L S → Result (Option V) TenantError
 newest_answer (Ok true) map = Ok (option_map (λ pair. pair.1) (first map.pairs))
 newest_answer (Ok false) map = Ok None

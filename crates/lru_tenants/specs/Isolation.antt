@@ -1,4 +1,4 @@
--- How calls of any kind on a cache, one after another, change one tenant.
+-- How a list of calls of any kind on a cache changes one tenant.
 --     `names name`: whether the call names the tenant of this name.
 --     `named call`: the tenant that the call names.
 --     `Does call old answer new`: what the call may do to this tenant, and what the call may return.

@@ -61,7 +61,7 @@ with_map map own = (own.0, map)
 
 module _ {N K V L S : Type 0} (rules : Rules K V L) (account : L → ℕ) (eq : N → N → Bool) where
   -- The tenant that is furthest above its share loses its oldest entry. If several tenants are equally far above, one
-  -- of them does.
+  -- of them loses an entry.
   pub record Evicts (old new : List (N × Part K V L S)) : Type 0 where
     pub name : N
     pub own : Part K V L S

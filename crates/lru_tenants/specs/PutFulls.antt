@@ -10,8 +10,8 @@ module _ {K V L S : Type 0} (terms : Terms K V L) (eq : K → K → Bool) (key :
   abbrev pub rejects : State K V L S → Bool
   rejects map = not (terms.accepts map.limiter (length map.pairs) key value) && not (is_some (lookup (eq key) map.pairs))
 
-  -- The value that the map does not keep: the given value if the key is new and the limiter rejects the entry, or else
-  -- the `unkept_value` of the insert.
+  -- The value that the map does not keep. If the limiter rejects the entry of a new key, this is the given value.
+  -- Otherwise it is the `unkept_value` of the insert.
   abbrev pub comes_back : Rules K V L → State K V L S → Option V
   comes_back rules map =
       if rejects map then Some value else unkept_value rules (offers_of terms) eq key value (contents map)

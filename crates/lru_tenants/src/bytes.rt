@@ -23,10 +23,10 @@ mod tenant;
 
 use tenant::ByteTenant;
 
-/// A cache for many tenants within one limit of bytes. The limit covers the table of tenants, their names, their
-/// tables, and what their entries own.
+/// A cache for many tenants within one limit of bytes. The limit covers the table of tenants, the names and tables of
+/// the tenants, and the bytes that entries own.
 ///
-/// Each tenant's map has its own limit, as under [`ByBytes`]. While a table grows, the old table is not counted.
+/// [`ByBytes`] limits each tenant's map to the tenant's own limit. While a table grows, the old table is not counted.
 ///
 /// In the examples of the calls, `bytes` has a limit of 4,000 bytes, and one tenant, 1, with a limit of 500 bytes and
 /// the entry (7, 2).
@@ -136,7 +136,7 @@ impl<
     /// # Errors
     ///
     /// The tenants are unchanged. `AlreadyOpen`. `OverTotal`: `limit` plus the bytes of the name is above `left()`.
-    /// `Memory`: the table of tenants has to grow, but memory runs out, or the cache's limit does not permit a larger
+    /// `Memory`: the table of tenants must grow, and memory ran out or the cache's limit does not permit a larger
     /// table. After `Memory` the table may be larger, so `left` may be lower.
     pub fn open(&mut self, name: N, limit: u64) -> Result<(), TenantError>
         ensures opens { On N.eq (N.eq name) (Opens (is_over N.owned name limit self.old)

@@ -1,4 +1,5 @@
-//! Laws about calls. A caller that needs a law calls its function, which does nothing.
+//! Laws about calls. Each law is the contract of a function that does nothing. A caller that needs the law calls this
+//! function.
 ghost use Rattle.std.specs.Prelude.{◌≡◌, ◌≤◌, false, Bool, List, Option, IfSome, sum_by};
 ghost use Rattle.std.specs.List.{All};
 ghost use Rattle.std.specs.Map.{values_of};
@@ -56,8 +57,8 @@ pub fn costs_are_within_the_total_limit<
 /// entries. If the tenant's cost is within its share, its map does not change (`others`).
 ///
 /// The premise: each call spares every tenant that the call does not name, as the clause `spares` of `put` says. Other
-/// calls change only the tenant that they name (`leaves`). If two calls name the same tenants, both together spare the
-/// other tenants (`joins`).
+/// calls change only the tenant that they name (`leaves`). If two calls that name the same tenant spare the other
+/// tenants, the two calls together spare them, too (`joins`).
 ///
 /// ```
 /// calls_spare_other_tenants::<u64, u64, u64, ByCost, RandomState>();

@@ -177,9 +177,9 @@ impl<
 
     /// Inserts a key with a value, as the newest entry of the tenant. Returns whether the key is there afterwards.
     ///
-    /// First does what `TenantCache::put` does with the limit as the budget. Then, while the total cost is above the
-    /// limit, evicts the oldest entry of the tenant furthest above its share. The new entry may be evicted, too. If
-    /// several tenants are equally far above, any of them may lose an entry.
+    /// First does what `TenantCache::put` does for a tenant whose budget is the limit of the pool. Then, while the
+    /// total cost is above the limit, evicts the oldest entry of the tenant furthest above its share. The new entry may
+    /// be evicted, too. If several tenants are equally far above, any of them may lose an entry.
     ///
     /// ```
     /// assert_eq!(rt; (pool.put(&2, 8, 3), pool.put(&1, 9, 1)), (Ok(true), Ok(true)));

@@ -16,7 +16,8 @@ fn lists_made(alloc: Global, cache: &mut TenantCache<u64, u64, u64>) -> u32 {
     made
 }
 
-// Without memory for its answers, a list of calls fails. Each list frees its memory: one free block serves 100 lists.
+// Without memory for its answers, a list of calls fails. Each list frees its memory, so 100 lists run in the memory of
+// one list and its answers.
 #[test]
 fn a_list_takes_the_memory_of_its_answers(rt: HostRuntime) -> Result<(), Fail> {
     let list = size_of::<TenantCall<u64, u64, u64>>();

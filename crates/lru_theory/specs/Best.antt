@@ -16,8 +16,8 @@ module _ {K : Type 0} (eq : K → K → Bool) where
   put trace key (other ∷ keys) = if nat_le (until key trace) (until other trace) then key ∷ (other ∷ keys)
       else other ∷ put trace key keys
 
-  -- MIN with n places: its keys after a reference to the key, in the order of their next references. Unless n is 0, MIN
-  -- stores the key. If MIN now has more than n keys, it evicts the old key whose next reference comes last.
+  -- The keys of MIN with n places after a reference to the key, in the order of their next references. Unless n is 0,
+  -- MIN stores the key. If MIN now has more than n keys, it evicts the old key whose next reference comes last.
   abbrev pub min_refer : ℕ → K → List K → List K → List K
   min_refer zero key trace keys = []
   min_refer (suc n) key trace keys = put trace key (take n (remove_key (eq key) keys))
@@ -26,15 +26,15 @@ module _ {K : Type 0} (eq : K → K → Bool) where
   abbrev pub bypass_refer : ℕ → K → List K → List K → List K
   bypass_refer n key trace keys = take n (put trace key (remove_key (eq key) keys))
 
-  -- How many references of the trace miss. The cache begins with `keys`, and `refer` changes them at each reference.
+  -- The number of misses of the trace. The cache begins with `keys`, and `refer` changes its keys at each reference.
   abbrev pub faults_ahead : (K → List K → List K → List K) → List K → List K → ℕ
   faults_ahead refer keys [] = 0
   faults_ahead refer keys (key ∷ trace) = fault eq key keys + faults_ahead refer (refer key trace keys) trace
 
-  -- how often MIN with n places misses on the trace, if MIN begins with no keys
+  -- the number of misses of MIN with n places on the trace, if MIN begins with no keys
   abbrev pub min_misses : ℕ → List K → ℕ
   min_misses n trace = faults_ahead (min_refer n) [] trace
 
-  -- how often MIN with bypass and n places misses on the trace, if MIN begins with no keys
+  -- the number of misses of MIN with bypass and n places on the trace, if it begins with no keys
   abbrev pub bypass_misses : ℕ → List K → ℕ
   bypass_misses n trace = faults_ahead (bypass_refer n) [] trace

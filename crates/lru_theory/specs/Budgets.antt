@@ -22,7 +22,7 @@ module _ {K : Type 0} (eq : K → K → Bool) (cost : K → ℕ) where
   abbrev pub cached_within : ℕ → List K → List K → List K
   cached_within n = cached_by (refer_within n)
 
-  -- how many references of the trace miss in the cache
+  -- the number of misses of the trace in the cache
   abbrev pub faults_within : ℕ → List K → List K → ℕ
   faults_within n = faults_by eq (refer_within n)
 
@@ -33,12 +33,12 @@ module _ {K : Type 0} (eq : K → K → Bool) (cost : K → ℕ) where
   abbrev pub needs : K → List K → ℕ
   needs key past = cost key + sum_by cost (recency eq (since eq key past))
 
-  -- Whether a reference to the key misses in a cache with the limit n: it is the first reference to the key, or the key
-  -- needs more than n (`needs`).
+  -- Whether a reference to the key misses in a cache with the limit n. It misses if it is the first reference to the
+  -- key, or if the key needs more than n (`needs`).
   abbrev pub is_far_within : ℕ → K → List K → Bool
   is_far_within n key past = not (is_in eq key past) || nat_lt n (needs key past)
 
-  -- how many references of a trace miss in a cache with the limit n, if `past` comes before the trace
+  -- the number of misses of a trace in a cache with the limit n, if `past` comes before the trace
   abbrev pub misses_within : ℕ → List K → List K → ℕ
   misses_within n past [] = 0
   misses_within n past (key ∷ trace) =

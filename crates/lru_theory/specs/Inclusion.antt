@@ -22,19 +22,18 @@ module _ {K : Type 0} (eq : K → K → Bool) (n : ℕ) where
   after_call clears keys = []
   after_call looks keys = keys
 
-  -- the keys of an LRU cache of n places after these calls, one after another
+  -- the keys after these calls, one after another
   abbrev pub after_calls : List (KeyCall K) → List K → List K
   after_calls [] keys = keys
   after_calls (call ∷ calls) keys = after_calls calls (after_call call keys)
 
 module _ {K : Type 0} (eq : K → K → Bool) where
-  -- for each key of xs, the list ys contains an equal key, in the same order
+  -- xs and ys are equal key by key after some keys of ys (or none) are left out
   pub data IsSubsequence : List K → List K → Type 0 where
     none : (ys : List K) → IsSubsequence [] ys
     both : (x y : K) (xs ys : List K) → eq x y ≡ true → IsSubsequence xs ys → IsSubsequence (x ∷ xs) (y ∷ ys)
     skips : (y : K) (xs ys : List K) → IsSubsequence xs ys → IsSubsequence xs (y ∷ ys)
 
-  -- the cache `small` of n places is included in the cache `large` of m places
   pub record IsIncluded (n m : ℕ) (small large : List K) : Type 0 where
     pub keys : IsSubsequence small large
     pub more : length large ≤ length small + (m - n)

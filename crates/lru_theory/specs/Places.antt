@@ -7,7 +7,6 @@ use Rattle.lru_theory.specs.Inclusion.{KeyCall, refers, promotes, removes, clear
 abbrev pub emptied : {K : Type 0} → Option K → Option K
 emptied place = None
 
--- the keys in the places, in order
 abbrev pub keys_in : {K : Type 0} → List (Option K) → List K
 keys_in [] = []
 keys_in (None ∷ places) = keys_in places
@@ -18,7 +17,8 @@ module _ {K : Type 0} (test : K → Bool) where
   contains_it None = false
   contains_it (Some key) = test key
 
-  -- how many places come before the first place whose key passes the test, or the number of all places if no key passes
+  -- The number of places before the first place whose key passes the test. If no key passes the test, the result is the
+  -- number of all places.
   abbrev pub place_of : List (Option K) → ℕ
   place_of [] = 0
   place_of (place ∷ places) = if contains_it place then 0 else suc (place_of places)
@@ -44,12 +44,10 @@ module _ {K : Type 0} (eq : K → K → Bool) where
   place_call clears places = map emptied places
   place_call looks places = places
 
-  -- the places after these calls, one after another
   abbrev pub place_calls : List (KeyCall K) → List (Option K) → List (Option K)
   place_calls [] places = places
   place_calls (call ∷ calls) places = place_calls calls (place_call call places)
 
-  -- 1 if the call references a key that is not among `keys`, or else 0
   abbrev pub call_fault : KeyCall K → List K → ℕ
   call_fault (refers key) keys = fault eq key keys
   call_fault (promotes key) keys = 0

@@ -19,7 +19,7 @@ module _ {K : Type 0} (eq : K → K → Bool) (places : ℕ) where
     replaces : is_in eq key old ≡ false → (evicted : K) → length (remove_key (eq evicted) old) + 1 ≤ places →
         Demands key old 1 (key ∷ remove_key (eq evicted) old)
 
-  -- How a policy may change its cache at a reference, if the policy may load and evict any keys, even keys that are not
+  -- How a policy may change its cache at a reference. The policy may load and evict any keys, even keys that are not
   -- referenced yet. The policy pays for each key that it loads. After the reference, the referenced key is in the
   -- cache.
   pub record Loads (key : K) (old : List K) (paid : ℕ) (new : List K) : Type 0 where

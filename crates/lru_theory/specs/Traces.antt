@@ -33,12 +33,12 @@ module _ {K : Type 0} (eq : K → K → Bool) where
   abbrev pub distance : K → List K → ℕ
   distance key past = length (recency (since key past))
 
-  -- Whether a reference to the key misses in a cache of n places: it is the first reference to the key, or the key's
-  -- reuse distance is at least n.
+  -- Whether a reference to the key misses in a cache of n places. It misses if it is the first reference to the key, or
+  -- if the key's reuse distance is at least n.
   abbrev pub is_far : ℕ → K → List K → Bool
   is_far n key past = not (is_in key past) || nat_le n (distance key past)
 
-  -- how many references of a trace miss in a cache of n places, if `past` comes before the trace
+  -- the number of misses of a trace in a cache of n places, if `past` comes before the trace
   abbrev pub misses : ℕ → List K → List K → ℕ
   misses n past [] = 0
   misses n past (key ∷ trace) = (if is_far n key past then 1 else 0) + misses n (key ∷ past) trace
@@ -48,20 +48,17 @@ module _ {K : Type 0} (eq : K → K → Bool) where
   abbrev pub refer : ℕ → K → List K → List K
   refer n key keys = take n (key ∷ remove_key (eq key) keys)
 
-  -- 0 if `keys` contains the key, or else 1
   abbrev pub fault : K → List K → ℕ
   fault key keys = if is_in key keys then 0 else 1
 
-  -- How many references of the trace miss. The cache begins with `keys`, and `refer` changes them at each reference.
+  -- The number of misses of the trace. The cache begins with `keys`, and `refer` changes its keys at each reference.
   abbrev pub faults_by : (K → List K → List K) → List K → List K → ℕ
   faults_by refer keys [] = 0
   faults_by refer keys (key ∷ trace) = fault key keys + faults_by refer (refer key keys) trace
 
-  -- the keys after a trace (`cached_by`), for an LRU cache of n places
   abbrev pub cached : ℕ → List K → List K → List K
   cached n = cached_by (refer n)
 
-  -- how many references miss (`faults_by`), for an LRU cache of n places
   abbrev pub faults : ℕ → List K → List K → ℕ
   faults n = faults_by (refer n)
 

@@ -9,7 +9,7 @@ use Rattle.lru_theory.specs.Places.{keys_in, place_of, vacated, place_calls, cal
 use Rattle.lru_theory.specs.Traces.{is_in}
 use Rattle.lru_trace.specs.Counted.{number_in}
 
--- the call of a line: with the size 0 the line deletes the key
+-- the call that a line makes: a delete if the size is 0, and otherwise a reference
 abbrev pub call_of : List ℕ × ℕ → KeyCall (List ℕ)
 call_of reference = if reference.1 == 0 then removes reference.0 else refers reference.0
 
@@ -24,15 +24,13 @@ referred (removes key ∷ calls) = referred calls
 referred (clears ∷ calls) = referred calls
 referred (looks ∷ calls) = referred calls
 
--- the keys of an LRU cache of n places, after a warm-up and a trace
 abbrev pub cache_of : ℕ → List (KeyCall (List ℕ)) → List (KeyCall (List ℕ)) → List (List ℕ)
 cache_of n warm trace = after_calls bytes_eq n trace (after_calls bytes_eq n warm [])
 
--- how many references of the trace miss in an LRU cache of n places, after a warm-up
+-- the number of misses of the trace in an LRU cache of n places, after a warm-up
 abbrev pub missed_calls : ℕ → List (KeyCall (List ℕ)) → List (KeyCall (List ℕ)) → ℕ
 missed_calls n warm trace = call_faults bytes_eq n trace (after_calls bytes_eq n warm [])
 
--- the places after a warm-up and a trace
 abbrev pub places_of : List (KeyCall (List ℕ)) → List (KeyCall (List ℕ)) → List (Option (List ℕ))
 places_of warm trace = place_calls bytes_eq trace (place_calls bytes_eq warm [])
 
@@ -40,11 +38,11 @@ pub record Deleting : Type 0 where
   pub names : List (String Global × ℕ)
   -- the places, with numbers instead of keys
   pub places : List (Option ℕ)
-  -- for each n, how many counted references found their key behind n newer places
+  -- for each n, the number of counted references whose key was behind exactly n newer places
   pub counts : List ℕ
   pub references : ℕ
 
--- the second list is the first list with the numbers of the keys instead of the keys
+-- the second list is the first list, with each key replaced by its number
 abbrev pub AreNumbers : (List ℕ → Option ℕ) → List (Option (List ℕ)) → List (Option ℕ) → Type 0
 AreNumbers number [] [] = Unit {0}
 AreNumbers number [] (id ∷ ids) = ⊥
@@ -52,7 +50,6 @@ AreNumbers number (place ∷ places) [] = ⊥
 AreNumbers number (place ∷ places) (id ∷ ids) =
     (option_map number place ≡ option_map Some id) × AreNumbers number places ids
 
--- the curve counts the references of `trace`, after the warm-up `warm`
 pub record IsDeleteOf (warm trace : List (KeyCall (List ℕ))) (curve : Deleting) : Type 0 where
   pub placed : AreNumbers (number_in curve.names) (places_of warm trace) curve.places
   pub caches : (n : ℕ) → keys_in (take n (places_of warm trace)) ≡ cache_of n warm trace

@@ -39,7 +39,7 @@ pub record TraceRead (from to : Option (List ℕ)) (options : Options) (sizes : 
   pub fits : Fits options sizes curve
   pub left_out : others ≡ others_in options rest
 
--- The input has at most one line, and no line that names sizes.
+-- No line was read, or one line that names no sizes.
 pub record NoSizesRead (from to : Option (List ℕ)) : Type 0 where
   pub input : List ℕ
   pub reads : Consumes from to input
@@ -62,7 +62,7 @@ abbrev pub Begins : Option (List ℕ) → Option (List ℕ) → List ℕ → Typ
 Begins old new text = (begun rest : List ℕ) × (text ≡ begun ++ rest) × Appends old new begun
 
 -- The reader was read to the end, and the lines determine the text. `IsWritten` says which part of the text was
--- written. If the reader's type does not say which bytes are left, `input` may be any input.
+-- written. If `from` is unknown (`None`), `input` may be any list of bytes.
 pub record Reported (from to : Option (List ℕ)) (options : Options) (IsWritten : List ℕ → Type 0) : Type 0 where
   pub input : List ℕ
   pub text : List ℕ

@@ -18,7 +18,7 @@ free_at free time = lookup (is_at (nat_cmp time)) free
 abbrev pub is_free : List (ℕ × ℕ) → List ℕ → ℕ → Bool
 is_free free times id = is_some (free_at free (time_in times id))
 
--- the place with this number: free, or with its number as the key
+-- `None` if the place with this number is free, or else its key, which is the same number
 abbrev pub mark : (ℕ → Bool) → ℕ → Option ℕ
 mark is_free id = if is_free id then None else Some id
 
@@ -48,7 +48,8 @@ abbrev pub IsSomeAnd : Option ℕ → (ℕ → Type 0) → Type 0
 IsSomeAnd None Holds = ⊥
 IsSomeAnd (Some id) Holds = Holds id
 
--- Which place a reference moves to the front: the newest place that is free (`takes`) or contains the key `own` (`stays`).
+-- The place that a reference moves to the front: the newest free place (`takes`), or the place of the key `own` if no
+-- free place is newer (`stays`).
 pub data Chosen (own : Option ℕ) (times : List ℕ) (old new : List (ℕ × ℕ)) (chosen : Option ℕ) : Type 0 where
   stays : chosen ≡ own → new ≡ old
       → ((time : ℕ) → is_some (free_at old time) ≡ true → IsSomeAnd own (λ id. time ≤ time_in times id))
@@ -57,7 +58,7 @@ pub data Chosen (own : Option ℕ) (times : List ℕ) (old new : List (ℕ × �
       → ((t : ℕ) → is_some (free_at old t) ≡ true → t ≤ time) → IfSome own (λ o. time_in times o < time)
       → ((t : ℕ) → free_at new t ≡ after_taken own times time old t) → Chosen own times old new chosen
 
--- The places after a reference to the key `own`, or to a new key: `id` is now the number of the key.
+-- The places after a reference to the key `own`, or to a new key if `own` is `None`. The key now has the number `id`.
 pub record Referred (own : Option ℕ) (id : ℕ) (old new : List (Option ℕ)) : Type 0 where
   pub places : new ≡ Some id ∷ vacated (owns own) old
   pub fresh : is_in nat_eq id (keys_in (vacated (owns own) old)) ≡ false

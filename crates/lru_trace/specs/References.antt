@@ -1,5 +1,5 @@
 -- The references that lines make. A reference is a key, and the size of the key's entry. With the policy `Deletes`, a
--- size is 1 at a reference, and 0 at a delete: the key has no entry after this line.
+-- line has the size 1 if it references its key, and 0 if it deletes its key.
 use Rattle.std.specs.Prelude.{ℕ, zero, suc, List, [], ◌∷◌, take, drop, min, filter_map, length, Bool, true, false, not, nat_lt, nat_eq}
 use Rattle.std.specs.Prelude.{if◌then◌else◌, codes}
 use Rattle.std.specs.List.{starts_with}
@@ -98,8 +98,8 @@ module _ (options : Options) where
     abbrev pub counted_in : List (List ℕ × ℕ)
     counted_in = sampled (bits_of options) (drop warm_up_in references_in)
 
-    -- how many lines were malformed, how many references after the warm-up were outside the sample, and how many lines
-    -- deleted a key
+    -- the numbers of malformed lines, of references to keys outside the sample (after the warm-up), and of lines that
+    -- delete a key
     abbrev pub others_in : Others
     others_in = record {
       malformed = malformed_in;
@@ -107,7 +107,7 @@ module _ (options : Options) where
       deleted = deleted_in;
     }
 
-    -- `others_in`, if all lines are in the warm-up (`warm` is true), or none (`warm` is false)
+    -- `others_in` if all lines are in the warm-up (`warm` is true), or if no line is in it (`warm` is false)
     abbrev pub others_so : Bool → Others
     others_so warm = record {
       malformed = malformed_in;

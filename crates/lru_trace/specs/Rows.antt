@@ -19,14 +19,14 @@ abbrev pub best_in : List (List ℕ) → Bool → ℕ → Option BestMisses
 best_in trace false n = None
 best_in trace true n = Some (record { min = min_misses bytes_eq n trace; bypass = bypass_misses bytes_eq n trace })
 
--- How many references a sample of one key in 2 ^ bits is expected to contain, rounded down.
+-- The expected number of references in a sample of one key in 2 ^ bits, rounded down.
 abbrev pub expected_of : ℕ → Counts → ℕ
 expected_of bits counts = (counts.references + unwrap_or counts.skipped 0) / 2 ^ bits
 
 abbrev pub keys : List (List ℕ) → List (List ℕ) → ℕ
 keys warm trace = length (recency bytes_eq (past_after (past_after [] warm) trace))
 
--- How many references of `trace` miss in a cache of this size, if the warm-up comes before `trace`.
+-- The number of misses of `trace`, after the warm-up, in a cache of this size.
 abbrev pub missed : Measure → List (List ℕ × ℕ) → List (List ℕ × ℕ) → ℕ → ℕ
 missed Places warm trace size = misses bytes_eq size (past_after [] (keys_of warm)) (keys_of trace)
 missed PlacesWithDeletes warm trace size = missed_calls size (calls_of warm) (calls_of trace)
@@ -38,14 +38,13 @@ needed Places warm trace = keys (keys_of warm) (keys_of trace)
 needed PlacesWithDeletes warm trace = length (places_of (calls_of warm) (calls_of trace))
 needed Bytes warm trace = bytes_of (warm ++ trace)
 
--- how many lines of the trace are references
 abbrev pub references_of : Measure → List (List ℕ × ℕ) → ℕ
 references_of Places trace = length trace
 references_of PlacesWithDeletes trace = referred (calls_of trace)
 references_of Bytes trace = length trace
 
--- How many different keys were referenced. With deletes, the largest number of keys that an unlimited cache contained
--- at once.
+-- The number of different keys that were referenced. With deletes, this is the largest number of keys that an unlimited
+-- cache contained at once.
 abbrev pub keys_among : Measure → List (List ℕ × ℕ) → List (List ℕ × ℕ) → ℕ
 keys_among Places warm trace = keys (keys_of warm) (keys_of trace)
 keys_among PlacesWithDeletes warm trace = length (places_of (calls_of warm) (calls_of trace))
@@ -72,7 +71,7 @@ module _ (measure : Measure) (warm trace : List (List ℕ × ℕ)) where
   abbrev pub axis_in : ℕ → List ℕ
   axis_in bits = powers (max (needed measure warm trace) 1 * 2 ^ bits) 64 0
 
-  -- the powers of two on the axis, from 2 ^ bits on, which is the size 1 in the sample
+  -- The powers of two on the axis, from 2 ^ bits on. In the sample, 2 ^ bits is the size 1.
   abbrev pub powers_in : ℕ → List ℕ
   powers_in bits = drop bits (axis_in bits)
 

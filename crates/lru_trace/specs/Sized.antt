@@ -18,8 +18,8 @@ first_size references key = lookup (bytes_eq key) references
 abbrev pub size_in : List (List ℕ × ℕ) → List ℕ → ℕ
 size_in references key = unwrap_or (first_size references key) 0
 
--- How many references of `trace` miss in an LRU cache with this limit of bytes, if the warm-up comes before `trace`.
--- The first reference to a key gives the size of the key, even if this reference is in the warm-up.
+-- The number of misses of `trace`, after the warm-up, in an LRU cache with this limit of bytes. The first reference to
+-- a key gives the size of the key, even if this reference is in the warm-up.
 abbrev pub missed_within : ℕ → List (List ℕ × ℕ) → List (List ℕ × ℕ) → ℕ
 missed_within limit warm trace =
     misses_within bytes_eq (size_in (warm ++ trace)) limit (past_after [] (keys_of warm)) (keys_of trace)
@@ -33,20 +33,20 @@ pub record Sized : Type 0 where
   pub recency : List ℕ
   pub sizes : List ℕ
   pub limits : List ℕ
-  -- For each limit, how many counted references hit at this limit, and miss at all limits before it. The last count is
-  -- how many counted references miss at every limit.
+  -- For each limit, the number of counted references that hit at this limit and miss at every earlier limit. The last
+  -- count is the number of counted references that miss at every limit.
   pub counts : List ℕ
   pub references : ℕ
 
 abbrev pub total_of : Sized → ℕ
 total_of curve = sum_by (weight_in curve.sizes) curve.recency
 
--- The size of the key, plus the sizes of the keys before this key in the recency list, or `None` if the key is not in
--- the list.
+-- The size of the key, plus the sizes of the keys before this key in the recency list. If the list does not contain the
+-- key, the result is `None`.
 abbrev pub need_of : (ℕ → ℕ) → ℕ → List ℕ → Option ℕ
 need_of size key recency = option_map (λ behind. size key + behind) (position size key recency)
 
--- whether a reference misses in a cache with this limit, if the reference has this need (`need_of`)
+-- whether a reference with this need (`need_of`) misses in a cache with this limit
 abbrev pub exceeds : Option ℕ → ℕ → Bool
 exceeds None limit = true
 exceeds (Some need) limit = nat_lt limit need
@@ -66,7 +66,6 @@ pub record Made (key : List ℕ) (bytes : ℕ) (need : Option ℕ) (old new : Si
   pub recency : new.recency ≡ number ∷ remove_key (nat_eq number) old.recency
   pub needs : need ≡ need_of (weight_in new.sizes) number old.recency
 
--- the curve counts the references of `trace`, after the warm-up `warm`
 pub record IsSizedOf (warm trace : List (List ℕ × ℕ)) (curve : Sized) : Type 0 where
   pub before : List ℕ
   pub numbers : List ℕ

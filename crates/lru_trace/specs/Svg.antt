@@ -25,8 +25,8 @@ unfoldable pub level_of : ℕ → ℕ → ℕ
 level_of zero n = 0
 level_of (suc most) n = if nat_le (2 ^ suc most) n then suc most else level_of most n
 
--- 1000 times the logarithm of n to the base 2, with an error of at most 9. The function is exact at each power of two,
--- and a parabola between two powers.
+-- 1000 times the logarithm of n to the base 2, with an error of at most 9. The error is 0 at each power of two. Between
+-- two powers, the function is a parabola.
 abbrev pub log_of : ℕ → ℕ
 log_of n =
     let level : ℕ = level_of 63 n in
@@ -58,7 +58,7 @@ label Places = PLACES.now
 label PlacesWithDeletes = PLACES.now
 label Bytes = BYTES.now
 
--- the entry of a policy in the legend, and the beginning of the policy's curve
+-- the text of a policy's entry in the legend, followed by the text that begins the policy's curve
 abbrev pub legend : Policy → List ℕ
 legend policies.Lru = LRU.now
 legend policies.Min = MIN.now

@@ -15,6 +15,6 @@ next_times eq i (key ∷ trace) = (suc i + until eq key trace) ∷ next_times eq
 abbrev pub with_time : ℕ → ℕ → List ℕ → List ℕ
 with_time end time times = if nat_lt time end then insert_key nat_cmp times time else times
 
--- If `best` contains times, these are the times of the next references of the trace.
+-- If `best` is not `None`, it is the list `next_times` of the trace.
 abbrev pub KnowsRest : List (List ℕ) → Option (List ℕ) → Type 0
 KnowsRest trace best = IfSome best (λ times. times ≡ next_times bytes_eq 0 trace)

@@ -20,7 +20,7 @@ const MOST_LEVELS: u32 = 59;
 /// `add_weighed_key` got.
 ///
 /// Each reference takes the next slot of a log, and the slot that its key had before becomes free. If the log is full,
-/// the keys move to the front of a new log. If at least about half of the slots contain keys, the new log has twice as
+/// the keys move to the front of a new log. If about half of the slots or more contain keys, the new log has twice as
 /// many slots. The memory is in proportion to the number of keys.
 #[derive(Drop)]
 pub struct Distances {
@@ -115,14 +115,12 @@ impl Distances {
         Ok(key)
     }
 
-    /// Returns how many keys were referenced.
     pub fn referenced(&self) -> usize
         ensures { result ≡ length self.now.recency }
     {
         self.used
     }
 
-    /// Returns the weight of a key.
     pub fn weight(&self, key: usize) -> u64
         ensures { result ≡ weight_in self.now.weights key }
     {
@@ -222,9 +220,9 @@ impl Distances {
         Ok(())
     }
 
-    /// References a key, and returns the sum of the weights of the other keys that were referenced after its last
-    /// reference. If all weights are 1, this sum is the reuse distance. If the key was not referenced before, returns
-    /// `None`.
+    /// References a key, and returns the sum of the weights of the other keys that were referenced since the last
+    /// reference to this key. If all weights are 1, this sum is the reuse distance. If the key was not referenced
+    /// before, returns `None`.
     ///
     /// Cost: `O(log n)` for n keys, amortised over the references.
     ///

@@ -1,4 +1,4 @@
-//! Miss-ratio curves: how often the references of a trace miss in LRU caches of every size, counted in one pass.
+//! Miss-ratio curves: the misses of a trace in LRU caches of every size, counted in one pass.
 //!
 //! [`Curve`] counts the references of a trace and returns the misses for each size. [`trace`] reads a trace from lines
 //! and writes a report.

@@ -17,7 +17,7 @@ use crate::samples::is_sampled;
 use crate::sizes::number_of;
 use std::io::{BufRead, ErrorKind, Write};
 
-/// The most bytes of a key.
+/// The greatest length of a key, in bytes.
 const LONGEST_KEY: usize = 64;
 
 #[derive(Clone, Copy)]
@@ -27,12 +27,11 @@ pub enum Ending {
     Nothing,
 }
 
-/// How many lines are malformed, are skipped, or delete a key.
 #[derive(Clone, Copy, Debug, PartialEq, Eq)]
 pub struct Others {
-    /// How many lines make no reference.
+    /// The number of lines that spell no key, or no size for `Policies::Sized`.
     pub malformed: u64,
-    /// How many references after the warm-up are to a key outside the sample.
+    /// The number of references to keys outside the sample, after the warm-up.
     pub skipped: u64,
     /// How many lines delete a key.
     pub deleted: u64,
@@ -171,8 +170,9 @@ fn refer_line(
     })
 }
 
-/// References the key of each remaining line (see `docs/TRACE.md`) if the key is in the sample. Returns how many lines
-/// are malformed, are skipped, or delete a key. After each million lines, writes the number of lines to `progress`.
+/// References the key of each remaining line (see `docs/TRACE.md`) if the key is in the sample. Returns the numbers of
+/// malformed lines, of skipped lines, and of lines that delete a key. After each million lines, writes the number of
+/// lines to `progress`.
 ///
 /// # Errors
 ///

@@ -9,7 +9,7 @@ use std::alloc::{AllocError, Global};
 use std::collections::BTreeMap;
 use std::marker::Model;
 
-/// The places of `deletes_leave_places`, newest first. A place contains a key, which is a number, or is free.
+/// The places of `deletes_leave_places`, newest first. A place is free, or contains a key. A key is a number.
 ///
 /// Each place has a number, and the time of the reference that moved it to the front. A key has the number of its
 /// place.

@@ -28,7 +28,7 @@ pub struct BestMisses {
     pub bypass: usize,
 }
 
-/// How many references the sample is expected to have, and how many miss in a cache of this size.
+/// The expected number of references in the sample, and the number of misses in a cache of this size.
 #[derive(Clone, Copy)]
 pub struct Row {
     pub size: usize,

@@ -2,7 +2,7 @@ use crate::escapes::unescape;
 use std::alloc::Global;
 use std::fmt::Write;
 
-/// An input, and the answers and the exit status that it must give.
+/// An input, with the answers and the exit status that the input must give.
 #[derive(Drop)]
 pub struct Row<'a> {
     pub name: &'a str,
@@ -23,7 +23,7 @@ impl<'a> Row<'a> {
         }
     }
 
-    /// Reads a row. A malformed row expects a text that no replay writes, so the row fails.
+    /// Reads a row. If the row is malformed, its expected text becomes one that no replay writes, so the row fails.
     pub fn of(alloc: Global, lines: &'a str) -> Row<'a> {
         let mut row = Row::new(alloc, "");
         let mut is_good = true;

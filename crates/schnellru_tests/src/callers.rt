@@ -193,8 +193,8 @@ fn exchange(
     map.insert(new, text)
 }
 
-/// Each insert evicts only the oldest entries, both inserts pay for the entries that they move, and no two keys are
-/// equal afterwards.
+/// Each insert evicts only the oldest entries. Both inserts pay for the entries that they move. Afterwards, no two keys
+/// are equal.
 fn put_two(
     map: &mut LruMap<String, u64>,
     first: String,

@@ -3,8 +3,8 @@
 //! No contract can say what memory is left, so these calls are only proved safe.
 use std::alloc::{AllocError, Global};
 
-// The sizes of the requests: `LARGEST`, half of it, and so on down to `SMALL`, and then each smaller multiple of
-// `STEP`.
+// The first request has the size `LARGEST`. After each failed request, the size is halved down to `SMALL`, and then
+// falls by `STEP`.
 const LARGEST: usize = 1 << 46;
 
 const SMALL: usize = 2048;
@@ -54,7 +54,7 @@ impl Hog {
         Ok(Hog { held, spare })
     }
 
-    /// Takes all memory except `blocks` blocks of 8,192 bytes, so that this number of small requests succeeds.
+    /// Takes all memory except `blocks` blocks of 8,192 bytes, so that `blocks` small requests succeed.
     pub fn but(alloc: Global, blocks: usize) -> Result<Hog, AllocError> {
         let sizes = vec![in alloc; 8192; blocks]?;
         let mut hog = Hog::new(alloc, sizes.as_slice())?;

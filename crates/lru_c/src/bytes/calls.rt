@@ -177,8 +177,8 @@ pub fn pop_oldest(map: &mut BytesMap, key: &mut [u8], value: &mut [u8]) -> Poppe
     }
 }
 
-/// If a put of the key `own` with a value of this length must evict another entry, makes the entry of `own` the newest,
-/// and pops the oldest entry.
+/// Prepares a put of the key `own` with a value of this length. If the put must evict another entry, makes the entry of
+/// `own` the newest, and calls `pop_oldest`.
 pub fn pop_for(
     map: &mut BytesMap,
     own: &[u8],

@@ -83,8 +83,8 @@ impl BytesSlot {
     }
 }
 
-/// A handle: a map of byte strings on the heap, or none. The running total of the map is the weight of its entries, and
-/// at most its budget. Nothing drops a handle (see [`Lru`](crate::handle::Lru)).
+/// A handle: a map of byte strings on the heap, or none. The running total of the map is the total weight of its
+/// entries, and is at most the map's budget. Nothing drops a handle (see [`Lru`](crate::handle::Lru)).
 #[repr(C)]
 pub struct LruBytes {
     pub(crate) slot: BytesSlot,

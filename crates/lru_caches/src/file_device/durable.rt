@@ -9,12 +9,12 @@ use std::io::Cursor;
 /// assert!(rt; Cursor::new([0u8; 4]).make_durable().is_ok());
 /// ```
 pub trait Durable {
-    /// Makes durable all bytes that were written and flushed before this call.
+    /// Makes all bytes that were written and flushed before this call survive a crash.
     ///
     /// # Errors
     ///
-    /// The system reported an error, and may have lost bytes that were written since the last `Ok`, even if a later
-    /// call returns `Ok`.
+    /// The system reported an error. Bytes that were written since the last `Ok` may be lost, even if a later call
+    /// returns `Ok`.
     fn make_durable(&mut self) -> io::Result<()>;
 }
 

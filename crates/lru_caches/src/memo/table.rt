@@ -27,7 +27,7 @@ pub trait Question<K, V> {
 
 /// A table of the newest answers to a question, up to a limit. A function that calls itself can store its results here.
 ///
-/// `get` returns only answers, because the caller of `store` proves that the value is an answer.
+/// `get` returns only answers, because each caller of `store` must prove that the value is an answer.
 ///
 /// ```
 /// let mut squares = MemoTable::new(alloc, ByLength::new(9), Squares);
@@ -176,8 +176,8 @@ impl<
         Some(read(&*value))
     }
 
-    /// Stores an answer for a key as the newest, and returns true. If memory runs out, or a limit prevents storing the
-    /// answer, returns false, and no answer is stored for the key.
+    /// Stores an answer for a key as the newest, and returns true. Returns false if memory runs out or a limit prevents
+    /// storing the answer. In this case, the table has no answer for the key.
     ///
     /// ```
     /// squares.store(3, 9);

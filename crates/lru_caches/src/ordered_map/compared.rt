@@ -11,7 +11,7 @@ use std::hash::Hash;
 ///
 /// Cost: `O(1)` if the lengths differ, else `O(n)` for n entries.
 ///
-/// Follows std's `Vec`. Maps of indexmap are equal if they have the same entries in any order.
+/// Follows std's `Vec`. For the maps of indexmap, the order does not matter.
 impl<K: Eq + Hash, V: PartialEq, S: KeyHasher<K>> PartialEq for OrderedMap<K, V, S> {
     ghost use Rattle.std.specs.Prelude.{◌&&◌};
     ghost use Rattle.std.specs.Cmp.{and_per, on_per};

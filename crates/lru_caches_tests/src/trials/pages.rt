@@ -11,7 +11,8 @@ const CAPACITIES: usize = 6;
 
 const MOST: u64 = 80;
 
-/// How many disk calls the runs of all capacities make together. Another program counted them.
+/// The number of disk calls in a run that does not fail, summed over all capacities. Another program counted these
+/// calls.
 pub const NEEDED: u64 = 310;
 
 const WORKS: u64 = 1 << 60;
@@ -56,8 +57,8 @@ fn shows(cache: &mut Cache, model: &Blocks) -> bool {
     right
 }
 
-// Makes random calls until a sync fails. Returns whether the disk failed, and whether all results were right and a
-// crash after a successful close lost no write.
+// Makes `LENGTH` random calls, or stops at a failed sync. Returns whether the disk failed. Also returns whether all
+// results were right, and a crash after a successful close lost no write.
 fn run(alloc: Global, capacity: usize, k: u64, stays_broken: bool) -> (bool, bool) {
     let (calls_left, mut model) = (Cell::new(k), [10, 11, 12, 13]);
     let dropped = [k % 2 == 0, k % 3 == 0, k % 5 == 0, true];

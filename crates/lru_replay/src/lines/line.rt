@@ -10,7 +10,7 @@ use std::marker::Model;
 /// The length in bytes of the longest line with a meaning: `insert` with two numbers of 20 digits.
 const LONGEST: usize = 48;
 
-/// The most bytes of a line that a `Line` stores: one more than `LONGEST`, so that a longer line is noticed.
+/// The greatest number of bytes that a `Line` stores: one more than `LONGEST`, so that a longer line is noticed.
 pub const HELD: usize = LONGEST + 1;
 
 #[derive(Drop)]
@@ -137,7 +137,7 @@ pub enum Ending {
 ///
 /// # Errors
 ///
-/// `ReplayError::Read`: the reader failed, or `u64::MAX` reads found no end.
+/// `ReplayError::Read`: a read failed, or the line did not end within `u64::MAX` reads.
 pub fn read_line<R: BufRead>(reader: &mut R, line: &mut Line) -> Result<Ending, ReplayError>
     ensures ok { IfOk result (λ ending. (bytes : List ℕ)
         × TakesLine (R.remaining reader.old) (R.remaining reader.new) ending bytes

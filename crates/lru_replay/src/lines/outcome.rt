@@ -27,10 +27,10 @@ pub enum ReplayEnd {
 /// ```
 #[derive(Clone, Copy, Debug, PartialEq, Eq, Error)]
 pub enum ReplayError {
-    /// A read failed, or there was no end after `u64::MAX` reads or lines.
+    /// A read failed, a line did not end within `u64::MAX` reads, or the input did not end within `u64::MAX` lines.
     #[error("read failed")]
     Read = 1,
-    /// A write or the flush failed; a write that takes 0 bytes has failed.
+    /// A write or the flush failed. A write that accepts no byte counts as failed.
     #[error("write failed")]
     Write = 2,
 }

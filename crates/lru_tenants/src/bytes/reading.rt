@@ -65,7 +65,7 @@ impl<
         limiter.limit() - limiter.owned() - table
     }
 
-    /// Returns a tenant's value of a key. The order stays.
+    /// Returns the value of a tenant's key. The order stays.
     ///
     /// ```
     /// assert_eq!(rt; bytes.peek(&1, &7), Ok(Some(&2)));
@@ -99,7 +99,7 @@ impl<
 > ByteTenants<N, K, V, S> {
     ghost use Rattle.lru_tenants.specs.ByteLending.{ends_so};
 
-    /// Returns a tenant's value of a key, and makes the key's entry the tenant's newest.
+    /// Returns the value of a tenant's key, and makes the key's entry the tenant's newest.
     ///
     /// ```
     /// assert_eq!(rt; bytes.get(&1, &7), Ok(Some(&2)));

@@ -14,7 +14,7 @@ use std::alloc::{AllocError, Global};
 use std::hash::Hash;
 use std::marker::Model;
 
-/// A tenant's map. The map's bytes stay within its limit, so the cache counts the limit instead of the bytes.
+/// A tenant's map. The map takes at most the tenant's limit, so the cache counts this limit instead of the map's bytes.
 #[derive(Drop)]
 pub(super) struct ByteTenant<K: Eq + Hash + OwnedBytes, V: OwnedBytes, S: KeyHasher<K>> {
     pub(super) map: LruMap<K, V, ByBytes, S>,

@@ -178,7 +178,7 @@ impl<
         put_answer(insert_counted(own, key, value))
     }
 
-    /// Does what `get_or_put` does. Counts a hit, or else a miss and what `put_counted` counts.
+    /// Does what `get_or_put` does. Counts a hit, or a miss and a put (see `put_counted`).
     ///
     /// ```
     /// assert_eq!(rt; counted.get_or_put_counted(&1, 7, || 3), Ok(Some(&2)));

@@ -60,11 +60,11 @@ impl<
     }
 
     /// Does what `put_with` does, and returns the value that the tenant does not keep, as [`Inserted`] says. If the
-    /// limiter rejects the entry of a new key, also returns the entry's value, with a false `kept`. Such a rejection
-    /// leaves the tenant as it is, passes nothing to the callback, and drops the key.
+    /// limiter rejects the entry of a new key, returns the given value, and `kept` is false. Such a rejection leaves
+    /// the tenant as it is, passes nothing to the callback, and drops the key.
     ///
-    /// If the key was there and is not kept, the callback got its entry: with the old value if the limiter rejected the
-    /// new value, and otherwise with the new value.
+    /// If the key was there and is not kept, the callback got the key's entry. This entry has the old value if the
+    /// limiter rejected the new value, and otherwise the new value.
     ///
     /// ```
     /// let replaced = cache.put_full(&1, 7, 3, &mut |_, _| {})?;
@@ -160,7 +160,7 @@ impl<
     /// assert_eq!(rt; last, 7);
     /// ```
     ///
-    /// Cost: `O(1)` for each entry, with one call of the callback.
+    /// Cost: `O(1)` and one call of the callback for each entry.
     ///
     /// # Errors
     ///

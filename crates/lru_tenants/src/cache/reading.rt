@@ -22,7 +22,7 @@ impl<N: Eq + Hash, K: Eq + Hash, V, L: Budgeted<K, V>, S: KeyHasher<K> + Copy> T
 > {
     ghost use Rattle.lru_tenants.specs.Lending.{ends_so};
 
-    /// Returns a tenant's value of a key, and makes the key's entry the tenant's newest.
+    /// Returns the value of a tenant's key, and makes the key's entry the tenant's newest.
     ///
     /// ```
     /// assert_eq!(rt; cache.get(&1, &7), Ok(Some(&2)));
@@ -53,7 +53,7 @@ impl<N: Eq + Hash, K: Eq + Hash, V, L: Budgeted<K, V>, S: KeyHasher<K> + Copy> T
         }
     }
 
-    /// Returns a tenant's value of a key. The order stays.
+    /// Returns the value of a tenant's key. The order stays.
     ///
     /// ```
     /// assert_eq!(rt; cache.peek(&1, &7), Ok(Some(&2)));
@@ -78,7 +78,7 @@ impl<N: Eq + Hash, K: Eq + Hash, V, L: Budgeted<K, V>, S: KeyHasher<K> + Copy> T
         Ok(map.peek(key))
     }
 
-    /// Returns whether a tenant has an entry of a key.
+    /// Returns whether a tenant has an entry for a key.
     ///
     /// ```
     /// assert_eq!(rt; cache.contains(&1, &7), Ok(true));

@@ -75,7 +75,7 @@ impl<
         Ok(())
     }
 
-    /// Drops the entries of a tenant, which stays open.
+    /// Drops the entries of a tenant. The tenant stays open.
     ///
     /// ```
     /// assert_eq!(rt; (cache.clear(&1), cache.entries(&1), cache.cost(&1)), (Ok(()), Ok(0), Ok(0)));

@@ -30,7 +30,7 @@ fn furthest<N: Eq + Hash, K: Eq + Hash, V, L: Budgeted<K, V>, S: KeyHasher<K>, H
     (most, hash)
 }
 
-// Returns by how much the total cost falls. Returns `None` only in Rust, where hashes and costs may be wrong.
+// Returns `None` only in Rust, where hashes and costs may be wrong.
 fn evict<
     N: Eq + Hash,
     K: Eq + Hash + Drop,
@@ -57,7 +57,6 @@ fn evict<
     drop_oldest(own)
 }
 
-// Returns the remaining total cost.
 pub(super) fn settle<
     N: Eq + Hash,
     K: Eq + Hash + Drop,

@@ -119,7 +119,7 @@ impl<N: Eq + Hash, K: Eq + Hash, V, L: Budgeted<K, V>, S: KeyHasher<K> + Copy> T
         Ok(*share)
     }
 
-    /// Returns whether a tenant has an entry of a key.
+    /// Returns whether a tenant has an entry for a key.
     ///
     /// ```
     /// assert_eq!(rt; pool.contains(&1, &7), Ok(true));
@@ -144,7 +144,7 @@ impl<N: Eq + Hash, K: Eq + Hash, V, L: Budgeted<K, V>, S: KeyHasher<K> + Copy> T
         Ok(map.contains(key))
     }
 
-    /// Returns a tenant's value of a key. The order stays.
+    /// Returns the value of a tenant's key. The order stays.
     ///
     /// ```
     /// assert_eq!(rt; pool.peek(&1, &7), Ok(Some(&2)));
@@ -169,7 +169,7 @@ impl<N: Eq + Hash, K: Eq + Hash, V, L: Budgeted<K, V>, S: KeyHasher<K> + Copy> T
         Ok(map.peek(key))
     }
 
-    /// Returns a tenant's value of a key, and makes the key's entry the tenant's newest.
+    /// Returns the value of a tenant's key, and makes the key's entry the tenant's newest.
     ///
     /// ```
     /// assert_eq!(rt; pool.get(&1, &7), Ok(Some(&2)));

@@ -42,7 +42,7 @@ impl BuildHasher for Live<'_> {
 type Map<'a> = LruMap<Live<'a>, Live<'a>, Storing<Live<'a>>, Live<'a>>;
 
 /// Copies a map of seven entries. Only the first `allowed` clones succeed. Returns whether the copy clones each key,
-/// each value, the limiter and the hasher once, and drops the clones if a clone fails.
+/// each value, the limiter and the hasher once. If a clone fails, the copy must drop the other clones.
 fn is_cloned_once(map: &Map, lives: &Lives, allowed: u64) -> bool {
     lives.clones.set(allowed);
     let is_made = map.clone().is_ok();

@@ -19,10 +19,10 @@ pub struct Counts {
     pub misses: u64,
     /// How many inserts left their key in the cache.
     pub insertions: u64,
-    /// How many inserts returned `Ok(false)`: the limiter rejected the entry, no table could hold the entry, or the
-    /// entry was evicted at once.
+    /// The number of inserts that returned `Ok(false)`, because the limiter rejected the entry, no table could hold the
+    /// entry, or the entry was evicted at once.
     pub rejections: u64,
-    /// How many entries were evicted by inserts, other than the inserted entry itself.
+    /// The number of entries that were evicted by inserts of other keys.
     pub evictions: u64,
 }
 
@@ -94,7 +94,7 @@ impl<K: Eq + Hash, V, L: Limiter<K, V>, S: KeyHasher<K>> CountedMap<K, V, L, S> 
     }
 
     /// Makes the entry of a key the newest, and counts a hit. If the key is not there, counts a miss. Returns whether
-    /// the key is there. If so, `map().peek_newest()` returns its entry.
+    /// the key is there. If the key is there, `map().peek_newest()` returns the key's entry.
     ///
     /// Cost: as `LruMap::promote`.
     pub fn promote<Q: LookupKey<K>>(&mut self, key: &Q) -> bool {
@@ -154,7 +154,7 @@ fn get<K: Eq + Hash, V: Copy, Q: LookupKey<K>, L: Limiter<K, V>, S: KeyHasher<K>
     }
 }
 
-// Returns whether the key was there, whether it is there now, and what the insert returned.
+// Returns whether the key was there before the insert, whether the key is there now, and the result of the insert.
 fn insert_full<K: Eq + Hash, V, I: LookupKey<K>, L: Insertion<K, V, I>, S: KeyHasher<K>>(
     map: &mut LruMap<K, V, L, S>,
     key: I,

@@ -4,9 +4,9 @@ use crate::rattle_std::prelude::*;
 
 /// A device of numbered blocks, such as a disk or a file. Each `read`, `write` or `sync` may fail.
 ///
-/// After a crash, each block may be as it was at the last `sync`, as it was written later, or torn. A write changes
-/// only its own block, even if the write fails or the machine stops in the middle. After a failed `sync`, no clause
-/// says what the blocks are, and no `read`, `write` or `sync` may be called.
+/// After a crash, each block may be the block of the last `sync`, a block that was written later, or a torn block. A
+/// write changes only its own block, even if the write fails or the machine stops in the middle. After a failed `sync`,
+/// no clause says what the blocks are, and no `read`, `write` or `sync` may be called.
 ///
 /// For most devices, contracts see the block itself: `ghost seen = { λ block. block };`.
 pub trait BlockDevice<B> {

@@ -52,9 +52,9 @@ impl<K: Eq + Hash, V: Copy, F: Fn(&K) -> V, L: Insertion<K, V, K>, S: KeyHasher<
     /// Returns a result of the function for a key or an equal key. If no result is stored, calls the function and
     /// stores the result.
     ///
-    /// Returns the result even if memory runs out, or if a limit prevents storing it.
+    /// If memory runs out, or a limit prevents storing the result, still returns the result.
     ///
-    /// Cost: a get, and if no result is stored, a call of the function and an insert.
+    /// Cost: a get. If no result is stored, also a call of the function and an insert.
     pub fn answer(&mut self, key: K) -> V {
         self.answer_full(key).0
     }
@@ -109,7 +109,7 @@ impl<K: Eq + Hash, V, F: Fn(&K) -> V, L: Insertion<K, V, K>, S: KeyHasher<K>> Me
     }
 
     /// Sets another limiter, and drops the oldest results while the new limiter is over its limit. Returns the old
-    /// limiter. `LruMap::set_limiter` says with which running total a limiter must begin.
+    /// limiter. `LruMap::set_limiter` says which running total the new limiter must have.
     ///
     /// Cost: as `LruMap::set_limiter`.
     pub fn set_limiter(&mut self, limiter: L) -> L {

@@ -21,7 +21,7 @@ mod more;
 ///
 /// The map evicts nothing.
 ///
-/// Each call follows the call of indexmap's `IndexMap` with the same name, unless the comment names another call. In
+/// Each call follows the call with the same name in indexmap's `IndexMap`, unless its comment names another call. In
 /// the examples, `map` contains (1, 11) and then (2, 20).
 
 pub struct OrderedMap<K, V, S = RandomState> {
@@ -162,14 +162,14 @@ impl<K: Eq + Hash, V, S: KeyHasher<K>> OrderedMap<K, V, S> {
 }
 
 impl<K: Eq + Hash, V, S: KeyHasher<K>> OrderedMap<K, V, S> {
-    /// Inserts a key with a value as the newest entry. If the key is in the map, replaces and returns the old value,
-    /// and the entry keeps its key and its place.
+    /// Inserts a key with a value as the newest entry. If the key is in the map, replaces and returns the old value.
+    /// The entry keeps its key and its place in the order.
     ///
     /// Cost: `O(1)` expected, amortised over the inserts.
     ///
     /// # Errors
     ///
-    /// Out of memory for a new key, or there is no larger table. Nothing has changed.
+    /// The key is new, and memory ran out or there is no larger table. Nothing has changed.
     pub fn insert(&mut self, key: K, value: V) -> Result<Option<V>, AllocError> {
         distinct(&self.map);
         let Err((key, value)) = self.map.try_insert(key, value) else {
@@ -187,7 +187,7 @@ impl<K: Eq + Hash, V, S: KeyHasher<K>> OrderedMap<K, V, S> {
     ///
     /// Cost: `O(len)`.
     ///
-    /// Follows std's `HashMap::retain`, whose closure may write the value.
+    /// Follows std's `HashMap::retain`. There, the closure may also write the value.
     pub fn retain<F: FnMut(&K, &V) -> bool>(&mut self, keep: F) {
         self.map.retain(keep);
     }

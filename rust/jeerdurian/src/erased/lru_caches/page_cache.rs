@@ -21,14 +21,14 @@ mod pins;
 
 pub enum PageError<E> {
     Device(E),
-    /// Out of memory for one more page, or there are 1,879,048,192 pages, the most that the table holds.
+    /// Out of memory for one more page, or the table already holds its maximum of 1,879,048,192 pages.
     Memory,
     /// The device has no block with this number.
     NoBlock,
-    /// The cache is full, and no page may be evicted: each is pinned, or is dirty and kept until a flush. Nothing has
-    /// changed.
+    /// The cache is full, and no page may be evicted. Each page is pinned, or is a dirty page that the cache keeps
+    /// until a flush. Nothing has changed.
     Full,
-    /// A `sync` of the device has failed, so what was written before may be lost. Discard the cache.
+    /// A `sync` of the device has failed, so earlier writes may be lost. Discard the cache.
     Broken,
 }
 
@@ -52,14 +52,14 @@ where
 /// The cache contains at most `capacity` pages. A write makes the cached page dirty. The cache writes a dirty page to
 /// the device when it evicts or flushes the page.
 ///
-/// After a `flush` that returned `Ok`, a crash leaves each block as the cache showed it at the flush, unless a later
-/// call wrote the block. `docs/CACHES.md` names the premises.
+/// Suppose that a `flush` returned `Ok`, and that no later call wrote a certain block. Then a crash leaves this block
+/// as the cache showed it at the flush. `docs/CACHES.md` names the premises.
 ///
 /// Call `close` or `discard` at the end. Code that drops or forgets a cache does not compile, because dirty pages would
 /// be lost.
 pub struct PageCache<B: Copy, D: BlockDevice<B>, S = RandomState> {
     map: Pages<B, S>,
-    // memory that flushes need for page numbers, reserved in advance
+    // memory for the page numbers of a flush, reserved in advance
     numbers: Vec<u64>,
     capacity: usize,
     keeps_dirty: bool,
@@ -114,28 +114,29 @@ impl<B: Copy, D: BlockDevice<B>, S: KeyHasher<u64>> PageCache<B, D, S> {
         self.map.contains(&n)
     }
 
-    /// Returns how many successful reads, writes and pins found their page cached, at most `u64::MAX`.
+    /// Returns the number of successful reads, writes and pins whose page was cached. The number stops at `u64::MAX`.
     ///
     /// Cost: `O(1)`.
     pub fn hits(&self) -> u64 {
         self.counts.hits
     }
 
-    /// Returns how many successful reads, writes and pins did not find their page cached, at most `u64::MAX`.
+    /// Returns the number of successful reads, writes and pins whose page was not cached. The number stops at
+    /// `u64::MAX`.
     ///
     /// Cost: `O(1)`.
     pub fn misses(&self) -> u64 {
         self.counts.misses
     }
 
-    /// Returns how many pages were evicted, at most `u64::MAX`.
+    /// Returns the number of evicted pages, which stops at `u64::MAX`.
     ///
     /// Cost: `O(1)`.
     pub fn evictions(&self) -> u64 {
         self.counts.evictions
     }
 
-    /// Lends the device, which does not contain the dirty pages yet.
+    /// Lends the device, which may still contain old blocks for the dirty pages.
     ///
     /// Cost: `O(1)`.
     pub fn device(&self) -> &D {
@@ -144,7 +145,8 @@ impl<B: Copy, D: BlockDevice<B>, S: KeyHasher<u64>> PageCache<B, D, S> {
 
     /// Writes all dirty pages to the device, and then calls its `sync`. The pages stay cached, and are clean.
     ///
-    /// Cost, if n pages are dirty: `O(len + n log n)`, n writes of the device, and a `sync`, even if n is 0.
+    /// Cost for n dirty pages: `O(len + n log n)`, n writes of the device, and a `sync`. The `sync` is called even if n
+    /// is 0.
     ///
     /// # Errors
     ///

@@ -14,10 +14,10 @@ mod tenant;
 
 use tenant::ByteTenant;
 
-/// A cache for many tenants within one limit of bytes. The limit covers the table of tenants, their names, their
-/// tables, and what their entries own.
+/// A cache for many tenants within one limit of bytes. The limit covers the table of tenants, the names and tables of
+/// the tenants, and the bytes that entries own.
 ///
-/// Each tenant's map has its own limit, as under [`ByBytes`]. While a table grows, the old table is not counted.
+/// [`ByBytes`] limits each tenant's map to the tenant's own limit. While a table grows, the old table is not counted.
 pub struct ByteTenants<
     N: Eq + Hash + OwnedBytes,
     K: Eq + Hash + OwnedBytes,
@@ -58,7 +58,7 @@ impl<N: Eq + Hash + OwnedBytes, K: Eq + Hash + OwnedBytes, V: OwnedBytes, S: Key
     /// # Errors
     ///
     /// The tenants are unchanged. `AlreadyOpen`. `OverTotal`: `limit` plus the bytes of the name is above `left()`.
-    /// `Memory`: the table of tenants has to grow, but memory runs out, or the cache's limit does not permit a larger
+    /// `Memory`: the table of tenants must grow, and memory ran out or the cache's limit does not permit a larger
     /// table. After `Memory` the table may be larger, so `left` may be lower.
     pub fn open(&mut self, name: N, limit: u64) -> Result<(), TenantError> {
         laws::runs_keep_the_bytes::<N, ByteTenant<K, V, S>, S>();

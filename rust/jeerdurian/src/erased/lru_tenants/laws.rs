@@ -1,5 +1,6 @@
 // Erased from crates/lru_tenants/src/laws.rt: do not edit.
-//! Laws about calls. A caller that needs a law calls its function, which does nothing.
+//! Laws about calls. Each law is the contract of a function that does nothing. A caller that needs the law calls this
+//! function.
 
 #[allow(unused_imports)]
 use crate::rattle_std::prelude::*;
@@ -27,6 +28,6 @@ pub fn costs_are_within_the_total_limit<N: Eq + Hash, K: Eq + Hash, V, L: Budget
 /// entries. If the tenant's cost is within its share, its map does not change (`others`).
 ///
 /// The premise: each call spares every tenant that the call does not name, as the clause `spares` of `put` says. Other
-/// calls change only the tenant that they name (`leaves`). If two calls name the same tenants, both together spare the
-/// other tenants (`joins`).
+/// calls change only the tenant that they name (`leaves`). If two calls that name the same tenant spare the other
+/// tenants, the two calls together spare them, too (`joins`).
 pub fn calls_spare_other_tenants<N: Eq + Hash, K: Eq + Hash, V, L: Budgeted<K, V>, S: KeyHasher<K>>() {}

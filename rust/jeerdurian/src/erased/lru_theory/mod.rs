@@ -1,5 +1,5 @@
 // Erased from crates/lru_theory/src/lib.rt: do not edit.
-//! Traces of references to keys: recency lists, reuse distances, and how often an LRU cache of n places misses.
+//! Traces of references to keys: recency lists, reuse distances, and the misses of an LRU cache of n places.
 //!
 //! The functions do nothing: their contracts are the theorems. `docs/THEORY.md` explains each theorem.
 
@@ -14,8 +14,8 @@ pub fn a_cache_is_the_newest<K: Eq>() {}
 /// More places never mean more misses.
 pub fn more_places_never_miss_more<K: Eq>() {}
 
-/// Take an LRU cache of k ≥ h places with any keys, and any policy with h places, which may know the whole trace. The
-/// policy begins with the keys `first`, and pays `paid` times.
+/// Take any policy with h places, even one that knows the whole trace, and an LRU cache of k ≥ h places that begins
+/// with any keys. The policy begins with the keys `first`, and pays `paid` times.
 ///
 /// - If the policy stores each referenced key, and may load keys ahead, LRU misses at most
 ///   `k / (k + 1 - h) * paid + length first` times (`loads`).
@@ -38,18 +38,18 @@ pub fn a_smaller_cache_is_included<K: Eq>() {}
 
 /// One list of places holds the keys of LRU caches of every size, even if keys are removed. If no call is a `promotes`,
 /// the cache of n places contains exactly the keys in the first n places (`keys`). A removed key leaves a free place. A
-/// reference adds its key in a place at the front, and takes out the first other place that is free or contains the
-/// key, if any. If a free place was taken out, the key's old place becomes free. So the cache of n places contains a
-/// key if fewer than n places come before the key (`finds`). If all calls are references, they miss as often as in a
-/// trace (`misses`).
+/// reference adds a place with its key at the front. It takes out the first old place that is free or contains the key,
+/// if there is one. If the place that was taken out was free, the key's old place becomes free. So the cache of n
+/// places contains a key if fewer than n places come before the key (`finds`). If all calls are references, the number
+/// of misses is the same as for a trace (`misses`).
 pub fn deletes_leave_places<K: Eq>() {}
 
 /// If the cache with the smaller budget contains the newest keys of the other cache, this is still so after any trace
-/// (`front`). The smaller cache misses at least as often (`misses`).
+/// (`front`). In this case, the cache with the smaller budget misses at least as often as the other cache (`misses`).
 pub fn a_larger_budget_never_misses_more<K: Eq>() {}
 
-/// Suppose that equal keys cost the same. If a cache with the limit n contains the first keys of the recency list, up
-/// to a cost of n, this is still so after any trace (`keys`). A key alone may cost more than n. The cache misses
+/// Suppose that equal keys cost the same. If a cache with the limit n contains the longest prefix of the recency list
+/// that costs at most n, this is still so after any trace (`keys`). A key alone may cost more than n. The cache misses
 /// exactly at the references to keys that need more than n (`needs`), and at the first reference to each key
 /// (`misses`).
 pub fn a_budget_keeps_the_newest<K: Eq>() {}
@@ -63,5 +63,5 @@ pub fn min_is_best<K: Eq>() {}
 
 /// MIN has h ≥ 1 places, and begins with no keys. LRU has k ≥ h places, and begins with any keys. LRU misses at most
 /// `k / (k + 1 - h)` times as often as MIN (`min`). If k > h, LRU misses at most `k / (k - h)` times as often as MIN
-/// with bypass (`bypass`). If LRU begins with no keys, and has h places, it misses at least as often as MIN (`least`).
+/// with bypass (`bypass`). An LRU cache of h places that begins with no keys misses at least as often as MIN (`least`).
 pub fn lru_is_near_min<K: Eq>() {}

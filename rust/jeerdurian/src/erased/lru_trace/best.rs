@@ -5,8 +5,8 @@ use crate::rattle_std::prelude::*;
 use crate::rattle_std::alloc::{AllocError, Global};
 use crate::rattle_std::collections::BTreeSet;
 
-/// Counts how often the best possible policies miss (`docs/THEORY.md`). For each reference of a trace, `Best` stores
-/// the time of the next reference to its key, or the length of the trace if there is none.
+/// Counts the misses of the best possible policies (`docs/THEORY.md`). For each reference of a trace, `Best` stores the
+/// time of the next reference to the same key. If there is none, `Best` stores the length of the trace.
 ///
 /// `Best` takes 8 bytes for each reference.
 
@@ -29,8 +29,9 @@ impl Best {
         (*at!(self.nexts, now))
     }
 
-    /// Returns how often MIN with `places` places misses if it begins with no keys. If a policy with `places` places
-    /// begins with no keys, stores each referenced key, and loads keys only on demand, it misses at least as often.
+    /// Returns the number of misses of MIN in a cache of `places` places that begins with no keys. A policy with
+    /// `places` places misses at least as often if it begins with no keys, stores each referenced key, and loads keys
+    /// only on demand.
     ///
     /// Cost: for n places, `O(log n)` for each reference. The memory is in proportion to the smaller of n and the
     /// number of keys.
@@ -53,8 +54,8 @@ impl Best {
         Ok(misses)
     }
 
-    /// Returns how often MIN with bypass and `places` places misses if it begins with no keys. If a policy with
-    /// `places` places begins with no keys, and loads keys only on demand, it misses at least as often.
+    /// Returns the number of misses of MIN with bypass in a cache of `places` places that begins with no keys. A policy
+    /// with `places` places misses at least as often if it begins with no keys and loads keys only on demand.
     ///
     /// Cost: as `min_misses`.
     ///

@@ -18,7 +18,7 @@ const MOST_LEVELS: u32 = 59;
 /// `add_weighed_key` got.
 ///
 /// Each reference takes the next slot of a log, and the slot that its key had before becomes free. If the log is full,
-/// the keys move to the front of a new log. If at least about half of the slots contain keys, the new log has twice as
+/// the keys move to the front of a new log. If about half of the slots or more contain keys, the new log has twice as
 /// many slots. The memory is in proportion to the number of keys.
 
 pub struct Distances {
@@ -57,12 +57,10 @@ impl Distances {
         Ok(key)
     }
 
-    /// Returns how many keys were referenced.
     pub fn referenced(&self) -> usize {
         self.used
     }
 
-    /// Returns the weight of a key.
     pub fn weight(&self, key: usize) -> u64 {
         match self.weights.get(key) {
             Some(weight) => *weight,
@@ -131,9 +129,9 @@ impl Distances {
         Ok(())
     }
 
-    /// References a key, and returns the sum of the weights of the other keys that were referenced after its last
-    /// reference. If all weights are 1, this sum is the reuse distance. If the key was not referenced before, returns
-    /// `None`.
+    /// References a key, and returns the sum of the weights of the other keys that were referenced since the last
+    /// reference to this key. If all weights are 1, this sum is the reuse distance. If the key was not referenced
+    /// before, returns `None`.
     ///
     /// Cost: `O(log n)` for n keys, amortised over the references.
     ///

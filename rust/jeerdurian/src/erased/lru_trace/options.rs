@@ -20,14 +20,14 @@ pub struct Column {
     pub separator: u8,
 }
 
-/// What the size of a cache counts: entries or bytes.
+/// The unit of a cache's size: entries or bytes.
 #[derive(Clone, Copy, Debug, PartialEq, Eq)]
 pub enum Measure {
-    /// How many entries the cache can contain.
+    /// The size is the number of entries that the cache can contain.
     Places,
     /// As `Places`, but the trace also deletes keys.
     PlacesWithDeletes,
-    /// How many bytes the entries can take together.
+    /// The size is the number of bytes that all entries can take together.
     Bytes,
 }
 
@@ -47,7 +47,7 @@ pub enum Policies {
 /// What `trace` reads and writes.
 #[derive(Clone, Copy, Debug, PartialEq, Eq)]
 pub struct Options {
-    /// The column that is the key. Without a column the whole line is the key.
+    /// The column that contains the key. Without a column the whole line is the key.
     pub column: Option<Column>,
     pub form: Form,
     pub policies: Policies,

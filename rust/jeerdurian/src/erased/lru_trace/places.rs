@@ -6,7 +6,7 @@ use crate::erased::lru_trace::distances::Distances;
 use crate::rattle_std::alloc::{AllocError, Global};
 use crate::rattle_std::collections::BTreeMap;
 
-/// The places of `deletes_leave_places`, newest first. A place contains a key, which is a number, or is free.
+/// The places of `deletes_leave_places`, newest first. A place is free, or contains a key. A key is a number.
 ///
 /// Each place has a number, and the time of the reference that moved it to the front. A key has the number of its
 /// place.

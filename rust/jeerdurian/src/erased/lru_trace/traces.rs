@@ -79,8 +79,8 @@ fn read_trace<R: BufRead, P: Write>(
 /// the misses of the best possible policies.
 ///
 /// Cost: for n keys, `O(log n)` expected for each line. The memory is in proportion to the number of keys and the
-/// longest line. With `Policies::Best` the memory is also in proportion to the number of lines, and each size costs
-/// `O(log n)` more for each line.
+/// longest line. With `Policies::Best`, the memory is also in proportion to the number of lines, and each line costs
+/// `O(log n)` more for each size.
 ///
 /// # Errors
 ///

@@ -4,6 +4,6 @@
 #[allow(unused_imports)]
 use crate::rattle_std::prelude::*;
 
-/// The misses after a warm-up are the misses of the whole trace, minus the misses of the warm-up (`minus`). If an LRU
-/// cache begins with the keys that are cached after the warm-up, it misses equally often (`faults`).
+/// The misses after a warm-up are the misses of the whole trace, minus the misses of the warm-up (`minus`). An LRU
+/// cache that begins with the keys that the warm-up leaves has equally many misses (`faults`).
 pub fn a_warm_up_is_left_out<K: Eq>() {}

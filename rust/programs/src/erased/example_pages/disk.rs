@@ -47,7 +47,7 @@ impl<'a> CrashFile<'a> {
         Ok(CrashFile { now: vec![in alloc; 0; len]?, durable: vec![in alloc; 0; len]?, at: 0, power })
     }
 
-    /// Leaves in each sector what was last made durable, or what was last written.
+    /// Leaves each sector at random as it was last made durable, or as it was last written.
     pub fn crash(&mut self, random: &mut Random) {
         let sectors = self.now.chunks_mut(SECTOR).zip(self.durable.chunks_mut(SECTOR));
         for (now, durable) in sectors {

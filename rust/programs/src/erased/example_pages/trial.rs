@@ -28,11 +28,13 @@ type Files<'a> = (Disk<'a>, Disk<'a>);
 pub struct Counts {
     pub crashes: u64,
     pub commits: u64,
-    /// Crashes that interrupted a commit: the commit took place (`kept`), or did not (`dropped`).
+    /// The number of interrupted commits that took place. `dropped` counts the interrupted commits that did not take
+    /// place.
     pub kept: u64,
     pub dropped: u64,
     pub torn: u64,
-    /// Crashes after which the recovery failed, a committed record was gone, or a part of a transaction was there.
+    /// The number of crashes after which the recovery failed, a committed record was missing, or only a part of a
+    /// transaction was there.
     pub lost: u64,
 }
 
@@ -132,8 +134,8 @@ fn check(store: &mut Store, model: &mut Model, counts: &mut Counts) {
     }
 }
 
-/// Crashes a store `count` times: crash n comes after n % `CALLS` calls on the files, or after the last call. Half of
-/// the time, crashes the store again in the recovery.
+/// Crashes a store `count` times. Crash n comes after n % `CALLS` calls on the files, or after the last call if there
+/// are fewer calls. Half of the time, crashes the store again in the recovery.
 pub fn crashes(alloc: Global, count: u64) -> Result<Counts, StoreError> {
     let power = Power::new();
     let mut random = Random::new(1);

@@ -1,6 +1,6 @@
 // Erased from crates/example_responses/src/main.rt: do not edit.
 //! A cache of responses with a tenant for each host. The program reads lines from standard input, and prints an answer
-//! to each line except `now`.
+//! to each line, except to a `now` line.
 
 #[allow(unused_imports)]
 use crate::rattle_std::prelude::*;

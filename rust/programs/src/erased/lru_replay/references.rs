@@ -40,20 +40,21 @@ pub fn calls_change_the_keys<K: Eq + Hash, V, S: KeyHasher<K>>() {
     laws::calls_keep_the_length::<K, V, K, ByLength, S>();
 }
 
-/// If a program made the references of a trace, and then makes one more, it has made the references of the longer
-/// trace. The number of misses stays if the last reference hits (`hits`), and rises by one if it misses (`misses`). The
-/// map still keeps to its length (`keeps`).
+/// A program that makes one more reference after a trace has made the references of the longer trace. The number of
+/// misses stays if the last reference hits (`hits`), and rises by one if the last reference misses (`misses`). The map
+/// still keeps to its length (`keeps`).
 pub fn programs_make_references<K: Eq + Hash, V, S: KeyHasher<K>>() {}
 
 /// After the references of a trace, the map contains the `max_length` keys that were referenced last (`keys`). A
 /// reference misses exactly if it is the first reference to its key, or if its reuse distance is at least `max_length`
-/// (`misses`). Keys that were in the map before count as referenced before the trace, the oldest key first. If
+/// (`misses`). The keys that the map had before the trace count as earlier references, the oldest key first. If
 /// `max_length` is not 0, the map counts the misses in `placed`, up to `u64::MAX` (`stored`).
 pub fn references_keep_the_newest<K: Eq + Hash, V, S: KeyHasher<K>>() {}
 
-/// Suppose that the references of one trace are made on two maps, by any calls. If the keys of the smaller map were the
-/// newest keys of the larger map, this is still so after the trace (`front`). If the keys of the smaller map were
-/// included in the keys of the larger map (`IsIncluded`), the smaller map misses at least as often (`misses`).
+/// Suppose that the references of one trace are made on two maps, by any calls. If the smaller map has the newest keys
+/// of the larger map before the trace, the same holds after the trace (`front`). If the keys of the smaller map are
+/// included in the keys of the larger map before the trace (`IsIncluded`), the smaller map misses at least as often as
+/// the larger map (`misses`).
 pub fn more_capacity_never_misses_more<K: Eq + Hash, V, S: KeyHasher<K>>() {}
 
 /// If the keys of a smaller map are included in the keys of a larger map, they are included after the same calls, too
@@ -61,12 +62,12 @@ pub fn more_capacity_never_misses_more<K: Eq + Hash, V, S: KeyHasher<K>>() {}
 /// calls of `calls_change_the_keys`.
 pub fn a_smaller_map_is_included<K: Eq + Hash, V, S: KeyHasher<K>>() {}
 
-/// Take a map with `ByLength(k)` and any keys, and any policy of h ≤ k places. The policy may know the trace in
-/// advance. It begins with the keys `first`, and loads (or bypasses) keys `paid` times for the same references. If the
-/// policy stores each referenced key, the map misses at most `k / (k + 1 - h) * paid + length first` times. The bound
-/// holds for a policy that may load keys ahead (`loads`), and for a policy that loads on demand and begins with at most
-/// h keys (`demands`). If the policy need not store referenced keys, and h < k, the map misses at most
-/// `k / (k - h) * paid + length first` times (`bypasses`).
+/// Take a map with `ByLength(k)` that begins with any keys. For a number h ≤ k, take any policy of h places, even one
+/// that knows the trace in advance. The policy begins with the keys `first`, and loads (or bypasses) keys `paid` times
+/// for the same references. If the policy stores each referenced key, the map misses at most
+/// `k / (k + 1 - h) * paid + length first` times. The bound holds for a policy that may load keys ahead (`loads`), and
+/// for a policy that loads on demand and begins with at most h keys (`demands`). If the policy need not store
+/// referenced keys, and h < k, the map misses at most `k / (k - h) * paid + length first` times (`bypasses`).
 pub fn maps_are_competitive<K: Eq + Hash, V, S: KeyHasher<K>>() {
     references_keep_the_newest::<K, V, S>();
     crate::erased::lru_theory::lru_is_competitive::<K>();

@@ -34,7 +34,6 @@ fn read<D: BlockDevice<u8>>(cache: &mut PageCache<u8, D>, n: u64) -> Result<u8, 
     Ok(block)
 }
 
-/// The smaller cache stays included in the larger cache.
 fn read_both<D: BlockDevice<u8>>(
     small: &mut PageCache<u8, D>,
     large: &mut PageCache<u8, D>,

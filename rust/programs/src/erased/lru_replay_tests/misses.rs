@@ -14,8 +14,8 @@ pub fn misses_on_map(alloc: Global, texts: &[String], length: u32) -> Result<u64
     read_through(&mut map, texts, &|_| 0)
 }
 
-/// Counts the misses of a new map, and compares them with what any policy with h places pays. The policy begins empty,
-/// stores each text, and may load texts ahead.
+/// Counts the misses of a new map. The contract compares them with the payments of any policy with h places. The policy
+/// begins empty, stores each text, and may load texts ahead.
 fn near_best(alloc: Global, texts: &[String], length: u32) -> Result<u64, AllocError> {
     crate::erased::lru_theory::lru_is_near_min::<String>();
     crate::erased::lru_theory::min_is_best::<String>();

@@ -9,8 +9,8 @@ use crate::programs::rows::streams::{Failure, Narrow, Slow, count_lines, error_a
 use crate::rattle_std::alloc::Global;
 use crate::rattle_std::io::{BufReader, ErrorKind};
 
-/// The longest input for which each read and each write fails in turn. For a longer input only the first three reads
-/// and writes fail.
+/// For an input of at most `LONGEST_CUT` bytes, each read and each write fails once. For a longer input, only the first
+/// three reads and the first three writes fail.
 const LONGEST_CUT: usize = 2000;
 
 type End = Result<ReplayEnd, ReplayError>;
@@ -90,8 +90,8 @@ fn with_failing_read(alloc: Global, row: &Row, at: usize) -> bool {
     end == Some(Err(ReplayError::Read)) && writer.has(text, 1)
 }
 
-/// Makes the write with the number `at` fail, on a writer that takes single bytes. Returns whether the first `at` bytes
-/// of the text are written, no line is read after the line that was being answered, and nothing is flushed.
+/// Replays the row on a writer that takes single bytes and fails at write number `at`. Returns whether the replay
+/// writes the first `at` bytes of the text, reads no line after the line of the failed answer, and flushes nothing.
 fn with_failing_write(alloc: Global, row: &Row, at: usize) -> bool {
     let failure = if at % 4 == 0 { Failure::NoBytes } else { Failure::Error(error_at(at)) };
     let mut reader = row.input.as_slice();

@@ -6,7 +6,7 @@ use crate::programs::rows::escapes::unescape;
 use crate::rattle_std::alloc::Global;
 use crate::rattle_std::fmt::Write;
 
-/// An input, and the answers and the exit status that it must give.
+/// An input, with the answers and the exit status that the input must give.
 
 pub struct Row<'a> {
     pub name: &'a str,
@@ -21,7 +21,7 @@ impl<'a> Row<'a> {
         Row { name, input: Vec::new(alloc), text: Vec::new(alloc), status: 0, alloc }
     }
 
-    /// Reads a row. A malformed row expects a text that no replay writes, so the row fails.
+    /// Reads a row. If the row is malformed, its expected text becomes one that no replay writes, so the row fails.
     pub fn of(alloc: Global, lines: &'a str) -> Row<'a> {
         let mut row = Row::new(alloc, "");
         let mut is_good = true;

@@ -126,8 +126,8 @@ fn exchange(
     map.insert(new, text)
 }
 
-/// Each insert evicts only the oldest entries, both inserts pay for the entries that they move, and no two keys are
-/// equal afterwards.
+/// Each insert evicts only the oldest entries. Both inserts pay for the entries that they move. Afterwards, no two keys
+/// are equal.
 fn put_two(map: &mut LruMap<String, u64>, first: String, second: String, value: u64) -> Result<(), AllocError> {
     laws::runs_keep_maps::<String, u64, String, ByLength, RandomState>();
     laws::each_insert_of_a_run_evicts_the_oldest::<String, u64, String, ByLength, RandomState>();

@@ -6,7 +6,8 @@ use crate::rattle_std::prelude::*;
 
 use crate::rattle_std::hash::{BuildHasher, Hasher};
 
-/// Hashes to the last byte that was written: for a number, its highest byte, which is 0 for a `u64` below 2^56.
+/// Hashes to the last byte that was written. The last byte of a number is its highest byte, so a `u64` below 2^56 has
+/// the hash 0.
 #[derive(Clone, Copy)]
 pub struct LastByte(pub u64);
 

@@ -27,8 +27,8 @@ impl<N: LinkType> Limiter<u64, u64> for LinkedBy<N> {
     }
 }
 
-/// Is either always or never over its limit, and permits every second growth. Counts removals and growths, and keeps
-/// their last arguments.
+/// Is either always or never over its limit, and permits every second growth. Counts removals and requested growths,
+/// and keeps the last removed key and the last requested number of bytes.
 #[derive(Clone, Copy, Debug)]
 pub struct Alternating {
     pub over: bool,
@@ -68,8 +68,8 @@ impl Limiter<u64, u64> for Alternating {
     }
 }
 
-/// Limits nothing. Writes 0 into each removed value and, if `keys` is set, into its key. Keeps the last removed entry
-/// as it was.
+/// Limits nothing. Writes 0 into the value of each removed entry. If `keys` is set, also writes 0 into the key. Keeps
+/// the last removed entry without these zeros.
 #[derive(Clone, Copy, Debug, Default)]
 pub struct Blanking {
     pub keys: bool,

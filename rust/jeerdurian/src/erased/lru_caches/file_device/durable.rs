@@ -9,12 +9,12 @@ use crate::rattle_std::io::Cursor;
 /// A file that can make its bytes survive a crash. A file device calls `make_durable` when it syncs, and assumes that
 /// the bytes survive a crash after an `Ok`. After an error, the device makes no more calls.
 pub trait Durable {
-    /// Makes durable all bytes that were written and flushed before this call.
+    /// Makes all bytes that were written and flushed before this call survive a crash.
     ///
     /// # Errors
     ///
-    /// The system reported an error, and may have lost bytes that were written since the last `Ok`, even if a later
-    /// call returns `Ok`.
+    /// The system reported an error. Bytes that were written since the last `Ok` may be lost, even if a later call
+    /// returns `Ok`.
     fn make_durable(&mut self) -> io::Result<()>;
 }
 

@@ -50,9 +50,9 @@ impl<K: Eq + Hash, V: Copy, E, F: Fn(&K) -> Result<V, E>, L: Insertion<K, V, K>,
 {
     /// Returns the value of a key. If no value is stored, calls the function, and stores its value.
     ///
-    /// Returns the value even if memory runs out, or if a limit prevents storing it.
+    /// If memory runs out, or a limit prevents storing the value, still returns the value.
     ///
-    /// Cost: a get, and if no value is stored, a call of the function and an insert.
+    /// Cost: a get. If no value is stored, also a call of the function and an insert.
     ///
     /// # Errors
     ///

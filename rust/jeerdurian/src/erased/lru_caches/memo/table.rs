@@ -13,7 +13,7 @@ pub trait Question<K, V> {}
 
 /// A table of the newest answers to a question, up to a limit. A function that calls itself can store its results here.
 ///
-/// `get` returns only answers, because the caller of `store` proves that the value is an answer.
+/// `get` returns only answers, because each caller of `store` must prove that the value is an answer.
 
 pub struct MemoTable<K: Eq + Hash, V, Q: Question<K, V>, L: Insertion<K, V, K>, S: KeyHasher<K> = RandomState> {
     map: LruMap<K, V, L, S>,
@@ -72,8 +72,8 @@ impl<K: Eq + Hash, V, Q: Question<K, V>, L: Insertion<K, V, K>, S: KeyHasher<K>>
         Some(read(&*value))
     }
 
-    /// Stores an answer for a key as the newest, and returns true. If memory runs out, or a limit prevents storing the
-    /// answer, returns false, and no answer is stored for the key.
+    /// Stores an answer for a key as the newest, and returns true. Returns false if memory runs out or a limit prevents
+    /// storing the answer. In this case, the table has no answer for the key.
     ///
     /// Cost: an insert.
     pub fn store(&mut self, key: K, value: V) -> bool {

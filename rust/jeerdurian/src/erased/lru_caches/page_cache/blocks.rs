@@ -25,16 +25,17 @@ impl<B: Copy, D: BlockDevice<B>, S: KeyHasher<u64>> PageCache<B, D, S> {
     /// Returns a block, and makes its page the newest.
     ///
     /// If the page is not cached and the cache is full, evicts the oldest page that may be evicted. If the evicted page
-    /// is dirty, writes it to the device first. A pinned page may not be evicted, nor a dirty page if the cache
-    /// [keeps dirty pages](Self::set_keeps_dirty).
+    /// is dirty, writes it to the device first. A pinned page may not be evicted. If the cache
+    /// [keeps dirty pages](Self::set_keeps_dirty), a dirty page may not be evicted either.
     ///
     /// Cost: `O(1)` expected, amortised over the growth of the table, and at most one read and one write of the device.
-    /// An eviction also takes `O(k)` for k older pages that may not be evicted.
+    /// An eviction also takes `O(k)` if k pages are older than the evicted page.
     ///
     /// # Errors
     ///
-    /// Fails only if the page is not cached. `Broken`, `NoBlock` or `Full`: see [`PageError`]. `Device`: the read, or
-    /// the write of a dirty page, failed, and no page was evicted. `Memory`: a page may have been evicted.
+    /// Fails only if the page is not cached. `Broken`, `NoBlock` or `Full`: see [`PageError`]. `Device`: the read of
+    /// the block or the write of a dirty page failed. No page was evicted. `Memory`: out of memory. A page may have
+    /// been evicted.
     pub fn read(&mut self, n: u64) -> Result<B, PageError<D::Error>> {
         self.read_with(n, |block| *block)
     }
@@ -73,7 +74,7 @@ impl<B: Copy, D: BlockDevice<B>, S: KeyHasher<u64>> PageCache<B, D, S> {
     ///
     /// # Errors
     ///
-    /// `Broken` is possible even if the page is cached. Otherwise as `read`. After an error, the block is not replaced.
+    /// As `read`, but `Broken` is possible even if the page is cached. After an error, the block is not replaced.
     pub fn write(&mut self, n: u64, block: B) -> Result<(), PageError<D::Error>> {
         admit(&self.device, n)?;
         let hash = self.map.hasher().hash_named(&n);
@@ -95,7 +96,7 @@ impl<B: Copy, D: BlockDevice<B>, S: KeyHasher<u64>> PageCache<B, D, S> {
     ///
     /// # Errors
     ///
-    /// `Broken` is possible even if the page is cached. Otherwise as `read`. After an error, the closure is not called.
+    /// As `read`, but `Broken` is possible even if the page is cached. After an error, the closure is not called.
     pub fn write_with<R, U: FnOnce(&mut B) -> R>(&mut self, n: u64, write: U) -> Result<R, PageError<D::Error>> {
         if !self.device.is_usable() {
             return Err(PageError::Broken);

@@ -11,7 +11,7 @@ impl<B: Copy, D: BlockDevice<B>, S: KeyHasher<u64>> PageCache<B, D, S> {
     /// Pins a page and makes it the newest. If the page is not cached, reads it first. The page is not evicted until
     /// `unpin`.
     ///
-    /// One `unpin` ends any number of pins of a page. A flush also writes dirty pages that are pinned.
+    /// One `unpin` ends all pins of a page. A flush also writes dirty pages that are pinned.
     ///
     /// Cost and `# Errors`: as `read`.
     pub fn pin(&mut self, n: u64) -> Result<(), PageError<D::Error>> {

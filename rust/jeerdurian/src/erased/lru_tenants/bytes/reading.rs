@@ -35,7 +35,7 @@ impl<N: Eq + Hash + OwnedBytes, K: Eq + Hash + OwnedBytes, V: OwnedBytes, S: Key
         limiter.limit() - limiter.owned() - table
     }
 
-    /// Returns a tenant's value of a key. The order stays.
+    /// Returns the value of a tenant's key. The order stays.
     ///
     /// Cost: `O(1)` expected.
     ///
@@ -53,7 +53,7 @@ impl<N: Eq + Hash + OwnedBytes, K: Eq + Hash + OwnedBytes, V: OwnedBytes, S: Key
 impl<N: Eq + Hash + OwnedBytes, K: Eq + Hash + OwnedBytes, V: OwnedBytes, S: KeyHasher<K> + Copy>
     ByteTenants<N, K, V, S>
 {
-    /// Returns a tenant's value of a key, and makes the key's entry the tenant's newest.
+    /// Returns the value of a tenant's key, and makes the key's entry the tenant's newest.
     ///
     /// Cost: `O(1)` expected.
     ///

@@ -6,7 +6,7 @@ use crate::erased::schnellru::{ByBytes, KeyHasher, LookupKey, LruMap, OwnedBytes
 use crate::rattle_std::alloc::{AllocError, Global};
 use crate::rattle_std::hash::Hash;
 
-/// A tenant's map. The map's bytes stay within its limit, so the cache counts the limit instead of the bytes.
+/// A tenant's map. The map takes at most the tenant's limit, so the cache counts this limit instead of the map's bytes.
 
 pub(super) struct ByteTenant<K: Eq + Hash + OwnedBytes, V: OwnedBytes, S: KeyHasher<K>> {
     pub(super) map: LruMap<K, V, ByBytes, S>,

@@ -100,7 +100,7 @@ impl<N: Eq + Hash, K: Eq + Hash, V, L: Budgeted<K, V>, S: KeyHasher<K> + Copy> T
         put_answer(insert_counted(own, key, value))
     }
 
-    /// Does what `get_or_put` does. Counts a hit, or else a miss and what `put_counted` counts.
+    /// Does what `get_or_put` does. Counts a hit, or a miss and a put (see `put_counted`).
     ///
     /// Cost: as `get` if the key is there, else as `put`, plus a search.
     ///

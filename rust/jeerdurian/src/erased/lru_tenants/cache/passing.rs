@@ -33,11 +33,11 @@ impl<N: Eq + Hash, K: Eq + Hash, V, L: Budgeted<K, V>, S: KeyHasher<K> + Copy> T
     }
 
     /// Does what `put_with` does, and returns the value that the tenant does not keep, as [`Inserted`] says. If the
-    /// limiter rejects the entry of a new key, also returns the entry's value, with a false `kept`. Such a rejection
-    /// leaves the tenant as it is, passes nothing to the callback, and drops the key.
+    /// limiter rejects the entry of a new key, returns the given value, and `kept` is false. Such a rejection leaves
+    /// the tenant as it is, passes nothing to the callback, and drops the key.
     ///
-    /// If the key was there and is not kept, the callback got its entry: with the old value if the limiter rejected the
-    /// new value, and otherwise with the new value.
+    /// If the key was there and is not kept, the callback got the key's entry. This entry has the old value if the
+    /// limiter rejected the new value, and otherwise the new value.
     ///
     /// Cost: as `put_with`.
     ///
@@ -86,7 +86,7 @@ impl<N: Eq + Hash, K: Eq + Hash, V, L: Budgeted<K, V>, S: KeyHasher<K> + Copy> T
 
     /// Does what `close` does, and passes each entry to the callback, oldest first.
     ///
-    /// Cost: `O(1)` for each entry, with one call of the callback.
+    /// Cost: `O(1)` and one call of the callback for each entry.
     ///
     /// # Errors
     ///

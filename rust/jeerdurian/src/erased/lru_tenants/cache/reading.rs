@@ -9,7 +9,7 @@ use crate::erased::schnellru::{Iter, KeyHasher, Keys, LookupKey, LruMap};
 use crate::rattle_std::hash::Hash;
 
 impl<N: Eq + Hash, K: Eq + Hash, V, L: Budgeted<K, V>, S: KeyHasher<K> + Copy> TenantCache<N, K, V, L, S> {
-    /// Returns a tenant's value of a key, and makes the key's entry the tenant's newest.
+    /// Returns the value of a tenant's key, and makes the key's entry the tenant's newest.
     ///
     /// Cost: `O(1)` expected.
     ///
@@ -26,7 +26,7 @@ impl<N: Eq + Hash, K: Eq + Hash, V, L: Budgeted<K, V>, S: KeyHasher<K> + Copy> T
         }
     }
 
-    /// Returns a tenant's value of a key. The order stays.
+    /// Returns the value of a tenant's key. The order stays.
     ///
     /// Cost: `O(1)` expected.
     ///
@@ -40,7 +40,7 @@ impl<N: Eq + Hash, K: Eq + Hash, V, L: Budgeted<K, V>, S: KeyHasher<K> + Copy> T
         Ok(map.peek(key))
     }
 
-    /// Returns whether a tenant has an entry of a key.
+    /// Returns whether a tenant has an entry for a key.
     ///
     /// Cost: `O(1)` expected.
     ///

@@ -40,7 +40,7 @@ impl<N: Eq + Hash, K: Eq + Hash, V, L: Budgeted<K, V>, S: KeyHasher<K> + Copy> T
         Ok(())
     }
 
-    /// Drops the entries of a tenant, which stays open.
+    /// Drops the entries of a tenant. The tenant stays open.
     ///
     /// Cost: as `LruMap::clear`.
     ///

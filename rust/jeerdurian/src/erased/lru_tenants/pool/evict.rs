@@ -24,7 +24,7 @@ fn furthest<N: Eq + Hash, K: Eq + Hash, V, L: Budgeted<K, V>, S: KeyHasher<K>, H
     (most, hash)
 }
 
-// Returns by how much the total cost falls. Returns `None` only in Rust, where hashes and costs may be wrong.
+// Returns `None` only in Rust, where hashes and costs may be wrong.
 fn evict<N: Eq + Hash, K: Eq + Hash, V, L: Budgeted<K, V>, S: KeyHasher<K>, H: KeyHasher<N>>(
     tenants: &mut LruMap<N, Part<K, V, L, S>, Unlimited, H>,
 ) -> Option<u64> {
@@ -34,7 +34,6 @@ fn evict<N: Eq + Hash, K: Eq + Hash, V, L: Budgeted<K, V>, S: KeyHasher<K>, H: K
     drop_oldest(own)
 }
 
-// Returns the remaining total cost.
 pub(super) fn settle<N: Eq + Hash, K: Eq + Hash, V, L: Budgeted<K, V>, S: KeyHasher<K>, H: KeyHasher<N>>(
     tenants: &mut LruMap<N, Part<K, V, L, S>, Unlimited, H>,
     mut total: u128,

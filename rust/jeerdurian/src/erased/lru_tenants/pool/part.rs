@@ -19,7 +19,7 @@ pub(super) fn cost_of<K: Eq + Hash, V, L: Budgeted<K, V>, S: KeyHasher<K>>(map: 
     map.limiter().account()
 }
 
-// Returns by how much the cost falls. Returns `None` only in Rust, where costs may be wrong.
+// Returns `None` only in Rust, where costs may be wrong.
 pub(super) fn drop_oldest<K: Eq + Hash, V, L: Budgeted<K, V>, S: KeyHasher<K>>(
     own: &mut Part<K, V, L, S>,
 ) -> Option<u64> {

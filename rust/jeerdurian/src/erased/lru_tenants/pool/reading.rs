@@ -67,7 +67,7 @@ impl<N: Eq + Hash, K: Eq + Hash, V, L: Budgeted<K, V>, S: KeyHasher<K> + Copy> T
         Ok(*share)
     }
 
-    /// Returns whether a tenant has an entry of a key.
+    /// Returns whether a tenant has an entry for a key.
     ///
     /// Cost: `O(1)` expected.
     ///
@@ -81,7 +81,7 @@ impl<N: Eq + Hash, K: Eq + Hash, V, L: Budgeted<K, V>, S: KeyHasher<K> + Copy> T
         Ok(map.contains(key))
     }
 
-    /// Returns a tenant's value of a key. The order stays.
+    /// Returns the value of a tenant's key. The order stays.
     ///
     /// Cost: `O(1)` expected.
     ///
@@ -95,7 +95,7 @@ impl<N: Eq + Hash, K: Eq + Hash, V, L: Budgeted<K, V>, S: KeyHasher<K> + Copy> T
         Ok(map.peek(key))
     }
 
-    /// Returns a tenant's value of a key, and makes the key's entry the tenant's newest.
+    /// Returns the value of a tenant's key, and makes the key's entry the tenant's newest.
     ///
     /// Cost: `O(1)` expected.
     ///

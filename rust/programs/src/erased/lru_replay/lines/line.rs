@@ -11,7 +11,7 @@ use crate::rattle_std::io::{BufRead, ErrorKind};
 /// The length in bytes of the longest line with a meaning: `insert` with two numbers of 20 digits.
 const LONGEST: usize = 48;
 
-/// The most bytes of a line that a `Line` stores: one more than `LONGEST`, so that a longer line is noticed.
+/// The greatest number of bytes that a `Line` stores: one more than `LONGEST`, so that a longer line is noticed.
 pub const HELD: usize = LONGEST + 1;
 
 pub struct Line {
@@ -97,7 +97,7 @@ pub enum Ending {
 ///
 /// # Errors
 ///
-/// `ReplayError::Read`: the reader failed, or `u64::MAX` reads found no end.
+/// `ReplayError::Read`: a read failed, or the line did not end within `u64::MAX` reads.
 pub fn read_line<R: BufRead>(reader: &mut R, line: &mut Line) -> Result<Ending, ReplayError> {
     line.clear();
     for _ in 0..u64::MAX {

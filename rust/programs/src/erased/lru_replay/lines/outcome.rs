@@ -16,9 +16,9 @@ pub enum ReplayEnd {
 /// Why a replay fails.
 #[derive(Clone, Copy, Debug, PartialEq, Eq)]
 pub enum ReplayError {
-    /// A read failed, or there was no end after `u64::MAX` reads or lines.
+    /// A read failed, a line did not end within `u64::MAX` reads, or the input did not end within `u64::MAX` lines.
     Read = 1,
-    /// A write or the flush failed; a write that takes 0 bytes has failed.
+    /// A write or the flush failed. A write that accepts no byte counts as failed.
     Write = 2,
 }
 

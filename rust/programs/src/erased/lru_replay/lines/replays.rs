@@ -117,8 +117,8 @@ fn answer_all<R: BufRead, W: Write>(alloc: Global, reader: &mut R, writer: &mut 
 /// has no answer; docs/REPLAY.md lists the lines and their answers. If no write fails, the output is flushed once, at
 /// the end.
 ///
-/// The contract is about the whole streams of bytes, however reads and writes cut them. If the type of a reader or a
-/// writer says nothing about its bytes, the contract says nothing about them.
+/// The contract is about the whole streams of bytes. It does not depend on how reads and writes divide these streams.
+/// If the type of a reader or a writer says nothing about its bytes, the contract says nothing about these bytes.
 ///
 /// Cost: the cost of the calls. A line of any length is read in constant memory. `put` requests memory for the entries
 /// that it writes.

@@ -10,14 +10,14 @@ use crate::rattle_std::alloc::Global;
 /// The limiter allocates each key, and allocates it again after each growth that fails.
 fn texts_are_refused(alloc: Global, map: &mut LruMap<String, u32, Counting>) -> Option<bool> {
     let mut right = true;
-    // Entries, control bytes, and a byte for each text.
+    // A clone requests memory for entries, for control bytes, and a byte for each text.
     let mut hog = Hog::new(alloc, &[160, 20, 1, 1, 1]).ok()?;
     for n in 0..6u32 {
         right = (map.try_clone().is_err() == (n < 5)) & right;
         hog.release();
     }
     drop(hog);
-    // The text, and a growth.
+    // An insert requests memory for the text, and for a growth.
     let mut hog = Hog::new(alloc, &[1, 8 * 40, 24, 16]).ok()?;
     for n in 0..5u32 {
         right = (map.insert(InsertKey("9"), 9).is_err() == (n < 4)) & right;
