@@ -29,8 +29,8 @@ module _ {K V S H : Type 0} where
         new.counts.moved + potential new + 2 * old.counts.placed
         ≤ old.counts.moved + potential old + 2 * new.counts.placed
 
-  -- The number that `count` reads, plus the `potential`, rises by at most m for each stored entry, plus n for each
-  -- entry that a shrink rehashed. This bound holds until the count `placed` or `shrunk` stops at its maximum.
+  -- Take the number that `count` reads, plus the `potential`. This sum rises by at most m for each stored entry, and n
+  -- for each entry that a shrink rehashed. This bound holds until the count `placed` or `shrunk` stops at its maximum.
   pub record PaysFor (count : Counts → ℕ) (m n : ℕ) (old new : State K V S H) : Type 0 where
     pub placed : old.counts.placed ≤ new.counts.placed
     pub shrunk : old.counts.shrunk ≤ new.counts.shrunk
@@ -122,7 +122,7 @@ pub record KeepsValues {K V S I : Type 0} (offers : Offers K V S I) : Type 0 whe
   pub given : (s : S) (n : ℕ) (i : I) (v : V) (t : S) (k : K) (w : V) → offers.on_insert s n i v t (Some (k, w)) → w ≡ v
   pub replaced : (s : S) (n : ℕ) (k : K) (i : I) (v w : V) → (offers.on_replace s n k i v w).new_value ≡ w
 
--- `bytes_of k v`: how many bytes the pair of k and v owns
+-- `bytes_of k v`: the number of bytes that the pair of k and v owns
 module _ {K V S H : Type 0} (bytes_of : K → V → ℕ) where
   -- the bytes of the table plus the bytes that the pairs own are at most n
   abbrev pub TakesAtMost : ℕ → State K V S H → Type 0
