@@ -18,8 +18,8 @@ module _ {T F : Type 0} (closure : Shared F (Bor T × Unit {0}) (Result T AllocE
   abbrev pub Copies : List (Slot T) → List (Slot T) → Type 0
   Copies old new = AllZip IsCopyOf old new
 
-  -- The copy of a place without an entry has no entry. If a place has an entry, the closure f may return the entry of
-  -- the copy for this entry.
+  -- The copy of a place without an entry has no entry. If a place has an entry, the copy has an entry that the closure
+  -- f may return for the old entry.
   abbrev pub IsPlaceCopy : Option T → Option T → Type 0
   IsPlaceCopy None copy = copy ≡ None
   IsPlaceCopy (Some entry) copy = (made : T) × FnReturnsAt closure f entry (Ok made) × (copy ≡ Some made)

@@ -28,8 +28,7 @@ module _ {T N : Type 0} (number : N → ℕ) (none : N) (old : ℕ → Option T)
       → Fits new moved_hash_of
 
 module _ {T N : Type 0} (number : N → ℕ) (none : N) where
-  -- `links` contains one link for each old bucket: if the bucket had an entry, the link to the new bucket of this
-  -- entry, and otherwise `none`
+  -- for each old bucket, `links` contains the link to the new bucket of its entry, or `none` if the old bucket was free
   pub record IsRenumbering (old new : List (Slot T)) (links : List N) : Type 0 where
     pub one_each : length links ≡ length old
     pub moves : Moves number none (entry_at old) new links

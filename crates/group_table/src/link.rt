@@ -10,7 +10,6 @@ pub trait LinkType: Copy {
     /// The link that means no bucket. The number of `MAX` is greater than the number of every bucket.
     const MAX: Self;
 
-    /// `MAX`, as contracts see it.
     ghost MAX: { Self };
 
     ghost number: { Self → ℕ };

@@ -9,7 +9,7 @@
 --     `budget_terms`: the terms of the offers `weighs`.
 --     `by_cost`, `charges`: the rules and the offers of a limiter. Their argument `cost` gives the cost of a value.
 --     `pair_cost o k v`: k + v + o, but at most `u64::MAX`. This is the cost of an entry whose key costs k and whose
---     value costs v.
+--         value costs v.
 --     `weighs-sums`, `charges-sums`: the limiters `by_weight` and `by_cost` satisfy the laws of `Summing`.
 --     `IsBudgeted`: the laws of a limiter with a running total and a budget.
 --     `weighs-budgeted`: `ByWeight` and `ByCost` satisfy `IsBudgeted`.

@@ -7,7 +7,8 @@
 --     `unmoved s k v`: the limiter s, and the unchanged entry, after `on_removed`.
 --     `answers s b`: the limiter s, and the result b of `on_grow`.
 --     `replaces s k v w`: the limiter s after `on_replace` accepted the new value w.
---     `given-is`, `given-names`: the returned entry is the offered entry.
+--     `given-is`: the returned entry is the offered entry. `given-names`: a reflexive test accepts the offered key and
+--         the returned key.
 --     `given-adds`, `refused-keeps`, `replaced-exchanges`: lemmas on the running total after an offer, for your own
 --         impl of `Summing`.
 use Rattle.std.specs.Prelude.{◌≡◌, ◌≤◌, ◌+◌, ◌-◌, ℕ, Bool, true, false, Option, Some, None, IsTrue, if◌then◌else◌}

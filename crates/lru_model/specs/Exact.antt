@@ -64,7 +64,7 @@ module _ {K V S : Type 0} (rules : Rules K V S) where
   queried None s = s
   queried (Some bytes) s = (rules.on_grow s bytes).limiter
 
-  -- the contents after the limiter was queried and pairs were evicted, as the report says
+  -- the contents after what the report says: the limiter was queried, and pairs were evicted
   abbrev pub met : Report → Contents K V S → Contents K V S
   met report c = pops rules report.evicted (record { pairs = c.pairs; limiter = queried report.asked c.limiter })
 
@@ -101,8 +101,8 @@ module _ {K V S I : Type 0} (rules : Rules K V S) (offers : Offers K V S I) (nam
     not_offered : offers.may_run_out old.limiter (length old.pairs) i v → IsErr result → new ≡ old → InsertsNew
     not_admitted : (s : S) → MayGive rules offers names i v old s None →
         result ≡ Ok false → new ≡ record { pairs = old.pairs; limiter = s } → InsertsNew
-    -- The limiter returns a pair to store. The pair is stored if the table reports a bucket for the pair, unless the
-    -- map runs out of memory.
+    -- The limiter returns a pair to store. Unless the map runs out of memory, the pair is stored if the table reports a
+    -- bucket for the pair.
     admitted : (s : S) (pair : K × V) → MayGive rules offers names i v old s (Some pair) →
         (report : Report) → Tells s pair report →
         stored rules report pair (make_room rules (record { pairs = old.pairs; limiter = s })) ≡ (result, new) →

@@ -18,7 +18,6 @@ pub record Contents (K V S : Type 0) : Type 0 where
 
 -- the bucket table, without the pairs
 pub record TableState : Type 0 where
-  -- whether each bucket is empty, deleted or full
   pub states : List BucketState
   -- the bucket number of each pair, newest pair first
   pub places : List ℕ

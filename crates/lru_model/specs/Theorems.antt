@@ -67,8 +67,8 @@ pub record IsNewest {K V : Type 0} (names : K → Bool) (pairs : List (K × V)) 
 -- limiter rejects the new value for this pair.
 pub data EvictsOldest {K V : Type 0} (names : K → Bool) (refuses : K × V → Type 0) (old new : List (K × V))
     : Type 0 where
-  -- Take the pair of the inserted key, and then the old pairs of other keys. `new` is a front of this list, maybe
-  -- empty.
+  -- Take the pair of the inserted key, and then the old pairs of other keys. The list begins with the list `new`, which
+  -- may be empty.
   behind : (newest : K × V) → names newest.0 ≡ true → IsFront new (newest ∷ without names old) →
       EvictsOldest names refuses old new
   -- The inserted key was new, and its pair is not stored. The oldest pairs may have been evicted.

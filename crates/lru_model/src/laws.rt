@@ -67,8 +67,8 @@ pub fn inserts_evict_the_oldest<
         new.pairs }
 {}
 
-/// If an insert finds n entries in the map, leaves m entries, and passes p entries to its callback, m + p is at most n
-/// + 1 (`few`). An insert with a callback also satisfies `Insert` (`step`).
+/// If an insert into a map of n entries leaves m entries, and passes p entries to its callback, m + p is at most n + 1
+/// (`few`). An insert with a callback also satisfies `Insert` (`step`).
 pub fn inserts_pass_few<K: Eq + Hash, V, I: LookupKey<K>, L: Insertion<K, V, I>, S: KeyHasher<K>>()
     ensures few { (key : I) (value : V) (old : State K V L S) (result : Result Bool AllocError)
         (passed : List (K × V)) (new : State K V L S) →

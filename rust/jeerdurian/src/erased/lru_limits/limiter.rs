@@ -13,7 +13,7 @@ use crate::rattle_std::hash::Hash;
 /// that it evicts or removes.
 ///
 /// A callback may be called with any state, length, key and value. In `rules`, the impl defines the result and the
-/// effect of each callback as functions of its arguments.
+/// effect of each callback as functions of the arguments.
 pub trait Limiter<K, V> {
     /// The type of the map's links, which limits the number of entries.
     type LinkType: LinkType;
@@ -68,6 +68,6 @@ pub trait Insertion<K: Eq + Hash, V, I: LookupKey<K>>: Limiter<K, V> {
 
     /// Called by an insert or an update before `new_value` replaces `old_value`. The map has `length` entries, and
     /// `new_key` names the stored `old_key`. The limiter may change `old_key` only to an equal key. Returns whether the
-    /// new value is accepted. If it is rejected, the map removes the entry.
+    /// new value is accepted. If the value is rejected, the map removes the entry.
     fn on_replace(&mut self, length: usize, old_key: &mut K, new_key: I, old_value: &mut V, new_value: &mut V) -> bool;
 }

@@ -33,8 +33,8 @@ pub use shrinks::{shrinks_keep_the_list, shrinks_leave_a_tight_table, shrinks_pa
 /// the inserted key.
 pub fn inserts_evict_the_oldest<K: Eq + Hash, V, I: LookupKey<K>, L: Insertion<K, V, I>, S: KeyHasher<K>>() {}
 
-/// If an insert finds n entries in the map, leaves m entries, and passes p entries to its callback, m + p is at most n
-/// + 1 (`few`). An insert with a callback also satisfies `Insert` (`step`).
+/// If an insert into a map of n entries leaves m entries, and passes p entries to its callback, m + p is at most n + 1
+/// (`few`). An insert with a callback also satisfies `Insert` (`step`).
 pub fn inserts_pass_few<K: Eq + Hash, V, I: LookupKey<K>, L: Insertion<K, V, I>, S: KeyHasher<K>>() {}
 
 /// A `Report` (`specs/Exact`) says whether a table queried the limiter for an insert, and how many entries were evicted
