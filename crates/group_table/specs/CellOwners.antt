@@ -11,12 +11,12 @@ use denote.Sharing.{nothing, said, beside}
 use denote.RawPtr.{Ptr, block_ptr, null_ptr}
 
 module _ (R : RattleType) where
-  -- the place that begins o bytes into a block: an entry, or uninitialised memory for an entry
+  -- the place that begins at byte o of a block: an entry, or uninitialised memory for an entry
   abbrev pub place : ℕ → ℕ → Option R.Denot → Fml
   place block o (Some entry) = part_at R full_share entry block o
   place block o None = froom (raw (lone R.mir)) block o
 
-  -- adjacent places; the first place begins o bytes into a block
+  -- adjacent places; the first place begins at byte o of a block
   abbrev pub places : ℕ → ℕ → List (Option R.Denot) → Fml
   places block o [] = ftrue
   places block o (held ∷ more) = fsep (place block o held) (places block (o + type_size R) more)

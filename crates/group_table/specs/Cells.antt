@@ -1,4 +1,4 @@
--- When a place holds an entry.
+-- Whether a place holds an entry.
 use Rattle.std.specs.Prelude.{◌≡◌, ℕ, List, Option, Some, None, get_or}
 
 abbrev pub Holds : {T : Type 0} → List (Option T) → ℕ → Type 0

@@ -25,8 +25,8 @@ insertion_count c = count_up c.placed c.moved
 abbrev pub MayFill : List BucketState → ℕ → Type 0
 MayFill states b = (0 < growth_left states) ⊎ (bucket_at states b ≡ deleted)
 
--- No bucket takes a new entry with this hash. Either the table has no buckets, or no growth is left and the first free
--- bucket in a search for the hash is empty.
+-- No bucket takes a new entry with this hash. The table has no buckets; or no growth is left, and the first free bucket
+-- in a search for the hash is empty.
 abbrev pub HasNoPlace : List BucketState → ℕ → Type 0
 HasNoPlace states hash = (length states ≡ 0)
     ⊎ ((growth_left states ≡ 0) × (b : ℕ) × IsFirstFree states hash b × (bucket_at states b ≡ empty))
@@ -40,8 +40,8 @@ module _ {T : Type 0} where
     pub insertions : new.insertions ≡ one_placed old.insertions
 
 module _ {A : Type 0} where
-  -- If each run of 16 neighbouring buckets that includes bucket b contains an empty bucket, a removal makes b empty.
-  -- Otherwise, the removal makes b deleted.
+  -- Consider the runs of 16 neighbouring buckets that include bucket b. If each run contains an empty bucket, a removal
+  -- makes b empty. Otherwise, the removal makes b deleted.
   abbrev pub Removes : List (Bucket A) → List (Bucket A) → ℕ → Type 0
   Removes old new b =
       (HasEmptyNeighbours (IsEmpty (bucket_states old)) (length (bucket_states old)) b × (new ≡ slice_set old b empty))

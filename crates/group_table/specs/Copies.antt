@@ -8,7 +8,7 @@ use Rattle.group_table.specs.Bucket.{Slot, empty, deleted, full}
 
 module _ {T F : Type 0} (closure : Shared F (Bor T × Unit {0}) (Result T AllocError)) (f : F) where
   -- The copy of an empty bucket is empty, and the copy of a deleted bucket is deleted. The copy of a full bucket has
-  -- the tag of this bucket, and an entry that the closure f may return for the old entry.
+  -- the same tag. Its entry is an entry that the closure f may return for the old entry.
   abbrev pub IsCopyOf : Slot T → Slot T → Type 0
   IsCopyOf empty copy = copy ≡ empty
   IsCopyOf deleted copy = copy ≡ deleted
@@ -18,8 +18,8 @@ module _ {T F : Type 0} (closure : Shared F (Bor T × Unit {0}) (Result T AllocE
   abbrev pub Copies : List (Slot T) → List (Slot T) → Type 0
   Copies old new = AllZip IsCopyOf old new
 
-  -- The copy of a place without an entry has no entry. The copy of a place with an entry holds an entry that the
-  -- closure f may return for the old entry.
+  -- The copy of a place without an entry has no entry. If a place has an entry, the copy has an entry that the closure
+  -- f may return for the old entry.
   abbrev pub IsPlaceCopy : Option T → Option T → Type 0
   IsPlaceCopy None copy = copy ≡ None
   IsPlaceCopy (Some entry) copy = (made : T) × FnReturnsAt closure f entry (Ok made) × (copy ≡ Some made)

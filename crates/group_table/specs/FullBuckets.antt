@@ -1,4 +1,4 @@
--- Which buckets a walk over the full buckets of a table has not yet visited. No public contract uses this module.
+-- The buckets that a walk over the full buckets of a table has not yet visited. No public contract uses this module.
 use Rattle.std.specs.Prelude.{ℕ, ◌+◌, ◌<◌, ◌≤◌, ◌↔◌, List, slice_index}
 use Rattle.group_table.specs.Bytes.{IsTag, IsFreeByte}
 use Rattle.group_table.specs.Control.{buckets_of, IsCircle}
@@ -16,7 +16,7 @@ pub record IsAhead (control : List ℕ) (walk : FullBuckets) (from : ℕ) : Type
   pub lanes : (lane : ℕ) → HasLane walk.lanes lane
       ↔ ((lane < 16) × IsTag (slice_index control (walk.start + lane)) × (from ≤ walk.start + lane))
 
--- `next` is the first full bucket at or after `from`, or the number of buckets if no bucket at or after `from` is full
+-- `next` is the first full bucket from `from` on. If there is none, `next` is the number of buckets.
 pub record IsNextFull (control : List ℕ) (from next : ℕ) : Type 0 where
   pub bound : from ≤ next
   pub within : next ≤ buckets_of control

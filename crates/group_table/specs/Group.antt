@@ -27,7 +27,7 @@ module _ {T : Type 0} (slots : List (Slot T)) where
   abbrev pub width : ℕ
   width = min 16 (length slots)
 
-  -- the buckets with the tag, among the first `lanes` lanes
+  -- the buckets that have the tag, among the first `lanes` buckets of a group
   abbrev pub tagged_lanes : ℕ → ℕ → ℕ → List ℕ
   tagged_lanes tag start lanes = tagged slots tag (λ lane. (start + lane) % length slots) lanes
 

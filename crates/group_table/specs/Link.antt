@@ -10,7 +10,6 @@ abbrev pub narrowest_most : ℕ
 narrowest_most = 255
 
 pub record IsLinkType {N : Type 0} (number : N → ℕ) (link : ℕ → N) (most : N) : Type 0 where
-  -- if n is below the number of `MAX`, `link n` has the number n
   pub number_of_link : (n : ℕ) → n < number most → number (link n) ≡ n
   pub equal_by_number : (a b : N) → number a ≡ number b → a ≡ b
   -- a link has at least eight bits

@@ -7,7 +7,7 @@ module _ {T : Type 0} where
   abbrev pub place_at : List (Option T) → ℕ → Option T
   place_at places b = slice_index_or places b None
 
-  -- the entry filled an empty bucket, which a search for the hash of the entry reaches
+  -- the entry filled bucket b, which was empty; a search for the hash of the entry reaches b
   pub record Joins (old new : List (Slot T)) (hash : ℕ) (entry : T) (b : ℕ) : Type 0 where
     pub reached : Reaches (bucket_states old) hash b
     pub within : b < length old

@@ -2,12 +2,12 @@
 use Rattle.std.specs.Prelude.{◌≡◌, ℕ, ◌+◌, ◌%◌, ◌<◌}
 
 module _ (Empty : ℕ → Type 0) (buckets b : ℕ) where
-  -- each run of 16 neighbouring buckets that includes b contains an empty bucket
+  -- if a run of 16 neighbouring buckets includes b, the run contains an empty bucket
   abbrev pub HasEmptyNeighbours : Type 0
   HasEmptyNeighbours = (start at : ℕ) → at < 16 → (start + at) % buckets ≡ b
       → (lane : ℕ) × (lane < 16) × Empty ((start + lane) % buckets)
 
-  -- some run of 16 neighbouring buckets that includes b contains no empty bucket
+  -- some run of 16 neighbouring buckets includes b, but no empty bucket
   pub record IsHemmedIn : Type 0 where
     pub start : ℕ
     pub at : ℕ

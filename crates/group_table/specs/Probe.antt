@@ -10,9 +10,9 @@ hash_tag hash = hash / 2 ^ 57
 abbrev pub filled : {T : Type 0} → ℕ → T → Slot T
 filled hash entry = full (record { tag = hash_tag hash; entry = entry })
 
--- the bucket that a search visits at a step. A search visits groups of 16 buckets. The first group begins at the hash,
--- modulo `buckets`. The second group begins 16 buckets after the beginning of the first, the third group begins 32
--- buckets after the beginning of the second, and so on.
+-- the bucket that a search visits at a step. A search visits groups of 16 buckets. The first group begins at the bucket
+-- `hash % buckets`. The second group begins 16 buckets later than the first, the third group begins 32 buckets later
+-- than the second, and so on.
 abbrev pub probed : ℕ → ℕ → ℕ → ℕ
 probed buckets hash step = (hash + 8 * (step / 16) * (step / 16 + 1) + step % 16) % buckets
 
@@ -28,13 +28,13 @@ module _ (states : List BucketState) (hash : ℕ) where
   abbrev pub state_probed : ℕ → BucketState
   state_probed step = bucket_at states (probed (length states) hash step)
 
-  -- A search for the hash reaches bucket b. No group that the search visits before the group of b has an empty bucket,
-  -- which would end the search.
+  -- A search for the hash reaches bucket b. An empty bucket would end the search, so the groups that the search visits
+  -- before the group of b have no empty bucket.
   pub record Reaches (b : ℕ) : Type 0 where
     pub step : ℕ
     pub there : probed (length states) hash step ≡ b
     pub goes_on : (before : ℕ) → before / 16 < step / 16 → state_probed before ≢ empty
 
-  -- b is the first bucket that is not full, in the order in which a search for the hash visits buckets
+  -- a search for the hash visits b before every other bucket that is not full
   abbrev pub IsFirstFree : ℕ → Type 0
   IsFirstFree = IsFirst (λ b. is_full (bucket_at states b)) (probed (length states) hash)

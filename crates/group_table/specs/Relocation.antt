@@ -12,7 +12,7 @@ module _ {N : Type 0} (number : N → ℕ) (none : N) where
 
 -- Below, `old b` is the entry that was in the old bucket b, or `None` if there was no entry.
 module _ {T N : Type 0} (number : N → ℕ) (none : N) (old : ℕ → Option T) (new : List (Slot T)) (links : List N) where
-  -- the entry of the old bucket b is now in bucket `moved_to b`, and no other new bucket is full
+  -- for each old bucket b with an entry, the entry is now in bucket `moved_to b`; no other new bucket is full
   pub record Moves : Type 0 where
     pub moved : (b : ℕ) (entry : T) → old b ≡ Some entry → entry_at new (moved_to number none links b) ≡ Some entry
     pub others : (b : ℕ) → old b ≡ None → slice_index_or links b none ≡ none
@@ -28,7 +28,7 @@ module _ {T N : Type 0} (number : N → ℕ) (none : N) (old : ℕ → Option T)
       → Fits new moved_hash_of
 
 module _ {T N : Type 0} (number : N → ℕ) (none : N) where
-  -- `links` contains one link for each old bucket: the link to the new bucket of its entry, or `none`
+  -- for each old bucket, `links` contains the link to the new bucket of its entry, or `none` if the old bucket was free
   pub record IsRenumbering (old new : List (Slot T)) (links : List N) : Type 0 where
     pub one_each : length links ≡ length old
     pub moves : Moves number none (entry_at old) new links

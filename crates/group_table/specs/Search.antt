@@ -8,12 +8,12 @@ use Rattle.group_table.specs.Bucket.{Slot, empty, bucket_at, entry_at, has_tag, 
 use Rattle.group_table.specs.Probe.{hash_tag, probed, state_probed, Reaches}
 use Rattle.group_table.specs.Fits.{Fits}
 
--- the buckets with the tag, among the first `steps` buckets of an order
+-- the buckets that have the tag, among the first `steps` buckets of the given order
 abbrev pub tagged : {T : Type 0} → List (Slot T) → ℕ → (ℕ → ℕ) → ℕ → List ℕ
 tagged slots tag order steps = filter (λ b. has_tag tag (bucket_at slots b)) (map order (range_with_len 0 steps))
 
 module _ {T : Type 0} (slots : List (Slot T)) (hash : ℕ) where
-  -- the buckets with the tag of the hash, among the first `steps` buckets of a search
+  -- the buckets that have the tag of the hash, among the first `steps` buckets of a search
   abbrev pub candidates : ℕ → List ℕ
   candidates steps = tagged slots (hash_tag hash) (probed (length slots) hash) steps
 
@@ -50,8 +50,8 @@ module _ {T F : Type 0} (closure : Mut F (Bor T × Unit {0}) Bool) (slots : List
     pub accepted : Answers between b true last
 
   -- A search for the hash called f with the entries in the buckets `asked`, and f rejected each entry. `asked` contains
-  -- each bucket that the search reaches and that has the tag of the hash. For any hashes that fit the table, `asked`
-  -- contains the bucket of each entry with the searched hash.
+  -- each bucket that the search reaches and that has the tag of the hash. Suppose that the hashes `hash_of` fit the
+  -- table. If bucket b is full and `hash_of b` is the searched hash, `asked` contains b.
   pub record FindsNone (hash : ℕ) (f : F) : Type 0 where
     pub asked : List ℕ
     pub search : IsSearch slots hash asked

@@ -22,5 +22,4 @@ pub record IsTable (states : List BucketState) : Type 0 where
   pub count : IsBucketCount (length states)
   pub addressable : length states + 16 < 2 ^ 63
   pub used_within : count_by is_used states ≤ full_capacity (length states)
-  -- a table of up to 16 buckets has no deleted bucket
   pub none_deleted : length states ≤ 16 → count_by is_deleted states ≡ 0

@@ -51,7 +51,7 @@ pub fn match_free(bytes: &[u8; 16]) -> u16
         .to_bitmask() as u16
 }
 
-// The sixteen control bytes from a bucket on; each is a lane.
+// Sixteen neighbouring control bytes; each byte is a lane.
 #[derive(Drop)]
 pub(crate) struct Group {
     lanes: [u8; 16],

@@ -1,4 +1,4 @@
-//! The bucket table of the LRU map, and the integer types that links to its buckets may have.
+//! The bucket table of the LRU map, and the integer types of links to its buckets.
 #![tactic(auto)]
 
 // Marks unreachable code on hot paths.

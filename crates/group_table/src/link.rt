@@ -1,4 +1,4 @@
-//! `LinkType`: the integer types that links may have.
+//! `LinkType`: the integer types of links.
 ghost use Rattle.std.specs.Prelude.{◌≡◌, ◌<◌, ℕ};
 ghost use Rattle.group_table.specs.Link.{IsLinkType};
 
@@ -10,10 +10,8 @@ pub trait LinkType: Copy {
     /// The link that means no bucket. The number of `MAX` is greater than the number of every bucket.
     const MAX: Self;
 
-    /// `MAX`, as contracts see it.
     ghost MAX: { Self };
 
-    /// The number of a link.
     ghost number: { Self → ℕ };
 
     /// The link with the number n, if n is below the number of `MAX`.
@@ -28,8 +26,8 @@ pub trait LinkType: Copy {
     fn into_usize(self) -> usize
         ensures { result ≡ number self };
 
-    /// States three laws. If n is below the number of `MAX`, `link n` has the number n. Links with equal numbers are
-    /// equal. A link has at least 8 bits.
+    /// If n is below the number of `MAX`, `link n` has the number n. Links with equal numbers are equal. A link has at
+    /// least 8 bits.
     ghost laws: { IsLinkType number link MAX };
 }
 

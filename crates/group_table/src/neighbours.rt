@@ -1,4 +1,4 @@
-//! Tests whether each run of 16 neighbouring buckets that includes bucket b contains an empty bucket.
+//! Tests all runs of 16 neighbouring buckets that include bucket b: whether each run contains an empty bucket.
 ghost use Rattle.std.specs.Prelude.{◌≡◌, ◌≢◌, ◌+◌, ◌-◌, ◌%◌, ◌^◌, ◌<◌, Bool, if◌then◌else◌, nat_lt, slice_index};
 ghost use Rattle.std.specs.Prelude.{MatchBool};
 ghost use Rattle.group_table.specs.Bytes.{empty_byte};
@@ -36,8 +36,8 @@ fn ones_if_less(low: u32, high: u16) -> usize
     (difference >> 32).cast_unsigned() as usize
 }
 
-// Each run contains an empty bucket if fewer than 16 used (full or deleted) buckets lie between the nearest empty
-// buckets around b.
+// Count the used (full or deleted) buckets between the nearest empty buckets around b. If they are fewer than 16, each
+// run contains an empty bucket.
 #[inline]
 pub(crate) fn ones_if_empty_neighbours(control: &Control, b: usize) -> usize
     requires bucket { b < buckets_of control.now }
@@ -47,9 +47,9 @@ pub(crate) fn ones_if_empty_neighbours(control: &Control, b: usize) -> usize
         × MatchBool empty (HasEmptyNeighbours (IsEmptyAt control.now) (buckets_of control.now) b)
         (IsHemmedIn (IsEmptyAt control.now) (buckets_of control.now) b) }
 {
-    // `used` has a bit for each used bucket from b up to the next empty bucket. If and only if fewer than 16 used
-    // buckets are in a row around b, `used` is less than the mask of the empty buckets before b. Comparing the masks
-    // takes fewer instructions than two counts and their sum.
+    // `used` has a bit for each used bucket from b up to the next empty bucket. `used` is less than the mask of the
+    // empty buckets before b if and only if fewer than 16 used buckets are in a row around b. Comparing the masks takes
+    // fewer instructions than two counts and their sum.
     let used = lanes_below(empty_from(control, b));
     ones_if_less(used, empty_before(control, b))
 }

@@ -48,8 +48,7 @@ impl Probe {
     }
 }
 
-// The result of searching one group: a bucket whose entry was accepted, the end of the search at an empty bucket, or
-// neither.
+// How the search of one group ends: `f` accepted the entry in a bucket, an empty bucket ended the search, or neither.
 enum Searched {
     Accepted(usize),
     Ended,
@@ -105,7 +104,7 @@ pub(crate) fn find_bucket<T, F: FnMut(&T) -> bool>(
     ensures found { IfSome result (Finds F.FnMut (slots_of control.now entries.now) hash f) }
     ensures none { IfNone result (FindsNone F.FnMut (slots_of control.now entries.now) hash f) }
 {
-    // The first group is not part of the loop, because most searches end there and need no stride.
+    // The first group is not part of the loop, because most searches end in the first group and need no stride.
     let tag = tag_of(hash);
     let mut probe = Probe::of(control, hash);
     match search_group(control, entries, probe.start, tag, &mut f) {
@@ -139,8 +138,8 @@ fn free_in_group(control: &Control, start: usize) -> Option<usize>
     if control.byte(b) >= DELETED {
         return Some(b);
     }
-    // In a table of 4 or 8 buckets, empty bytes follow the bytes of the buckets. The lowest lane is one of these empty
-    // bytes, so the buckets from `start` to the last are full, and the group goes on at bucket 0.
+    // In a table of 4 or 8 buckets, empty bytes follow the bytes of the buckets. The lowest free lane is one of these
+    // empty bytes, so all buckets from `start` to the last bucket are full. The group goes on at bucket 0.
     Some(lowest_lane(control.group(0).match_free()))
 }
 
@@ -162,7 +161,7 @@ pub(crate) fn first_free(control: &Control, hash: u64) -> usize
     }
 }
 
-// Returns whether the bucket is among the 16 that a search for the hash reads first.
+// Returns whether bucket b is in the first group of a search for the hash.
 #[inline]
 pub(crate) fn is_read_first(control: &Control, hash: u64, b: usize) -> bool
     requires { b < buckets_of control.now }

@@ -42,7 +42,8 @@ mod relocation;
 /// assert_eq!(rt; table.find(7, |entry| *entry == "a"), Some(b));
 /// ```
 pub struct Table<T> {
-    // If this field were next to `len`, the compiler would change both fields by one slower load and store.
+    // If this field were next to `len`, the compiler would change both fields by a single load and store, which is
+    // slower.
     growth_left: usize,
     control: Control,
     entries: Entries<T>,
@@ -191,7 +192,7 @@ impl<T> Table<T> {
     {
         self.len -= 1;
         let gives_room = ones_if_empty_neighbours(&self.control, b);
-        // Subtracting all ones adds 1.
+        // If `gives_room` is all ones, subtracting it adds 1.
         self.growth_left = self.growth_left.wrapping_sub(gives_room);
         let byte = emptied_byte(gives_room);
         empty_bucket(&mut self.control, &mut self.entries, b, byte)
@@ -229,7 +230,7 @@ impl<T> Table<T> {
     ///
     /// # Errors
     ///
-    /// There are no buckets, or no growth is left and the first free bucket is empty. Returns the entry. Nothing has
+    /// There are no buckets; or no growth is left, and the first free bucket is empty. Returns the entry. Nothing has
     /// changed.
     #[inline(always)]
     pub fn try_place(&mut self, hash: u64, entry: T) -> Result<usize, T>
@@ -339,7 +340,7 @@ impl<T: Drop> Table<T> {
     }
 }
 
-// Returns whether there are no buckets. If growth is left, there are buckets, and `control` is not read.
+// If growth is left, there are buckets, and `control` is not read.
 #[inline]
 fn is_without_buckets(control: &Control, growth_left: usize) -> bool
     requires { buckets_of control.now ≡ 0 → growth_left ≡ 0 }

@@ -14,7 +14,7 @@ use Rattle.lru_limits.specs.Stores.{ReturnsPairIf, given-adds, refused-keeps}
 use Rattle.lru_limits.specs.Admissions.{Terms, offers_of}
 
 module _ {K V A B : Type 0} where
-  -- `on_removed` of the second limiter gets the key and the value that `on_removed` of the first limiter returned
+  -- the second limiter's `on_removed` gets the key and the value as the first limiter's `on_removed` left them
   abbrev pub both_rules : Rules K V A → Rules K V B → Rules K V (Both A B)
   both_rules a b = record {
     is_over_the_limit = λ s n. a.is_over_the_limit s.0 n || b.is_over_the_limit s.1 n;
@@ -49,8 +49,8 @@ module _ {K V A B : Type 0} where
         then record { 0 = a.admit_in_place s.0 n k v w; 1 = b.admit_in_place s.1 n k v w } else s;
   }
 
--- `adds_if` and `exchanges_if` are the lemmas `given-adds` and `replaced-exchanges` of `Stores`, but need their premise
--- only if the limiter accepts the entry.
+-- `adds_if` is the lemma `given-adds` of `Stores`, and `exchanges_if` is `replaced-exchanges`; here the first premise
+-- must hold only if the limiter accepts the entry.
 module _ {K V S : Type 0} (cost : K → V → ℕ) (account : S → ℕ) where
   adds_if : (accepts : Bool) (s s' : S) (i : K) (v : V) (t : S) (k : K) (w : V)
       → (IsTrue accepts → account s' ≡ account s + cost i v)

@@ -1,17 +1,18 @@
 -- Limiters by cost.
 --     `Budget`: the limit, and the sum of the costs of the entries.
 --     `can_add limit sum c`: whether the cost c is at most the limit, and sum + c fits 64 bits.
---     `charged b c`: the budget b with its sum raised by the cost c, or b if `can_add` is false.
---     `refunded b c`: the budget b with its sum lowered by the cost c, but not below 0.
---     `exchanged b c d`: the budget b with its sum lowered by the cost c and raised by the cost d, or b if `can_add` is
+--     `charged b c`: the budget b after the cost c was added to its sum, or b if `can_add` is false.
+--     `refunded b c`: the budget b after its sum fell by the cost c, but not below 0.
+--     `exchanged b c d`: the budget b after its sum fell by the cost c and rose by the cost d, or b if `can_add` is
 --         false.
---     `by_weight`, `weighs`: the rules and the offers of a limiter; the function `weight` gives the cost of an entry.
+--     `by_weight`, `weighs`: the rules and the offers of a limiter. Their argument `weight` gives the cost of an entry.
 --     `budget_terms`: the terms of the offers `weighs`.
---     `by_cost`, `charges`: the rules and the offers of a limiter; the function `cost` gives the cost of a value.
---     `pair_cost o k v`: the cost of an entry, which is k + v + o, but at most `u64::MAX`.
---     `weighs-sums`, `charges-sums`: these limiters satisfy the laws of `Summing`.
+--     `by_cost`, `charges`: the rules and the offers of a limiter. Their argument `cost` gives the cost of a value.
+--     `pair_cost o k v`: k + v + o, but at most `u64::MAX`. This is the cost of an entry whose key costs k and whose
+--         value costs v.
+--     `weighs-sums`, `charges-sums`: the limiters `by_weight` and `by_cost` satisfy the laws of `Summing`.
 --     `IsBudgeted`: the laws of a limiter with a running total and a budget.
---     `weighs-budgeted`: `ByWeight` and `ByCost` satisfy these laws.
+--     `weighs-budgeted`: `ByWeight` and `ByCost` satisfy `IsBudgeted`.
 use Rattle.std.specs.Prelude.{◌≡◌, ◌+◌, ◌-◌, ◌^◌, ◌&&◌, ℕ, min, Bool, true, false, nat_lt, nat_le}
 use Rattle.std.specs.Prelude.{if◌then◌else◌, refl}
 use Rattle.std.proofs.Common.{ap, ◌∙◌}
@@ -88,18 +89,13 @@ charges-sums cost = weighs-sums (λ k v. cost v)
 
 pub record IsBudgeted {K V S : Type 0} (rules : Rules K V S) (terms : Terms K V S) (account budget : S → ℕ)
     (made : ℕ → S) (rebudgeted : ℕ → S → S) : Type 0 where
-  -- a map is over the limit if and only if the running total is above the budget
   pub over : (s : S) (n : ℕ) → rules.is_over_the_limit s n ≡ nat_lt (budget s) (account s)
-  -- no callback changes the budget
   pub fixed : IsFixed rules (offers_of terms) budget
   -- a rejected entry of a new key does not change the limiter
   pub refuses : (s : S) (n : ℕ) (k : K) (v : V) → terms.accepts s n k v ≡ false → terms.admit s n k v ≡ s
-  -- the callback for a removal changes neither a key nor a value
   pub leaves : ChangesNoPair rules
-  -- a new limiter has the given budget, and the running total 0
   pub made_budget : (b : ℕ) → budget (made b) ≡ b
   pub made_empty : (b : ℕ) → account (made b) ≡ 0
-  -- `rebudgeted` sets the budget, and does not change the running total
   pub set_budget : (b : ℕ) (s : S) → budget (rebudgeted b s) ≡ b
   pub set_keeps : (b : ℕ) (s : S) → account (rebudgeted b s) ≡ account s
 

@@ -1,11 +1,11 @@
 -- The limiter by bytes.
 --     `in_word n`: n, but at most `u64::MAX`.
---     `block_bytes n`: what a block of n bytes takes from the allocator.
+--     `block_bytes n`: the number of bytes that a block of n bytes takes from the allocator.
 --     `both_own of_k of_v`: the bytes that the key of an entry owns, plus the bytes that the value owns.
 --     `Bytes`: the state of the limiter.
 --     `left_for_entries b`: the limit minus the bytes of the table, but at least 0.
---     `by_bytes`, `bytes_offers`, `bytes_terms`: the rules, offers and terms; `bytes_of` gives the bytes that an entry
---         owns.
+--     `by_bytes`, `bytes_offers`, `bytes_terms`: the rules, offers and terms. Their argument `bytes_of` gives the bytes
+--         that an entry owns.
 --     `bytes-sums`: the limiter satisfies the laws of `Summing`.
 use Rattle.std.specs.Prelude.{◌≡◌, ◌+◌, ◌-◌, ◌*◌, ◌/◌, ◌^◌, ◌==◌, ℕ, min, Bool, true, false, nat_lt, nat_le, if◌then◌else◌, refl}
 use Rattle.lru_limits.specs.Rules.{Rules, Offers}
@@ -42,7 +42,7 @@ grown_owns true b n = refl
 grown_owns false b n = refl
 
 module _ {K V : Type 0} (bytes_of : K → V → ℕ) where
-  -- A table is permitted if `owned` plus the bytes of the table is at most the limit. The old table is not counted.
+  -- A table is permitted if `owned` plus the bytes of the table is at most the limit.
   abbrev pub by_bytes : Rules K V Bytes
   by_bytes = record {
     is_over_the_limit = λ b n. nat_lt (left_for_entries b) b.owned;

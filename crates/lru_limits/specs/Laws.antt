@@ -4,7 +4,7 @@
 --     `IsInsertion names eq offers`: the laws of `Insertion`.
 --     `ChangesNoPair rules`: `on_removed` of the limiter changes no removed entry.
 --     `IsAccount rules offers cost account`: the laws of `Summing`.
---     `kept_value r`: the new value if r accepts the new value, or else the old value.
+--     `kept_value r`: the new value if the replacement r accepted it, or else the old value.
 use Rattle.std.specs.Prelude.{◌≡◌, ◌≤◌, ◌+◌, ◌-◌, ℕ, Bool, List, Some, None, IsTrue, if◌then◌else◌}
 use Rattle.lru_limits.specs.Rules.{Rules, Offers, Replaced}
 
@@ -40,7 +40,6 @@ pub record IsAccount {K V S I : Type 0} (rules : Rules K V S) (offers : Offers K
   -- the removal of an entry lowers the running total by the cost of the entry
   pub takes_off : (s : S) (k : K) (v : V) → cost k v ≤ account s → account (rules.on_removed s k v).limiter
       ≡ account s - cost k v
-  -- after a clear the running total is 0
   pub empties : (s : S) → account (rules.on_cleared s) ≡ 0
   pub keeps : (s : S) (n : ℕ) → account (rules.on_grow s n).limiter ≡ account s
 

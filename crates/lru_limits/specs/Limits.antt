@@ -1,9 +1,8 @@
--- Laws of a limiter that limits the length, or the bytes of the table. The limiter may do other things, too.
---     `IsFixed rules offers number`: no callback changes the `number` of the limiter.
+-- Laws of a limiter that limits the length of a map, or the bytes of its table. The limiter may do other things, too.
+--     `IsFixed rules offers number`: no callback changes what the function `number` returns for the limiter.
 --     `LimitsLength rules offers most`: a map that is not over the limit has at most `most` entries.
 --     `LimitsMemory rules offers most`: a table that the limiter permits has at most `most` bytes.
---     `length-limits`, `memory-limits`: `ByLength` satisfies `LimitsLength`, and `ByMemoryUsage` satisfies
---         `LimitsMemory`.
+--     `length-limits`: `ByLength` satisfies `LimitsLength`. `memory-limits`: `ByMemoryUsage` satisfies `LimitsMemory`.
 --     `storing-length`, `storing-memory`: if a limiter satisfies the law, `Storing` of this limiter satisfies the law,
 --         too.
 --     `both-first_length`, ..: if the first (or the second) limiter satisfies the law, `Both` satisfies the law, too.

@@ -1,9 +1,8 @@
 -- What the hasher computes, as functions.
---     `Mixer`: the state of the hasher and two keys: a key for words of eight bytes, and a key for a rest of fewer
---         bytes.
+--     `Mixer`: the state of the hasher, a key for words of eight bytes, and a key for a rest of fewer bytes.
 --     `folded a b`: the xor of the two 64-bit halves of a * b.
 --     `joined key state word`: the state of the hasher after the hasher got this word.
---     `rest_word bytes`: a rest of fewer than eight bytes as a word, whose top byte is the number of bytes.
+--     `rest_word bytes`: fewer than eight bytes as one word; its top byte is the number of these bytes.
 --     `written h bytes`: the hasher h after the bytes were written. The hasher gets a word for each eight bytes, and a
 --         word for the rest.
 --     `closed h`: the hash that the hasher h returns.

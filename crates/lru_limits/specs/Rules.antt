@@ -1,5 +1,5 @@
 -- What a limiter with states S does. The functions and relations are named after the callbacks.
---     `Rules K V S`: what a limiter does with lengths, removed entries, clears and growth.
+--     `Rules K V S`: which lengths are over the limit, and what a limiter does at a removal, a clear or a growth.
 --     `Offers K V S I`: what a limiter does with entries that are offered with a key of type I.
 --     `Notified K V S`: the limiter, the key and the value after `on_removed`.
 --     `Allowed S`: the limiter after `on_grow`, and the result of `on_grow`.

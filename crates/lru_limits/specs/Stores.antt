@@ -2,11 +2,13 @@
 --     `plain over grants`: the rules of a limiter that never changes.
 --     `rules_at of to rules`: the rules of a wrapper; the function `of` unwraps the inner limiter, and `to` wraps the
 --         inner limiter.
---     `ReturnsPairIf accepts s k v t given`: t is s. `given` is the entry, or `None` if the entry is rejected.
+--     `ReturnsPairIf accepts s k v t given`: t equals s, and `given` is the entry (k, v), or `None` if `accepts` is
+--         false.
 --     `unmoved s k v`: the limiter s, and the unchanged entry, after `on_removed`.
---     `answers s b`: the limiter s after `on_grow` returned b.
+--     `answers s b`: the limiter s, and the result b of `on_grow`.
 --     `replaces s k v w`: the limiter s after `on_replace` accepted the new value w.
---     `given-is`, `given-names`: the returned entry is the offered entry.
+--     `given-is`: the returned entry is the offered entry. `given-names`: a reflexive test accepts the offered key and
+--         the returned key.
 --     `given-adds`, `refused-keeps`, `replaced-exchanges`: lemmas on the running total after an offer, for your own
 --         impl of `Summing`.
 use Rattle.std.specs.Prelude.{◌≡◌, ◌≤◌, ◌+◌, ◌-◌, ℕ, Bool, true, false, Option, Some, None, IsTrue, if◌then◌else◌}
@@ -50,7 +52,6 @@ pub given-is : {S K V : Type 0} (accepts : Bool) (s : S) (k : K) (v : V) (t : S)
 given-is true s k v t p h = ap (λ o. unwrap_or o (k, v)) h.pair
 given-is false s k v t p h = let e = h.pair in cc
 
--- if the test E is reflexive, E is true of the offered key and the returned key
 pub given-names : {S K V : Type 0} {accepts : Bool} {s t : S} {i k : K} {v w : V} (E : K → K → Bool)
     → ((x : K) → IsTrue (E x x)) → ReturnsPairIf accepts s i v t (Some (k, w)) → IsTrue (E i k)
 given-names {accepts} {s} {t} {i} {k} {v} {w} E reflexive h =
@@ -58,8 +59,8 @@ given-names {accepts} {s} {t} {i} {k} {v} {w} E reflexive h =
 
 -- In the lemmas below, the limiter s becomes s' if it accepts an entry, and stays s if it rejects the entry.
 
--- If the total of s' is the total of s plus the cost of the entry, an accepted entry adds its cost to the running
--- total.
+-- If the total of s' is the total of s plus the cost of the entry, the running total rises by the cost of each accepted
+-- entry.
 pub given-adds : {K V S : Type 0} (cost : K → V → ℕ) (account : S → ℕ) (accepts : Bool) (s s' : S) (i : K) (v : V)
     (t : S) (k : K) (w : V) → account s' ≡ account s + cost i v
     → ReturnsPairIf accepts (if accepts then s' else s) i v t (Some (k, w)) → account t ≡ account s + cost k w
@@ -72,8 +73,9 @@ pub refused-keeps : {K V S : Type 0} (account : S → ℕ) (accepts : Bool) (s s
 refused-keeps account true s s' i v t h = let e = h.pair in cc
 refused-keeps account false s s' i v t h = ap account h.limiter
 
--- Suppose that the total of s' is the total of s, minus the old cost, plus the new cost. If a new value is offered, the
--- old cost is subtracted from the running total, and the cost of the value that stays is added.
+-- Suppose that the total of s is at least the old cost, and that the total of s' is the total of s, minus the old cost,
+-- plus the new cost. The running total falls by the old cost, and rises by the new cost if the new value is accepted,
+-- or else by the old cost.
 pub replaced-exchanges : {K V S : Type 0} (cost : K → V → ℕ) (account : S → ℕ) (accepts : Bool) (s s' : S) (k : K)
     (v w : V) → account s' ≡ account s - cost k v + cost k w
     → cost k v ≤ account s → account (if accepts then s' else s) ≡ account s - cost k v

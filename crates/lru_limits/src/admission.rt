@@ -37,7 +37,7 @@ pub trait Admission<K, V>: Limiter<K, V> {
         ensures { result ≡ terms.accepts_in_place self.now length key.now old_value.now new_value.now };
 
     /// Called by an insert or an update before `new_value` replaces `old_value` of a stored key. The map has `length`
-    /// entries. Returns whether the new value is accepted. If it is rejected, the map removes the entry.
+    /// entries. Returns whether the new value is accepted. If the value is rejected, the map removes the entry.
     fn admit_in_place(&mut self, length: usize, key: &K, old_value: &V, new_value: &V) -> bool
         ensures answer { result ≡ terms.accepts_in_place self.old length key.now old_value.now new_value.now }
         ensures limiter { self.new ≡ terms.admit_in_place self.old length key.now old_value.now new_value.now };

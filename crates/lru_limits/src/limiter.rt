@@ -12,7 +12,7 @@ use std::hash::Hash;
 /// that it evicts or removes.
 ///
 /// A callback may be called with any state, length, key and value. In `rules`, the impl defines the result and the
-/// effect of each callback as functions of its arguments.
+/// effect of each callback as functions of the arguments.
 ///
 /// ```
 /// let limiter = ByLength::new(3);
@@ -29,20 +29,20 @@ pub trait Limiter<K, V> {
     ///
     /// Called in two cases:
     ///
-    /// - Before an insert stores a new entry in a map that is not empty, the map passes its length plus 1. `try_insert`
-    ///   calls `is_over_the_limit` on a copy of the limiter, even if the map is empty, and evicts nothing.
+    /// - Before an insert stores a new entry in a map that is not empty, `length` is the length of the map plus 1.
+    ///   `try_insert` calls `is_over_the_limit` on a copy of the limiter, even if the map is empty, and evicts nothing.
     ///
-    /// - In `trim` and `set_limiter`, and after an insert or an update stored an entry or replaced a value, the map
-    ///   passes its length. The map repeats the call after each eviction, until the map is empty.
+    /// - In `trim` and `set_limiter`, and after an insert or an update that stored an entry or replaced a value,
+    ///   `length` is the length of the map. The map repeats the call after each eviction, until the map is empty.
     fn is_over_the_limit(&self, length: usize) -> bool
         ensures { result ≡ rules.is_over_the_limit self.now length };
 
     /// Called with each entry that is evicted, removed, popped or taken by an iterator, as soon as the entry is out of
     /// the map. The limiter may write to the key and the value before the caller of the map gets them.
     ///
-    /// Also called with an entry that `on_insert` returned but the map cannot store. If a clear or a `Drain` drops an
-    /// entry, the map does not call `on_removed`. The same holds if an entry is dropped with the map or an `IntoIter`,
-    /// but no contract says so.
+    /// Also called with an entry that `on_insert` returned, if the map cannot store the entry. If a clear or a `Drain`
+    /// drops an entry, the map does not call `on_removed`. The same holds if the drop of the map or of an `IntoIter`
+    /// drops an entry, but no contract says so.
     fn on_removed(&mut self, key: &mut K, value: &mut V)
         ensures limiter { self.new ≡ (rules.on_removed self.old key.old value.old).limiter }
         ensures key { key.new ≡ (rules.on_removed self.old key.old value.old).key }
@@ -57,13 +57,14 @@ pub trait Limiter<K, V> {
     /// Called by an insert that finds no bucket for a new entry, and by `try_reserve` and `try_insert` if too little
     /// growth is left. Not called if no larger table exists, or if the table is rehashed without growing. If the result
     /// is `false`, the insert evicts the oldest entries to store the new entry, and `try_reserve` and `try_insert`
-    /// fail. If it is `true`, the allocation of the table may still fail, without notifying the limiter.
+    /// fail. If the result is `true`, the allocation of the table may still fail. The limiter is not notified of this
+    /// failure.
     fn on_grow(&mut self, new_memory_usage: usize) -> bool
         ensures limiter { self.new ≡ (rules.on_grow self.old new_memory_usage).limiter }
         ensures allowed { result ≡ (rules.on_grow self.old new_memory_usage).allowed };
 }
 
-/// Accepts or rejects entries. The key of an offered entry is given as an `I`.
+/// Accepts or rejects entries. An offered entry has a key of type `I`.
 ///
 /// `I` is the type of the key, or of a value that names the key. For example, a `&str` becomes a `String` only if the
 /// limiter accepts the entry. The impl defines `offers`: what may be stored for an offered entry, when an offer may run
@@ -98,7 +99,7 @@ pub trait Insertion<K: Eq + Hash, V, I: LookupKey<K>>: Limiter<K, V> {
 
     /// Called by an insert or an update before `new_value` replaces `old_value`. The map has `length` entries, and
     /// `new_key` names the stored `old_key`. The limiter may change `old_key` only to an equal key. Returns whether the
-    /// new value is accepted. If it is rejected, the map removes the entry.
+    /// new value is accepted. If the value is rejected, the map removes the entry.
     fn on_replace(
         &mut self,
         length: usize,

@@ -21,7 +21,7 @@ pub use unlimited_compact::UnlimitedCompact;
 
 /// States the width of a map's links: 32 bits under `ByLength`, `ByMemoryUsage`, `ByBytes` and `UnlimitedCompact`, and
 /// 64 bits under `Unlimited`, `ByCost` and `ByWeight`. `Storing` has the links of the limiter inside, and `Both` has
-/// the links of its first limiter. The contract does not cover `ByBytes`, `ByWeight` and `Both`.
+/// the links of its first limiter. The contract covers neither `ByBytes` nor `ByWeight` nor `Both`.
 pub fn limiters_fix_their_links<K, V, C: Costed, L: Limiter<K, V>>()
     ensures by_length { ⟦<<ByLength as Limiter<K, V>>::LinkType as LinkType>⟧.MAX ≡ 2 ^ 32 - 1 }
     ensures by_memory_usage { ⟦<<ByMemoryUsage as Limiter<K, V>>::LinkType as LinkType>⟧.MAX ≡ 2 ^ 32 - 1 }

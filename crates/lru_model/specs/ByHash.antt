@@ -1,4 +1,4 @@
--- How a search by a hash calls its closure with one pair after another, and what the search returns.
+-- How a search by a hash calls its closure, pair after pair, and what the search returns.
 use Rattle.std.specs.Prelude.{◌≡◌, ℕ, Bool, true, false, List, [], ◌∷◌, ◌++◌, Contains}
 use Rattle.std.specs.List.{FoldsTo, IsDistinct}
 use Rattle.std.specs.Borrow.{Bor}

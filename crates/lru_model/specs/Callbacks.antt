@@ -10,8 +10,8 @@ use Rattle.lru_model.specs.State.{State, Trims}
 use Rattle.lru_model.specs.Inserts.{Insert}
 
 module _ {K V S : Type 0} where
-  -- The given rules, for a limiter that also has a list in its state. `on_removed` appends each removed pair to the
-  -- list. The list affects nothing else.
+  -- The given rules, with a list added to the state of the limiter. `on_removed` appends each removed pair to the list.
+  -- The list affects nothing else.
   abbrev pub noting : Rules K V S → Rules K V (S × List (K × V))
   noting rules = record {
     is_over_the_limit = λ s n. rules.is_over_the_limit s.0 n;
@@ -27,7 +27,7 @@ module _ {K V S : Type 0} where
     };
   }
 
-  -- the given offers, for a limiter that also has a list in its state; an offer does not change the list
+  -- the given offers, with a list added to the state of the limiter; an offer does not change the list
   abbrev pub noting_offers : {I : Type 0} → Offers K V S I → Offers K V (S × List (K × V)) I
   noting_offers offers = record {
     on_insert = λ s n i v t given. offers.on_insert s.0 n i v t.0 given × (t.1 ≡ s.1);

@@ -14,5 +14,4 @@ module _ {K V : Type 0} (same_key : K → K → Type 0) (same_value : V → V �
       pub pairs : AllZip IsPairClone old.pairs new.pairs
       pub limiter : same_limiter old.limiter new.limiter
       pub hasher : same_hasher old.hasher new.hasher
-      -- apart from its pairs, its limiter and its hasher, the clone equals the map
       pub rest : new ≡ record old { pairs = new.pairs; limiter = new.limiter; hasher = new.hasher }

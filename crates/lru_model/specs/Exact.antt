@@ -15,7 +15,7 @@ use Rattle.lru_model.specs.Inserts.{make_room, replacement, with_replaced, with_
 pub record Report : Type 0 where
   -- the bytes of the larger table for which the limiter was queried, or `None` if the limiter was not queried
   pub asked : Option ℕ
-  -- how many of the oldest pairs were evicted because growth was refused
+  -- the number of oldest pairs that were evicted because growth was refused
   pub evicted : ℕ
   -- whether there is a bucket for the pair
   pub has_bucket : Bool
@@ -31,7 +31,7 @@ module _ {K V S : Type 0} (rules : Rules K V S) where
   abbrev pub refusal : Option ℕ → ℕ → Contents K V S → Report
   refusal asked n c = record { asked = asked; evicted = n; has_bucket = not (is_empty c.pairs) }
 
-  -- what a table reports, for each `Target` into which the table may grow
+  -- the report of a table whose growth leads to the given `Target`
   abbrev pub report_of : Target → ℕ → Contents K V S → Report
   report_of no_table n c = refusal None n c
   report_of same_table n c = at_once
@@ -41,8 +41,8 @@ module _ {K V S : Type 0} (rules : Rules K V S) where
 
   -- what the table of a map may report for a pair with this hash
   pub data MayReport {H : Type 0} (hash : ℕ) (st : State K V S H) (report : Report) : Type 0 where
-    -- The limiter is not queried, and no pair is evicted. Either growth is left, or a rehash is enough, or a deleted
-    -- bucket of a table of more than 16 buckets may take the pair.
+    -- The limiter is not queried, and no pair is evicted. Growth is left, or a rehash is enough, or a deleted bucket
+    -- may take the pair. Only tables of more than 16 buckets have deleted buckets.
     fits : (growth_left st ≡ 0 → full_capacity (buckets st) / 2 < length st.pairs + 1 → 16 < buckets st) →
         report ≡ at_once →
         MayReport hash st report
@@ -64,7 +64,7 @@ module _ {K V S : Type 0} (rules : Rules K V S) where
   queried None s = s
   queried (Some bytes) s = (rules.on_grow s bytes).limiter
 
-  -- the contents after the limiter was queried and pairs were evicted, as the report says
+  -- the contents after what the report says: the limiter was queried, and pairs were evicted
   abbrev pub met : Report → Contents K V S → Contents K V S
   met report c = pops rules report.evicted (record { pairs = c.pairs; limiter = queried report.asked c.limiter })
 
@@ -101,8 +101,8 @@ module _ {K V S I : Type 0} (rules : Rules K V S) (offers : Offers K V S I) (nam
     not_offered : offers.may_run_out old.limiter (length old.pairs) i v → IsErr result → new ≡ old → InsertsNew
     not_admitted : (s : S) → MayGive rules offers names i v old s None →
         result ≡ Ok false → new ≡ record { pairs = old.pairs; limiter = s } → InsertsNew
-    -- The limiter returns a pair to store. The pair is stored if the table reports a bucket for the pair, unless the
-    -- map runs out of memory.
+    -- The limiter returns a pair to store. Unless the map runs out of memory, the pair is stored if the table reports a
+    -- bucket for the pair.
     admitted : (s : S) (pair : K × V) → MayGive rules offers names i v old s (Some pair) →
         (report : Report) → Tells s pair report →
         stored rules report pair (make_room rules (record { pairs = old.pairs; limiter = s })) ≡ (result, new) →
@@ -138,7 +138,7 @@ module _ {K V S I : Type 0} (rules : Rules K V S) (offers : Offers K V S I) (nam
     InsertsInSmallTable i v = InsertsGiven (λ s pair. small_report rules old
         (make_room rules (record { pairs = old.pairs; limiter = s }))) i v (contents old)
 
--- the limiter and the arguments determine what `on_insert` returns, and the limiter after the call
+-- the limiter and the arguments of `on_insert` determine its result, and the limiter after the call
 abbrev pub IsDetermined : {K V S I : Type 0} → Offers K V S I → Type 0
 IsDetermined {K} {V} {S} {I} offers = (s : S) (n : ℕ) (i : I) (v : V) (t u : S) (given other : Option (K × V)) →
     offers.on_insert s n i v t given → offers.on_insert s n i v u other → (t ≡ u) × (given ≡ other)

@@ -25,7 +25,8 @@ module _ {K V S H I : Type 0} (rules : Rules K V S) (offers : Offers K V S I) (n
         (v : V) → makes v → Insert rules offers names hash_of i v old result new →
         MakesNewest makes i old result new
 
-  -- why `get_or_insert` runs out of memory: the closure returned v, and the insert of v ran out of memory
+  -- why `get_or_insert` runs out of memory: the closure returned a value, and the insert of this value ran out of
+  -- memory
   abbrev pub IsOutOfMemoryFor : (makes : V → Type 0) → I → State K V S H → State K V S H → Type 0
   IsOutOfMemoryFor makes i old new = (v : V) × makes v × IsOutOfMemory rules offers names hash_of i v old new
 

@@ -55,7 +55,7 @@ module _ {K V S I : Type 0} (rules : Rules K V S) (offers : Offers K V S I) (nam
   abbrev pub with_old_value : K × V → I → V → Contents K V S → K × V
   with_old_value pair i v c = let r = replacement pair i v c in (r.key, r.old_value)
 
-  -- the contents after the limiter accepted the new value: the pair is now `with_new_value`, and the newest
+  -- the contents after the limiter accepted the new value: the pair is now `with_new_value`, and is the newest
   abbrev pub with_replaced : K × V → I → V → Contents K V S → Contents K V S
   with_replaced pair i v c = record {
     pairs = with_new_value pair i v c ∷ without (names i) c.pairs;
@@ -106,8 +106,8 @@ module _ {K V S I : Type 0} (rules : Rules K V S) (offers : Offers K V S I) (nam
           PlacesNew rules hash_of pair (record old { limiter = s }) result new →
           Insert i v old result new
 
-    -- Why the table may need memory for the pair that the limiter returned. No growth is left, and either the table has
-    -- no buckets, or the map contains a pair after `make_room`. A rehash of a table without pairs needs no memory.
+    -- Why the table may need memory for the pair that the limiter returned. No growth is left. The table has no
+    -- buckets, or the map contains a pair after `make_room`. A rehash of a table without pairs needs no memory.
     pub record NeedsMemory (i : I) (v : V) (old : State K V S H) : Type 0 where
       pub no_growth_left : growth_left old ≡ 0
       pub s : S

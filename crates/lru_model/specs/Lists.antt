@@ -41,11 +41,11 @@ module _ {X : Type 0} where
   IsFront xs ys = (rest : List X) × (ys ≡ xs ++ rest)
 
 module _ {K V : Type 0} where
-  -- the list with the pair of the named key moved to the front
+  -- the list after the pair of the named key moved to the front
   abbrev pub front : (K → Bool) → List (K × V) → List (K × V)
   front names pairs = after (lookup_entry names pairs) (without names pairs)
 
-  -- the list with the pair of the named key moved to the end
+  -- the list after the pair of the named key moved to the end
   abbrev pub back : (K → Bool) → List (K × V) → List (K × V)
   back names pairs = without names pairs ++ option_to_list (lookup_entry names pairs)
 
@@ -62,11 +62,11 @@ module _ {K V : Type 0} where
   other_places names (pair ∷ pairs) [] = []
   other_places names (pair ∷ pairs) (b ∷ places) = if names pair.0 then places else b ∷ other_places names pairs places
 
-  -- the list of places with the place of the named key's pair moved to the front
+  -- the list of places, after the place of the named key's pair moved to the front
   abbrev pub front_places : (K → Bool) → List (K × V) → List ℕ → List ℕ
   front_places names pairs places = after (place_of names pairs places) (other_places names pairs places)
 
-  -- the list of places with the place of the named key's pair moved to the end
+  -- the list of places, after the place of the named key's pair moved to the end
   abbrev pub back_places : (K → Bool) → List (K × V) → List ℕ → List ℕ
   back_places names pairs places = other_places names pairs places ++ option_to_list (place_of names pairs places)
 

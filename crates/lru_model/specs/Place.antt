@@ -31,7 +31,7 @@ pub record FillsBucket (hash : ℕ) (old new : TableState) : Type 0 where
   pub spends : ((bucket_at old.states bucket ≡ empty) × (growth_left_of new.states + 1 ≡ growth_left_of old.states))
       ⊎ ((bucket_at old.states bucket ≡ deleted) × (16 < length old.states) × (growth_left_of new.states ≡ growth_left_of old.states))
 
--- No bucket of a table of n pairs takes a pair with this hash. No growth is left. If n is above 0, the first free
+-- In a table of n pairs, no bucket takes a pair with this hash. No growth is left. If n is above 0, the first free
 -- bucket in a search for the hash is empty (not deleted). If n is 0, the table is not searched.
 pub record NoBucketTakes (hash n : ℕ) (states : List BucketState) : Type 0 where
   pub no_growth_left : growth_left_of states ≡ 0

@@ -14,7 +14,6 @@ module _ {K V S H : Type 0} (n : ℕ) (st : State K V S H) where
 
   -- why a reservation changes nothing
   pub data ReservesNothing (result : Result (Unit {0}) ReserveError) : Type 0 where
-    -- `growth_left` is enough for n pairs.
     enough_room : n ≤ growth_left st → length st.pairs + n < 2 ^ 64 → result ≡ Ok tt → ReservesNothing result
     -- The number of pairs plus n does not fit 64 bits, or there is no table for this sum.
     too_many : 2 ^ 64 ≤ length st.pairs + n → result ≡ Err TooLarge → ReservesNothing result

@@ -25,8 +25,8 @@ AreAmong {K} named test = (key : K) → named key ≡ true → test key ≡ true
 module _ {K V S H I : Type 0} (rules : Rules K V S) (offers : Offers K V S I) (names : I → K → Bool)
     (hash_of : H → K → ℕ) where
   -- How one call changes a map. A call that only reads is no step. `gets` is a look-up by a hash, or by a key of any
-  -- type. If the look-up finds a pair, it promotes this pair. A get that inserts is the step `gets` or the step
-  -- `inserts`. All inserted and updated keys have one type, I.
+  -- type. If the look-up finds a pair, it promotes this pair. A get that inserts a missing key is the step `gets` or
+  -- the step `inserts`. All inserted and updated keys have one type, I.
   pub data Step (old new : State K V S H) : Type 0 where
     inserts : (key : I) (value : V) (result : Result Bool AllocError)
         → Insert rules offers names hash_of key value old result new → Step old new
@@ -79,8 +79,8 @@ module _ {K V S H I : Type 0} (rules : Rules K V S) (offers : Offers K V S I) (n
   abbrev pub StepAmong : (K → Bool) → State K V S H → State K V S H → Type 0
   StepAmong test old new = (step : AnyStep old new) × NamesOnly test old new step
 
-  -- An insert either evicts only the oldest pairs, or removes only the pair of the inserted key because the limiter
-  -- rejected the new value.
+  -- An insert evicts only the oldest pairs. Or the limiter rejected the new value, and the insert removes only the pair
+  -- of the inserted key.
   abbrev pub InsertEvictsOldest : (old new : State K V S H) → AnyStep old new → Type 0
   InsertEvictsOldest old new (calls (inserts key value result h)) = EvictsOldest (names key)
       (λ pair. (replacement rules offers names pair key value (contents old)).taken ≡ false) old.pairs new.pairs
@@ -90,7 +90,7 @@ module _ {K V S H I : Type 0} (rules : Rules K V S) (offers : Offers K V S I) (n
 abbrev pub no_keys : {K : Type 0} → ⊥ → K → Bool
 no_keys key k = false
 
--- the `offers` of these calls, which offer the limiter nothing
+-- the `offers` of calls that offer the limiter nothing
 abbrev pub no_offers : {K V S : Type 0} → Offers K V S ⊥
 no_offers = record {
   on_insert = λ limiter n key value left pair. ⊥;
@@ -120,7 +120,7 @@ module _ {K V S H : Type 0} {IsStep : State K V S H → State K V S H → Type 0
   EachStep (goes_on {old} mid step sized run) = Holds old mid step × EachStep run
 
 module _ {K V S H : Type 0} (rules : Rules K V S) (hash_of : H → K → ℕ) where
-  -- A run of calls that neither insert nor update a key, writes of values, and changes of the limiter. Such a run is
+  -- A run of writes of values, changes of the limiter, and calls that neither insert nor update a key. Such a run is
   -- also a `Run` for any type I of inserted keys (`run_without_insert` in `proofs/EveryCall`).
   abbrev pub RunWithoutInsert : (new old : State K V S H) → Type 0
   RunWithoutInsert = Run (AnyStep rules no_offers no_keys hash_of)

@@ -10,7 +10,7 @@ module _ {K V S H : Type 0} where
   abbrev pub IsTight : State K V S H → Type 0
   IsTight st = IfSome (buckets_for st.max (length st.pairs)) (λ count. buckets st ≤ count)
 
-  -- the pairs need `count` buckets, and the table has more buckets
+  -- the pairs need `count` buckets, and the table has more than `count` buckets
   abbrev pub IsLooseFor : ℕ → State K V S H → Type 0
   IsLooseFor count st = (buckets_for st.max (length st.pairs) ≡ Some count) × (count < buckets st)
 

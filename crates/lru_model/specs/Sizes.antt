@@ -46,8 +46,8 @@ abbrev pub table_with : ℕ → Option ℕ → Target
 table_with entry_bytes None = no_table
 table_with entry_bytes (Some buckets) = table_of buckets (usage entry_bytes buckets)
 
--- How a table of `buckets` buckets grows for `pairs` pairs, which need `need` buckets. If the table has fewer buckets
--- than `need`, it grows to `need` buckets. If the table has enough buckets, and `pairs` is at most half of the
+-- How a table of `buckets` buckets grows to hold `pairs` pairs. These pairs need `need` buckets. If the table has fewer
+-- buckets than `need`, it grows to `need` buckets. If the table has enough buckets, and `pairs` is at most half of the
 -- capacity, the table keeps its size. If `pairs` is more than half of the capacity, the number of buckets is doubled.
 -- If the new table would be too large, the table does not grow (`no_table`).
 abbrev pub target_from : ℕ → ℕ → ℕ → ℕ → Option ℕ → Target

@@ -18,7 +18,6 @@ pub record Contents (K V S : Type 0) : Type 0 where
 
 -- the bucket table, without the pairs
 pub record TableState : Type 0 where
-  -- whether each bucket is empty, deleted or full
   pub states : List BucketState
   -- the bucket number of each pair, newest pair first
   pub places : List ℕ
@@ -29,10 +28,10 @@ empty_table = record { states = []; places = [] }
 pub record Counts : Type 0 where
   -- how many insertions the table has made; new and moved entries both count
   pub insertions : ℕ
-  -- how many entries the inserts moved in all, and how many new entries the inserts stored in all
+  -- how many entries all inserts together moved, and how many new entries they stored
   pub moved : ℕ
   pub placed : ℕ
-  -- how many entries all shrinks have rehashed
+  -- how many entries all shrinks together have rehashed
   pub shrunk : ℕ
 
 pub record State (K V S H : Type 0) : Type 0 where
@@ -79,15 +78,15 @@ pub record GivesBack (was n : ℕ) (old new : List BucketState) : Type 0 where
   pub keeps : growth_left_of old ≤ growth_left_of new
   pub at_most : n + growth_left_of new ≤ was + growth_left_of old
   pub exact : length old ≤ 16 → n + growth_left_of new ≡ was + growth_left_of old
-  -- if no pair was removed, each bucket keeps its state
   pub untouched : n ≡ was → new ≡ old
 
 -- the first free bucket (empty or deleted) in a search for the hash has this state
 abbrev pub FirstFreeIs : BucketState → ℕ → List BucketState → Type 0
 FirstFreeIs state hash states = (b : ℕ) × IsFirstFree states hash b × (bucket_at states b ≡ state)
 
--- The pair at `place` was removed, and its bucket is now free. The bucket is deleted if some run of 16 neighbouring
--- buckets around it has no empty bucket, and otherwise empty. The other buckets keep their states.
+-- The pair at `place` was removed, and its bucket is now free. If some run of 16 neighbouring buckets includes this
+-- bucket, but no empty bucket, the bucket is deleted. Otherwise, the bucket is empty. The other buckets keep their
+-- states.
 pub record Frees (place : Option ℕ) (old new : TableState) : Type 0 where
   pub bucket : ℕ
   pub there : place ≡ Some bucket
@@ -134,8 +133,8 @@ module _ {K V S H : Type 0} where
   abbrev pub IsSized : State K V S H → Type 0
   IsSized st = IsSound (length st.pairs) st.entry_bytes st.max st.table.states st.counts
 
-  -- twice the number of full and deleted buckets, minus the number of entries that the table may hold, or 0 if this is
-  -- negative
+  -- twice the number of full and deleted buckets, minus the number of entries that the table may hold, or 0 if this
+  -- difference is negative
   abbrev pub potential : State K V S H → ℕ
   potential st = full_capacity (buckets st) - 2 * growth_left st
 

@@ -29,8 +29,8 @@ module _ {K V S H : Type 0} where
         new.counts.moved + potential new + 2 * old.counts.placed
         ≤ old.counts.moved + potential old + 2 * new.counts.placed
 
-  -- The number that `count` reads, plus the `potential`, rises by at most m for each stored entry, plus n for each
-  -- entry that a shrink rehashed. This bound holds until the count `placed` or `shrunk` stops at its maximum.
+  -- Take the number that `count` reads, plus the `potential`. This sum rises by at most m for each stored entry, and n
+  -- for each entry that a shrink rehashed. This bound holds until the count `placed` or `shrunk` stops at its maximum.
   pub record PaysFor (count : Counts → ℕ) (m n : ℕ) (old new : State K V S H) : Type 0 where
     pub placed : old.counts.placed ≤ new.counts.placed
     pub shrunk : old.counts.shrunk ≤ new.counts.shrunk
@@ -67,8 +67,8 @@ pub record IsNewest {K V : Type 0} (names : K → Bool) (pairs : List (K × V)) 
 -- limiter rejects the new value for this pair.
 pub data EvictsOldest {K V : Type 0} (names : K → Bool) (refuses : K × V → Type 0) (old new : List (K × V))
     : Type 0 where
-  -- Take the pair of the inserted key, and then the old pairs of other keys. `new` is a front of this list, maybe
-  -- empty.
+  -- Take the pair of the inserted key, and then the old pairs of other keys. The list begins with the list `new`, which
+  -- may be empty.
   behind : (newest : K × V) → names newest.0 ≡ true → IsFront new (newest ∷ without names old) →
       EvictsOldest names refuses old new
   -- The inserted key was new, and its pair is not stored. The oldest pairs may have been evicted.
@@ -122,7 +122,7 @@ pub record KeepsValues {K V S I : Type 0} (offers : Offers K V S I) : Type 0 whe
   pub given : (s : S) (n : ℕ) (i : I) (v : V) (t : S) (k : K) (w : V) → offers.on_insert s n i v t (Some (k, w)) → w ≡ v
   pub replaced : (s : S) (n : ℕ) (k : K) (i : I) (v w : V) → (offers.on_replace s n k i v w).new_value ≡ w
 
--- `bytes_of k v`: how many bytes the pair of k and v owns
+-- `bytes_of k v`: the number of bytes that the pair of k and v owns
 module _ {K V S H : Type 0} (bytes_of : K → V → ℕ) where
   -- the bytes of the table plus the bytes that the pairs own are at most n
   abbrev pub TakesAtMost : ℕ → State K V S H → Type 0

@@ -67,8 +67,8 @@ pub fn inserts_evict_the_oldest<
         new.pairs }
 {}
 
-/// If an insert finds n entries, leaves m, and passes p to its callback, m + p is at most n + 1 (`few`). An insert with
-/// a callback also satisfies `Insert` (`step`).
+/// If an insert into a map of n entries leaves m entries, and passes p entries to its callback, m + p is at most n + 1
+/// (`few`). An insert with a callback also satisfies `Insert` (`step`).
 pub fn inserts_pass_few<K: Eq + Hash, V, I: LookupKey<K>, L: Insertion<K, V, I>, S: KeyHasher<K>>()
     ensures few { (key : I) (value : V) (old : State K V L S) (result : Result Bool AllocError)
         (passed : List (K × V)) (new : State K V L S) →
@@ -80,10 +80,10 @@ pub fn inserts_pass_few<K: Eq + Hash, V, I: LookupKey<K>, L: Insertion<K, V, I>,
         Insert L.rules L.offers I.names S.hash_of key value old result new }
 {}
 
-/// A `Report` (`specs/Exact`) says whether a table queried the limiter for an insert, and how many entries a refused
-/// growth evicted. If a table has up to 16 buckets, `small_report` computes the report from the entries, the limiter,
-/// the number of buckets, the growth left, and constants of the map. The insert changes the entries as the report says,
-/// unless memory runs out.
+/// A `Report` (`specs/Exact`) says whether a table queried the limiter for an insert, and how many entries were evicted
+/// because growth was refused. If a table has up to 16 buckets, `small_report` computes the report from the entries,
+/// the limiter, the number of buckets, the growth left, and constants of the map. The insert changes the entries as the
+/// report says, unless memory runs out.
 pub fn small_inserts_are_exact<
     K: Eq + Hash,
     V,
@@ -99,8 +99,8 @@ pub fn small_inserts_are_exact<
 
 /// An insert changes the entries as the `Report` of the table says (`exact`; see `small_inserts_are_exact`). Every
 /// insert has a report (`given`). Suppose that the limiter and the arguments determine what `on_insert` does
-/// (`IsDetermined`), and that two inserts return `Ok`. If both inserts have equal arguments and reports, and begin with
-/// equal entries and limiters, they return equal results, and end with equal entries and limiters (`alike`).
+/// (`IsDetermined`), and that two inserts return `Ok`. If both inserts have equal arguments and reports, and find equal
+/// entries and limiters, they return equal results, and leave equal entries and limiters (`alike`).
 pub fn inserts_are_exact_unless_refused<
     K: Eq + Hash,
     V,
@@ -246,7 +246,7 @@ pub fn growth_keeps_the_list<K: Eq + Hash, V, L: Limiter<K, V>, S: KeyHasher<K>>
         (new.pairs ≡ old.pairs) ⊎ IsRefusedGrowth L.rules old }
 {}
 
-/// If no two keys are equal, a removed key is not in the map afterwards.
+/// If no two keys of a map are equal, a removed key is not in the map afterwards.
 pub fn removed_keys_are_absent<
     K: Eq + Hash,
     V,

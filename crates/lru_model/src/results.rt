@@ -28,7 +28,7 @@ pub struct Inserted<V> {
     pub unkept: Option<V>,
 }
 
-/// What an update did, with a value that is not in the map afterwards.
+/// What an update did. Each variant contains a value that is not in the map afterwards.
 ///
 /// ```
 /// assert_eq!(rt; map.update(1, 11), Updated::Replaced(10));
@@ -55,7 +55,7 @@ pub enum Updated<V> {
 /// ```
 #[derive(Clone, Copy, Debug, PartialEq, Eq, Error)]
 pub enum ReserveError {
-    /// No table can hold the entries plus the reserved entries, or the sum of the two numbers overflows.
+    /// No table can hold the entries of the map and the entries to reserve, or the number of both together overflows.
     #[error("too large")]
     TooLarge = 1,
     /// The limiter refused the larger table.

@@ -33,9 +33,9 @@ pub fn bytes_of(entry_bytes: usize, buckets: usize) -> usize
     (entry_bytes * buckets + 15) / 16 * 16 + buckets + 16
 }
 
-/// Returns the number of buckets and the bytes of the next table, if a table of `buckets` buckets grows to hold `pairs`
+/// Returns the buckets and the bytes of the table into which a table of `buckets` buckets grows to hold `pairs`
 /// entries. `pairs` must be more than half of the capacity of the old table. Returns `None` if the larger table would
-/// have `max` buckets or more, which links cannot number, or would take more than `isize::MAX - 15` bytes.
+/// have `max` or more buckets (too many for the links), or would take more than `isize::MAX - 15` bytes.
 #[tactic(auto, unfolding(crate::specs::Sizes::target))]
 pub fn larger_table(
     max: usize,

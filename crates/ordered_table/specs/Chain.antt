@@ -9,7 +9,7 @@ use Rattle.ordered_table.specs.OrderedTable.{bucket_after, bucket_before}
 use Rattle.ordered_table.specs.declared.linked.Entry.{Entry}
 use Rattle.ordered_table.specs.declared.linked.chain.Chain.{Chain}
 
--- the bucket with the pair of the entry, without the links
+-- the same bucket, but with a pair in place of the entry with its links
 abbrev pub pair_slot : {K V N : Type 0} → Slot (Entry K V N) → Slot (K × V)
 pair_slot empty = empty
 pair_slot deleted = deleted
@@ -23,7 +23,8 @@ module _ {N : Type 0} (link : ℕ → N) (none : N) where
   link_to None = none
   link_to (Some b) = link b
 
--- Follows the link `from`, and then the links to older entries. Lists n buckets, or fewer if the links end.
+-- The buckets to which the link `from`, and then the links to older entries, lead: n buckets, or fewer if the links
+-- end.
 abbrev pub along : {K V N : Type 0} → (N → ℕ) → ℕ → List (Slot (Entry K V N)) → N → List ℕ
 along number zero slots from = []
 along number (suc n) slots from = unwrap_or (option_map (λ entry. number from ∷ along number n slots entry.older)
@@ -61,11 +62,11 @@ module _ {K V N : Type 0} (number : N → ℕ) where
   SetsOlder = SetsLink (λ entry. entry.older) (λ entry. entry.newer)
 
 module _ {N : Type 0} (number : N → ℕ) (none : N) (links : List N) where
-  -- the link to an entry's new bucket, computed from the link l to its old bucket
+  -- the link to the new bucket of an entry, if l is the link to its old bucket
   abbrev pub moved_link : N → N
   moved_link l = slice_index_or links (number l) none
 
-  -- the link is `none`, or `links` contains the new link for its bucket
+  -- the link is `none`, or leads to a bucket for which `links` contains the new link
   abbrev pub HasPlace : N → Type 0
   HasPlace l = (l ≡ none) ⊎ (number l < length links)
 
@@ -117,11 +118,11 @@ module _ {K V N : Type 0} (number : N → ℕ) (link : ℕ → N) (none : N) whe
   abbrev pub HasGap : Chain K V N → List ℕ → ℕ → N → N → Type 0
   HasGap chain = IsGap chain.table.slots chain.newest chain.oldest
 
-  -- the links keep an order of some buckets, and b is among them
+  -- the links keep an order of some buckets, and b is one of these buckets
   abbrev pub InChain : Chain K V N → ℕ → Type 0
   InChain chain b = (order : List ℕ) × KeepsOrder chain order × Contains order b
 
-  -- the links keep an order of some buckets, and b is not among them
+  -- the links keep an order of some buckets, and b is none of these buckets
   abbrev pub OutOfChain : Chain K V N → ℕ → Type 0
   OutOfChain chain b = (order : List ℕ) × KeepsOrder chain order × (Contains order b → ⊥)
 

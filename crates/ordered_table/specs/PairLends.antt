@@ -6,7 +6,7 @@ use Rattle.ordered_table.specs.OrderedTable.{OrderedTable, with_pair}
 use Rattle.ordered_table.specs.contracts.ordered.OrderedTable.{the_row as linked_row}
 use Rattle.ordered_table.specs.contracts.linked.LinkedTable.{the_row as links_row}
 
--- after the borrow r ends, the pair in bucket b has the value that was written last through r
+-- after the borrow r ends, the pair in bucket b has the last value written through r
 abbrev pub lends_pair : (K V N : RattleType) → link_type.Ghosts N.Denot
     → MutBor (OrderedTable K.Denot V.Denot) → ℕ → Bor K.Denot × MutBor V.Denot → Fml
 lends_pair K V N links t b r = follows (linked_row K V N links) V t.ghost_name r.1.ghost_name

@@ -1,4 +1,4 @@
--- How the fields of a walk over the pairs determine which pairs are left to visit. No public contract uses this module.
+-- How the fields of a walk determine the pairs that the walk has still to visit. No public contract uses this module.
 use Rattle.std.specs.Prelude.{◌≡◌, ℕ, ◌<◌, List, [], ◌∷◌, ◌++◌, length, take, nat_eq, if◌then◌else◌, Some}
 use Rattle.ordered_table.specs.OrderedTable.{OrderedTable, IsLinked, entries_in}
 use Rattle.lru_model.specs.Lists.{first as first_bucket, last as last_bucket}
@@ -9,7 +9,7 @@ from_bucket b [] = []
 from_bucket b (c ∷ cs) = if nat_eq c b then c ∷ cs else from_bucket b cs
 
 module _ {K V : Type 0} (t : OrderedTable K V) where
-  -- the next `left` pairs of the walk, from the pair in the bucket `front` on
+  -- the next `left` pairs of the walk; the first of these pairs is in the bucket `front`
   abbrev pub rest_of : ℕ → ℕ → List (K × V)
   rest_of front left = entries_in t.slots (take left (from_bucket front t.order))
 

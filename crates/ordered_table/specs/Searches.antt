@@ -1,4 +1,4 @@
--- Which pairs of an `OrderedTable` a search by a hash passes to its closure.
+-- The pairs of an `OrderedTable` that a search by a hash passes to its closure.
 use Rattle.std.specs.Prelude.{◌≡◌, ℕ, Bool, true, false, List, [], ◌∷◌, ◌++◌, Some, Contains}
 use Rattle.std.specs.List.{FoldsTo}
 use Rattle.std.specs.Borrow.{Bor}
@@ -25,8 +25,8 @@ module _ {K V F : Type 0} (closure : Mut F (Bor K × (Bor V × Unit {0})) Bool) 
     pub last : F
     pub accepted : AnswersPair between b true last
 
-  -- A search for the hash called f with the pairs in the buckets `asked`, and f rejected each pair. For any hashes that
-  -- fit the table, `asked` contains each bucket whose entry has the searched hash.
+  -- A search for the hash called f with the pairs in the buckets `asked`, and f rejected each pair. Suppose that the
+  -- hashes `hash_of` fit the table. If bucket b is full and `hash_of b` is the searched hash, `asked` contains b.
   pub record FindsNoPair (hash : ℕ) (f : F) : Type 0 where
     pub asked : List ℕ
     pub search : IsSearch slots hash asked

@@ -16,7 +16,7 @@ use Rattle.schnellru.specs.declared.map.entry.OccupiedEntry.{OccupiedEntry}
 use Rattle.schnellru.specs.contracts.map.entry.OccupiedEntry.{the_row}
 use mir.Syntax.{named}
 
--- `entry` is an `OccupiedEntry`; the other parameters are members of the traits on which its type depends
+-- `entry` is an `OccupiedEntry`; the other parameters are members of the traits on which this type depends
 module _ {K V L S N H : Type 0} {equal : equality.Ghosts K} {input : hashing.Ghosts K} {limits : limiter.Ghosts L K V N}
     {links : link_type.Ghosts N}
     {keyed : key_hasher.Ghosts S K H} {build : builder.Ghosts S H} {hash : hasher.Ghosts H}
@@ -56,7 +56,7 @@ module _ (K V L S N H : RattleType) (key : HashMembers K.Denot)
   keeps_if_none m r = RestsIfNone (map_row K V L S N H key limits links hashed hash) m (λ e. entry_lender e) r
       (λ n. n ≡ m.now)
 
-  -- After the loan, the entry has the value that was written last through r. `lends_into` says the same of the map.
+  -- After the loan, the entry has the last value written through r. `lends_into` says the same of the map.
   abbrev pub lends_found : MutBor Entry → MutBor V.Denot → Fml
   lends_found e r = Lends entry_row V e r (λ last. entry_written e.now last)
 

@@ -25,7 +25,7 @@ abbrev pub lent_name : {K V : Type 0} → Option (Bor K × MutBor V) → maybe.O
 lent_name (Some pair) = maybe.some pair.1.ghost_name
 lent_name None = maybe.none
 
--- `walk` is an `IterMut`; the other parameters are members of the traits on which its type depends
+-- `walk` is an `IterMut`; the other parameters are members of the traits on which this type depends
 module _ {K V L S N H : Type 0} {equal : equality.Ghosts K} {input : hashing.Ghosts K} {limits : limiter.Ghosts L K V N}
     {links : link_type.Ghosts N}
     {keyed : key_hasher.Ghosts S K H} {build : builder.Ghosts S H} {hash : hasher.Ghosts H}
@@ -48,7 +48,7 @@ module _ {K V L S N H : Type 0} {equal : equality.Ghosts K} {input : hashing.Gho
   walk_written at w = record walk.map { now = record walk.map.now { pairs = set_value_at walk.map.now.pairs at w } }
 
   -- The walk after it lent the first remaining pair, and the caller wrote w. `walk_after_last` says the same of the
-  -- last pair.
+  -- last remaining pair.
   abbrev pub walk_after_first : V → IterMut K V L S N H equal input limits links keyed build hash
   walk_after_first w = record walk {
     map = walk_written walk.start w;
@@ -86,7 +86,7 @@ module _ (K V L S N H : RattleType) (key : HashMembers K.Denot)
       links (record { hash_of = hashed.hash_of })
       (record { build_hasher = hashed.build_hasher }) hash)) where
     -- If pairs remained, the walk lends the first remaining pair until the borrow r ends. `lends_next_back` says the
-    -- same of the last.
+    -- same of the last remaining pair.
     abbrev pub lends_next : Option (Bor K.Denot × MutBor V.Denot) → Fml
     lends_next r = follows_if walk_row V walk.ghost_name (lent_name r) (λ w. walk_after_first walk.now w) walk.now
 

@@ -113,7 +113,7 @@ impl<K: Eq + Hash, V, L: Limiter<K, V>, S: KeyHasher<K>> LruMap<K, V, L, S> {
         Some(self.entries.index_of(b))
     }
 
-    /// Returns the entry one step older than the entry of a key. Returns `None` if the key is not there, or if its
+    /// Returns the next entry that is older than the entry of a key. Returns `None` if the key is not there, or if its
     /// entry is the oldest. So code can step through a map without an iterator.
     ///
     /// ```
@@ -131,7 +131,7 @@ impl<K: Eq + Hash, V, L: Limiter<K, V>, S: KeyHasher<K>> LruMap<K, V, L, S> {
         Some(self.entries.pair(self.entries.older_unless_last(b)))
     }
 
-    /// Returns the entry one step newer than the entry of a key. Returns `None` if the key is not there, or if its
+    /// Returns the next entry that is newer than the entry of a key. Returns `None` if the key is not there, or if its
     /// entry is the newest.
     ///
     /// ```

@@ -1,4 +1,4 @@
-//! The figures of a `Table`, and which buckets are full.
+//! The sizes and counts of a `Table`, and which buckets are full.
 ghost use Rattle.std.specs.Prelude.{◌≡◌, ◌↔◌, ◌<◌, nat_lt, length, IsTrue};
 ghost use Rattle.std.specs.Mem.{type_size};
 ghost use prog.Memory.{capped};

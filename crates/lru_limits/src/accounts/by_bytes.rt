@@ -16,8 +16,8 @@ use std::marker::Model;
 /// `lru_model`, the table plus the owned bytes are within the limit after each call of the map. While the table grows,
 /// the old table also exists, and is not counted.
 ///
-/// `shrink_to_fit` does not notify the limiter. `map.set_limiter(map.limiter().with_table(map.memory_usage() as u64))`
-/// makes the limiter count the smaller table.
+/// `shrink_to_fit` does not notify the limiter. To make the limiter count the smaller table, call
+/// `map.set_limiter(map.limiter().with_table(map.memory_usage() as u64))`.
 ///
 /// ```
 /// let mut limiter = ByBytes::new(200);

@@ -23,8 +23,8 @@ use std::hash::Hash;
 
 /// If the limiter changes no evicted or removed entry (`ChangesNoPair`), an insert loses no entry. `LosesNothing` says,
 /// for each result, where the new entry and the old entries are afterwards (`all`). If the result is true, the map has
-/// the stored entry and the newest entries of other keys, and the callback got the oldest entries, oldest first
-/// (`stored`). Whatever the result, every old entry of another key is in the map or was passed to the callback
+/// the stored entry, and the newest entries of other keys. The callback got the oldest entries, oldest first
+/// (`stored`). Whatever the result is, every old entry of another key is in the map or was passed to the callback
 /// (`others`).
 pub fn nothing_is_lost<K: Eq + Hash, V, I: LookupKey<K>, L: Insertion<K, V, I>, S: KeyHasher<K>>()
     ensures all { (key : I) (value : V) (old : State K V L S) (result : Result Bool AllocError)
@@ -46,9 +46,9 @@ pub fn nothing_is_lost<K: Eq + Hash, V, I: LookupKey<K>, L: Insertion<K, V, I>, 
 {}
 
 /// If growth is left, an insert changes the entries as it would change a plain list without a table (`list`), whatever
-/// `on_grow` returns. Suppose that growth is left, and that the limiter accepts a new entry, and is not over its limit
-/// with this entry. Then the insert returns true, evicts nothing (`added`), and passes nothing to its callback
-/// (`passed`).
+/// `on_grow` returns. Suppose that growth is left, that the limiter accepts a new entry, and that the limiter is not
+/// over its limit with this entry. Then the insert returns true, evicts nothing (`added`), and passes nothing to its
+/// callback (`passed`).
 pub fn inserts_with_room_are_exact<
     K: Eq + Hash,
     V,
@@ -100,8 +100,8 @@ pub fn inserts_leave_the_newest<K: Eq + Hash + Drop, V: Drop, S: KeyHasher<K>>()
 {}
 
 /// If `max_length` is at most 939,524,096, and an entry has fewer than 4,294,967,295 bytes, a new map with `ByLength`
-/// keeps to its length (`KeepsToLength`, `begins`). A map that keeps to its length still does after any `Step` that
-/// leaves a sound table (`goes_on`), and after any write to a value (`written`).
+/// keeps to its length (`KeepsToLength`, `begins`). A map still keeps to its length after any `Step` that leaves a
+/// sound table (`goes_on`), and after any write to a value (`written`).
 pub fn maps_keep_to_their_length<K: Eq + Hash + Drop, V: Drop, S: KeyHasher<K>>()
     ensures begins { (most entry_bytes : ℕ) (hasher : S) →
         most ≤ most_exact_length → entry_bytes < 2 ^ 32 - 1 →

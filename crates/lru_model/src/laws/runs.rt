@@ -11,8 +11,9 @@ ghost use Rattle.lru_model.specs.Theorems.{PaysForMoves, UsesAtMost, IsSummed, o
 use lru_limits::{Budgeted, Insertion, KeyHasher, Limiter, LookupKey};
 use std::hash::Hash;
 
-/// If a map satisfies `IsMap`, it still does after any sequence of calls, and of writes through references into the
-/// map. `IsMap` implies that no two keys are equal, and that the bound `paid` of `inserts_pay_for_moves` holds.
+/// If a map satisfies `IsMap`, the map also satisfies `IsMap` after any sequence of calls and writes through references
+/// into the map. `IsMap` implies that no two keys are equal, and that the bound `paid` of `inserts_pay_for_moves`
+/// holds.
 pub fn runs_keep_maps<K: Eq + Hash, V, I: LookupKey<K>, L: Insertion<K, V, I>, S: KeyHasher<K>>()
     ensures map { (old new : State K V L S) →
         Run (AnyStep L.rules L.offers I.names S.hash_of) new old →
@@ -29,7 +30,7 @@ pub fn runs_keep_sums<K: Eq + Hash, V, I: LookupKey<K>, L: Insertion<K, V, I>, S
 {}
 
 /// During any sequence of calls, the count of moved entries, plus the `potential` (`specs/State`), rises by at most 2
-/// for each stored entry, plus 1 for each entry that a shrink rehashed. The bound holds until the count `placed` or
+/// for each stored entry, and 1 for each entry that a shrink rehashed. The bound holds until the count `placed` or
 /// `shrunk` reaches `u64::MAX`.
 pub fn runs_pay_for_moves<
     K: Eq + Hash,

@@ -52,8 +52,8 @@ impl<K, V, N: LinkType> Chain<K, V, N> {
         }
     }
 
-    // Returns whether the link leads to a bucket. To save an instruction, compares the link with the number of buckets
-    // instead of `MAX`.
+    // Returns whether the link leads to a bucket. To save an instruction, compares the link with the number of buckets,
+    // not with `MAX`.
     #[inline]
     pub(crate) fn leads(&self, link: N) -> bool
         requires some { 0 < length self.now.table.slots }
@@ -150,8 +150,8 @@ impl<K, V, N: LinkType> Chain<K, V, N> {
         }
     }
 
-    // Rewrites the links of the moved entries, and the two ends. `links` contains the new bucket for each old bucket
-    // that was full.
+    // Rewrites the links of the moved entries, and the two ends. For each old bucket that was full, `links` contains
+    // the new bucket.
     pub(crate) fn rewrite(&mut self, links: &[N])
         requires reached { length self.old.table.slots < N.number N.MAX }
         requires moved { Moved N.number N.link N.MAX self.old links.now }

@@ -34,7 +34,8 @@ pub(crate) fn oldest<K, V, N: LinkType>(
 {
     let b = table.oldest();
     match promoted {
-        // In the links, the promoted bucket is the last. So the bucket before it is the oldest, if there is one.
+        // In the links, the promoted bucket is the last bucket. So the bucket before the promoted bucket, if any, is
+        // the oldest.
         Some(p) if p == b => {
             if table.newest() == p {
                 p

@@ -7,7 +7,7 @@ use Rattle.lru_model.specs.State.{State, TableState, Counts, IsMap}
 use Rattle.schnellru.specs.Inside.Fields.{Fields}
 use Rattle.ordered_table.specs.OrderedTable.{OrderedTable, IsLinked, KeysFit, pairs_of}
 
--- the counts of a map: the table has `insertions` and `placed`, and the fields have `moved` and `shrunk`
+-- the counts of a map: `insertions` and `placed` come from the table, and `moved` and `shrunk` come from the fields
 abbrev pub counts_of : {S H : Type 0} → Insertions → Fields S H → Counts
 counts_of insertions fields = record {
   insertions = insertion_count insertions;

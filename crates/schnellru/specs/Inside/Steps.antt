@@ -46,6 +46,5 @@ pub record IsOffered {K V S H I : Type 0} (rules : Rules K V S) (offers : Offers
   pub taken : (replacement rules offers names pair i v (contents old)).taken ≡ result.0
   pub unkept : result.1 ≡ unkept_of (replacement rules offers names pair i v (contents old))
   pub accepted : result.0 ≡ true → Leaves old (with_updated rules offers names pair i v (contents old)) new
-  -- if the value is accepted, each pair stays in its bucket
   pub place : result.0 ≡ true → new.table.places ≡ old.table.places
   pub rejected : result.0 ≡ false → Leaves old (with_removed rules offers names pair i v (contents old)) new

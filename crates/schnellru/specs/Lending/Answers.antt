@@ -1,4 +1,4 @@
--- The result of a get that inserts a missing key: the value that the get lends, or why it lends none.
+-- The result of a get that inserts a missing key: the value that the get lends, or the reason why it lends no value.
 use Rattle.std.specs.Prelude.{◌≡◌, Bool, true, Option, Some, None, Result, Ok, Err, is_some}
 use Rattle.std.specs.Borrow.{GName, MutBor}
 use Rattle.schnellru.specs.declared.map.get_or_insert.NotLent.{NotLent}

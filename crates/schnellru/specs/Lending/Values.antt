@@ -36,8 +36,8 @@ module _ (K V L S N H : RattleType) (key : HashMembers K.Denot)
       (record { hash_of = hashed.hash_of }) (record { build_hasher = hashed.build_hasher }) hash
 
   module _ (m : MutBor (State K.Denot V.Denot L.Denot S.Denot)) where
-    -- After the loan, the map is `base`, but the named key has the value that was written last through r. If r is
-    -- `None`, the map does not change.
+    -- After the loan, the map is `base`, but the named key has the last value written through r. If r is `None`, the
+    -- map does not change.
     abbrev pub lends_value : (K.Denot → Bool) → State K.Denot V.Denot L.Denot S.Denot → Option (MutBor V.Denot) → Fml
     lends_value names base r = LendsIf map_row V m r (λ last. written names last base) m.now
 
@@ -45,9 +45,9 @@ module _ (K V L S N H : RattleType) (key : HashMembers K.Denot)
     abbrev pub ends_as : State K.Denot V.Denot L.Denot S.Denot → Fml
     ends_as last = follows_so map_row map_row m.ghost_name none (λ _ _. ⊤) (λ n. n ≡ last)
 
-    -- If r is `Some`, r lends the value of a pair that satisfies `gives`. `turned` is what the call does to the map,
-    -- given the key of this pair. After the loan, this key also has the value that was written last through r. If r is
-    -- `None`, the map does not change.
+    -- If r is `Some`, r lends the value of a pair that satisfies `gives`. After the loan, the map is what `turned`
+    -- returns for the key of this pair, but the key has the last value written through r. If r is `None`, the map does
+    -- not change.
     abbrev pub lends_given : (K.Denot × V.Denot → Type 0)
         → ((K.Denot → Bool) → State K.Denot V.Denot L.Denot S.Denot → State K.Denot V.Denot L.Denot S.Denot)
         → Option (MutBor V.Denot) → Fml
@@ -56,8 +56,7 @@ module _ (K V L S N H : RattleType) (key : HashMembers K.Denot)
         × (n ≡ written (key.eq pair.0) last (turned (key.eq pair.0) m.now))))
         (λ n. IfNone r (n ≡ m.now))
 
-    -- After the loan, the newest pair has the value that was written last through r. If r is `None`, the map does not
-    -- change.
+    -- After the loan, the newest pair has the last value written through r. If r is `None`, the map does not change.
     abbrev pub lends_newest : Option (MutBor V.Denot) → Fml
     lends_newest r = LendsIf map_row V m r (λ last. record m.now { pairs = set_newest m.now.pairs last }) m.now
 
@@ -65,15 +64,15 @@ module _ (K V L S N H : RattleType) (key : HashMembers K.Denot)
     abbrev pub lends_newest_value : MutBor V.Denot → Fml
     lends_newest_value r = Lends map_row V m r (λ last. record m.now { pairs = set_newest m.now.pairs last })
 
-    -- after the loan, the pair in bucket b has the value that was written last through r
+    -- after the loan, the pair in bucket b has the last value written through r
     abbrev pub lends_value_in : ℕ → MutBor V.Denot → Fml
     lends_value_in b r = Lends map_row V m r (λ last. written_in b last m.now)
 
-    -- after the loan, the pair at position i has the value that was written last through r
+    -- after the loan, the pair at position i has the last value written through r
     abbrev pub lends_value_at : ℕ → Bor K.Denot × MutBor V.Denot → Fml
     lends_value_at i r = follows map_row V m.ghost_name r.1.ghost_name
         (λ last. record m.now { pairs = set_value_at m.now.pairs i last })
 
-    -- after the loan, the map's limiter is the limiter that was written last through r
+    -- after the loan, the map's limiter is the last limiter written through r
     abbrev pub lends_limiter : MutBor L.Denot → Fml
     lends_limiter r = Lends map_row L m r (λ last. record m.now { limiter = last })

@@ -94,7 +94,8 @@ impl<K: Eq + Hash, V, L: Limiter<K, V>, S: KeyHasher<K>> LruMap<K, V, L, S> {
         sizes::bytes_of(self.entry_bytes, buckets)
     }
 
-    /// Returns the greatest `memory_usage` within a budget, for `entry_bytes` bytes per entry, or 0 if no table fits.
+    /// Returns the greatest `memory_usage` within a budget, if an entry has `entry_bytes` bytes. Returns 0 if no table
+    /// fits.
     ///
     /// ```
     /// let usage = LruMap::<u32, u32, UnlimitedCompact>::memory_usage_for_memory_budget(512, 16);
@@ -142,8 +143,8 @@ impl<K: Eq + Hash, V, L: Limiter<K, V>, S: KeyHasher<K>> LruMap<K, V, L, S> {
     /// Lends the limiter for writing. A lower limit takes effect at the next `trim`, or at the next insert or update
     /// that the limiter accepts. A lower limit of `ByMemoryUsage` takes effect at the next growth.
     ///
-    /// Do not assign a limiter with another running total. `*map.limiter_mut() = ByCost::new(n)` would count the stored
-    /// entries as 0. To change the limit, call `set_limiter` with `map.limiter().with_limit(n)`.
+    /// Do not assign a limiter with another running total. After `*map.limiter_mut() = ByCost::new(n)`, the limiter
+    /// would count the stored entries as 0. To change the limit, call `set_limiter` with `map.limiter().with_limit(n)`.
     ///
     /// ```
     /// *map.limiter_mut() = ByLength::new(1);

@@ -18,8 +18,8 @@ impl<K: Eq + Hash + Drop, V: Drop, L: Limiter<K, V>, S: KeyHasher<K>> LruMap<K, 
     /// assert!(rt; done == Ok(true) && left.as_slice() == [(1, 10)].as_slice());
     /// ```
     ///
-    /// Cost: as `insert`, and memory for n + 1 entries if the map contains n, even if nothing is evicted. If the map is
-    /// large, call `insert_with`.
+    /// Cost: as `insert`, and memory for one entry more than the map contains, even if nothing is evicted. If the map
+    /// is large, call `insert_with`.
     ///
     /// # Errors
     ///

@@ -1,4 +1,4 @@
-//! Removals, pops, a clear and evictions. Each notifies the limiter.
+//! Removals, pops, a clear and evictions. Each of these calls notifies the limiter.
 ghost use Rattle.std.specs.Prelude.{◌≡◌, ℕ, ◌<◌, true, not, ◌∷◌, length, Some, IfSome};
 ghost use Rattle.group_table.specs.Bucket.{IsFull};
 ghost use Rattle.lru_model.specs.Lists.{is_empty, first, last};
@@ -226,8 +226,8 @@ pub(super) fn notify<K, V, L: Limiter<K, V>>(limiter: &mut L, pair: (K, V)) -> (
     (key, value)
 }
 
-// The callback for calls that take no callback. Drops the key, and then the value. Parameters without a name would be
-// dropped in the opposite order.
+// The callback that is used by calls without a parameter for a callback. Drops the key, and then the value. Parameters
+// without a name would be dropped in the opposite order.
 pub(crate) fn discard<K: Drop, V: Drop>(key: K, value: V) {
     drop(key);
     drop(value);

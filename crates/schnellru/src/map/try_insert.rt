@@ -22,17 +22,18 @@ impl<K: Eq + Hash + Drop, V: Drop, L: Admission<K, V> + Copy, S: KeyHasher<K>> L
     /// assert_eq!(rt; (map.try_insert(4, 40), map.try_insert(4, 41)), (Ok(()), Err((4, 41))));
     /// ```
     ///
-    /// Cost: `O(1)` expected, amortised over the inserts, with one search for the key. If no growth is left, add the
-    /// cost of `try_reserve(1)`. `move_report` does not count the entries that the reservation moves.
+    /// Cost: `O(1)` expected, amortised over the inserts, with one search for the key. If no growth is left, the call
+    /// also costs as much as `try_reserve(1)`. `move_report` does not count the entries that the reservation moves.
     ///
     /// # Errors
     ///
-    /// Returns the key and the value, for one of five reasons. A caller can recognise only the first, by `contains`:
+    /// Returns the key and the value, for one of five reasons. A caller can recognise only the first reason, by
+    /// `contains`:
     ///
     /// - The key is there.
     /// - The limiter rejects the entry, before or after the table grew.
     /// - The limiter would be over its limit with the entry, before or after the table grew.
-    /// - No growth is left, and either there is no larger table, or the limiter refuses it.
+    /// - No growth is left, and either there is no larger table, or the limiter refuses the larger table.
     /// - No growth is left, and the allocation of the table fails.
     ///
     /// If growth was left, nothing has changed. If no growth was left, the table may be larger or rehashed, and

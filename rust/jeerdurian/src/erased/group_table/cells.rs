@@ -22,8 +22,8 @@ impl<T> Clone for Block<T> {
 
 impl<T> Copy for Block<T> {}
 
-// SAFETY: a `Block` is an address. Only code with the `Cells` of the block reads or writes there, and `Cells` are
-// `Send` or `Sync` only if `T` is.
+// SAFETY: a `Block` is an address. Only code that has the `Cells` of the block reads or writes at this address, and
+// `Cells` are `Send` or `Sync` only if `T` is.
 unsafe impl<T> Send for Block<T> {}
 
 unsafe impl<T> Sync for Block<T> {}
@@ -90,7 +90,7 @@ pub(crate) fn deallocate<T, A: Allocator>(alloc: &A, block: Block<T>, count: usi
 impl<T> Cells<T> {
     #[inline]
     pub(crate) fn write(&mut self, block: Block<T>, b: usize, entry: T) {
-        // SAFETY: the block has place b, which holds no entry, and `self` owns it.
+        // SAFETY: `self` owns place b of the block, and place b holds no entry.
         unsafe { block.start.add(b).write(entry) }
     }
 

@@ -26,7 +26,7 @@ pub fn match_free(bytes: &[u8; 16]) -> u16 {
     u8x16::from_array(*bytes).simd_ge(u8x16::splat(DELETED)).to_bitmask() as u16
 }
 
-// The sixteen control bytes from a bucket on; each is a lane.
+// Sixteen neighbouring control bytes; each byte is a lane.
 
 pub(crate) struct Group {
     lanes: [u8; 16],

@@ -1,5 +1,5 @@
 // Erased from crates/group_table/src/link.rt: do not edit.
-//! `LinkType`: the integer types that links may have.
+//! `LinkType`: the integer types of links.
 
 #[allow(unused_imports)]
 use crate::rattle_std::prelude::*;

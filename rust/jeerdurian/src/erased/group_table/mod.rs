@@ -1,5 +1,5 @@
 // Erased from crates/group_table/src/lib.rt: do not edit.
-//! The bucket table of the LRU map, and the integer types that links to its buckets may have.
+//! The bucket table of the LRU map, and the integer types of links to its buckets.
 
 #[allow(unused_imports)]
 use crate::rattle_std::prelude::*;

@@ -27,7 +27,8 @@ mod relocation;
 /// as `len` cost O(1). `find`, `place` and `try_place` cost O(1) if the hashes are spread, and at worst O(B) for B
 /// buckets. All other calls cost O(B).
 pub struct Table<T> {
-    // If this field were next to `len`, the compiler would change both fields by one slower load and store.
+    // If this field were next to `len`, the compiler would change both fields by a single load and store, which is
+    // slower.
     growth_left: usize,
     control: Control,
     entries: Entries<T>,
@@ -113,7 +114,7 @@ impl<T> Table<T> {
         full!(self.control.byte(b));
         self.len -= 1;
         let gives_room = ones_if_empty_neighbours(&self.control, b);
-        // Subtracting all ones adds 1.
+        // If `gives_room` is all ones, subtracting it adds 1.
         self.growth_left = self.growth_left.wrapping_sub(gives_room);
         let byte = emptied_byte(gives_room);
         empty_bucket(&mut self.control, &mut self.entries, b, byte)
@@ -136,7 +137,7 @@ impl<T> Table<T> {
     ///
     /// # Errors
     ///
-    /// There are no buckets, or no growth is left and the first free bucket is empty. Returns the entry. Nothing has
+    /// There are no buckets; or no growth is left, and the first free bucket is empty. Returns the entry. Nothing has
     /// changed.
     #[inline(always)]
     pub fn try_place(&mut self, hash: u64, entry: T) -> Result<usize, T> {
@@ -220,7 +221,7 @@ impl<T> Table<T> {
     }
 }
 
-// Returns whether there are no buckets. If growth is left, there are buckets, and `control` is not read.
+// If growth is left, there are buckets, and `control` is not read.
 #[inline]
 fn is_without_buckets(control: &Control, growth_left: usize) -> bool {
     growth_left == 0 && control.is_empty()

@@ -76,8 +76,8 @@ impl<T> Costed for Vec<T> {
     }
 }
 
-/// A limiter with a running total, which adds the cost of each accepted entry, and subtracts the cost of each evicted
-/// or removed entry.
+/// A limiter with a running total: it adds the cost of each accepted entry, and subtracts the cost of each evicted or
+/// removed entry.
 ///
 /// The total after each call is the sum of the costs of the map's entries, until a caller writes to a stored value, or
 /// changes the limiter.

@@ -26,7 +26,7 @@ pub trait Admission<K, V>: Limiter<K, V> {
     fn accepts_in_place(&self, length: usize, key: &K, old_value: &V, new_value: &V) -> bool;
 
     /// Called by an insert or an update before `new_value` replaces `old_value` of a stored key. The map has `length`
-    /// entries. Returns whether the new value is accepted. If it is rejected, the map removes the entry.
+    /// entries. Returns whether the new value is accepted. If the value is rejected, the map removes the entry.
     fn admit_in_place(&mut self, length: usize, key: &K, old_value: &V, new_value: &V) -> bool;
 }
 

@@ -63,7 +63,7 @@ impl BuildHasher for RandomState {
 /// The hasher that a `RandomState` makes.
 ///
 /// A whole number is written as its bytes, the lowest byte first: `write_u64(n)` does what `write(&n.to_le_bytes())`
-/// does. Two writes may give another hash than one write of the same bytes.
+/// does. The hash may change if one write is split into two.
 
 pub struct DefaultHasher {
     state: u64,

@@ -33,20 +33,20 @@ pub use shrinks::{shrinks_keep_the_list, shrinks_leave_a_tight_table, shrinks_pa
 /// the inserted key.
 pub fn inserts_evict_the_oldest<K: Eq + Hash, V, I: LookupKey<K>, L: Insertion<K, V, I>, S: KeyHasher<K>>() {}
 
-/// If an insert finds n entries, leaves m, and passes p to its callback, m + p is at most n + 1 (`few`). An insert with
-/// a callback also satisfies `Insert` (`step`).
+/// If an insert into a map of n entries leaves m entries, and passes p entries to its callback, m + p is at most n + 1
+/// (`few`). An insert with a callback also satisfies `Insert` (`step`).
 pub fn inserts_pass_few<K: Eq + Hash, V, I: LookupKey<K>, L: Insertion<K, V, I>, S: KeyHasher<K>>() {}
 
-/// A `Report` (`specs/Exact`) says whether a table queried the limiter for an insert, and how many entries a refused
-/// growth evicted. If a table has up to 16 buckets, `small_report` computes the report from the entries, the limiter,
-/// the number of buckets, the growth left, and constants of the map. The insert changes the entries as the report says,
-/// unless memory runs out.
+/// A `Report` (`specs/Exact`) says whether a table queried the limiter for an insert, and how many entries were evicted
+/// because growth was refused. If a table has up to 16 buckets, `small_report` computes the report from the entries,
+/// the limiter, the number of buckets, the growth left, and constants of the map. The insert changes the entries as the
+/// report says, unless memory runs out.
 pub fn small_inserts_are_exact<K: Eq + Hash, V, I: LookupKey<K>, L: Insertion<K, V, I>, S: KeyHasher<K>>() {}
 
 /// An insert changes the entries as the `Report` of the table says (`exact`; see `small_inserts_are_exact`). Every
 /// insert has a report (`given`). Suppose that the limiter and the arguments determine what `on_insert` does
-/// (`IsDetermined`), and that two inserts return `Ok`. If both inserts have equal arguments and reports, and begin with
-/// equal entries and limiters, they return equal results, and end with equal entries and limiters (`alike`).
+/// (`IsDetermined`), and that two inserts return `Ok`. If both inserts have equal arguments and reports, and find equal
+/// entries and limiters, they return equal results, and leave equal entries and limiters (`alike`).
 pub fn inserts_are_exact_unless_refused<K: Eq + Hash, V, I: LookupKey<K>, L: Insertion<K, V, I>, S: KeyHasher<K>>() {}
 
 /// An insert changes the entries as it would change a plain list without a table (`InsertsInList`), under two premises.
@@ -80,7 +80,7 @@ pub fn refused_growth_keeps_half<K: Eq + Hash, V, L: Limiter<K, V>, S: KeyHasher
 /// runs out of memory evicts entries only if growth was refused (`without_memory`).
 pub fn growth_keeps_the_list<K: Eq + Hash, V, L: Limiter<K, V>, S: KeyHasher<K>>() {}
 
-/// If no two keys are equal, a removed key is not in the map afterwards.
+/// If no two keys of a map are equal, a removed key is not in the map afterwards.
 pub fn removed_keys_are_absent<K: Eq + Hash, V, I: LookupKey<K>, L: Limiter<K, V>, S: KeyHasher<K>>() {}
 
 /// A reservation keeps the entries, and the counts `moved`, `placed` and `shrunk`.

@@ -26,7 +26,7 @@ pub struct Inserted<V> {
     pub unkept: Option<V>,
 }
 
-/// What an update did, with a value that is not in the map afterwards.
+/// What an update did. Each variant contains a value that is not in the map afterwards.
 #[derive(Clone, Copy, Debug, PartialEq, Eq)]
 pub enum Updated<V> {
     /// The old value, because the limiter accepted the new value. The entry may have been evicted afterwards, if the
@@ -41,7 +41,7 @@ pub enum Updated<V> {
 /// Why `try_reserve` fails.
 #[derive(Clone, Copy, Debug, PartialEq, Eq)]
 pub enum ReserveError {
-    /// No table can hold the entries plus the reserved entries, or the sum of the two numbers overflows.
+    /// No table can hold the entries of the map and the entries to reserve, or the number of both together overflows.
     TooLarge = 1,
     /// The limiter refused the larger table.
     Refused = 2,

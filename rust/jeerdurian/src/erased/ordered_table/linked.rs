@@ -18,7 +18,7 @@ mod offer;
 mod place;
 
 // A key and its value, with links to the neighbours in the order. At an end of the order, the link is `MAX`. The links
-// are in the same struct as the key and the value, to fill its padding.
+// are in the same struct as the key and the value, to fill the padding of the struct.
 
 pub(crate) struct Entry<K, V, N> {
     key: K,

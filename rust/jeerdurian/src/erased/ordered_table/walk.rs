@@ -14,7 +14,7 @@ pub(crate) mod keys;
 
 pub struct Walk<'a, K, V, N: LinkType> {
     entries: &'a OrderedTable<K, V, N>,
-    // The buckets of the first and the last entry that is left, and how many entries are left.
+    // The bucket of the first remaining entry, the bucket of the last, and the number of remaining entries.
     front: usize,
     back: usize,
     left: usize,

@@ -1,9 +1,10 @@
 // Erased from crates/schnellru/src/lib.rt: do not edit.
-//! A hash map that remembers the order of use of its entries, and evicts the oldest when a limiter says so.
+//! A hash map that remembers the order in which its entries were used, and evicts the oldest entries when a limiter
+//! says so.
 //!
 //! [`LruMap`] is the map, and [`ByLength`] is one of its limiters. `docs/LIMITERS.md` shows how to write a limiter and
-//! a look-up key. `docs/CALLING.md` shows how to prove code that calls the map. `docs/DIFFERENCES.md` lists what
-//! differs from the crate `schnellru` for Rust. The contract of each function of [`laws`] is a theorem about calls.
+//! a look-up key. `docs/CALLING.md` shows how to prove code that calls the map. `docs/DIFFERENCES.md` lists the
+//! differences from the Rust crate `schnellru`. The contract of each function of [`laws`] is a theorem about calls.
 
 #[allow(unused_imports)]
 use crate::rattle_std::prelude::*;

@@ -1,5 +1,5 @@
 // Erased from crates/group_table/src/table/figures.rt: do not edit.
-//! The figures of a `Table`, and which buckets are full.
+//! The sizes and counts of a `Table`, and which buckets are full.
 
 #[allow(unused_imports)]
 use crate::rattle_std::prelude::*;

@@ -1,6 +1,6 @@
 // Erased from crates/group_table/src/table/relocation.rt: do not edit.
-//! The calls of `Table` that move every entry. An entry without `Drop` cannot be dropped, so the compiler rejects code
-//! that loses an entry.
+//! The calls of `Table` that move every entry. `T` has no bound `Drop`, so the compiler rejects code that loses an
+//! entry.
 
 #[allow(unused_imports)]
 use crate::rattle_std::prelude::*;
@@ -20,7 +20,7 @@ impl<T> Table<T> {
     ///
     /// A table without entries may move to 0 buckets, which frees its memory.
     ///
-    /// The result contains a link for each old bucket: the new bucket of its entry, or `MAX` if the old bucket was
+    /// For each old bucket, the result contains the link to the new bucket of its entry, or `MAX` if the old bucket was
     /// free. For a table without entries, the result is empty. `hash_of` is called once for each entry. Afterwards no
     /// bucket is deleted. Takes time O(old buckets + new buckets).
     ///

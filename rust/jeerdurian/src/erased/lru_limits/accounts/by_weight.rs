@@ -9,7 +9,7 @@ use crate::erased::lru_limits::limiter::Limiter;
 /// Limits the sum of the costs of the entries. Contracts represent the limiter by its limit and its running total. The
 /// cost of an entry is the cost of its key, plus the cost of its value, plus `OVERHEAD`, but at most `u64::MAX`.
 ///
-/// `ByWeight` rejects an entry, or its new value, if the entry alone costs more than the limit, or if the sum would
+/// `ByWeight` rejects an entry or a new value if the entry alone would cost more than the limit, or if the sum would
 /// pass `u64::MAX`.
 ///
 /// Cost: each callback reads the cost of its keys and values at most twice, and takes no memory.

@@ -7,9 +7,9 @@ use crate::erased::lru_limits::limiter::Limiter;
 
 /// Limits the number of entries. Contracts represent the limiter by its limit.
 ///
-/// A map under `ByLength` has at most `max_length` entries after each call. But if the limit is lowered through
-/// `limiter_mut`, the map may have more entries until a `trim`, or until `ByLength` accepts an insert or an update.
-/// `ByLength` rejects an entry only if `max_length` is 0.
+/// A map under `ByLength` has at most `max_length` entries after each call. After the limit was lowered through
+/// `limiter_mut`, the map may have more entries until the next `trim`, or until `ByLength` accepts an insert or an
+/// update. `ByLength` rejects an entry only if `max_length` is 0.
 ///
 /// Cost: `O(1)` for each callback, and no memory.
 #[derive(Clone, Copy, Debug)]

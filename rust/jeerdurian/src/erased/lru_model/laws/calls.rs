@@ -8,9 +8,9 @@ use crate::rattle_std::prelude::*;
 use crate::erased::lru_limits::{Budgeted, Insertion, KeyHasher, LookupKey};
 use crate::rattle_std::hash::Hash;
 
-/// If no two keys are equal before a call, no two are equal after it (`keys`). If `IsMap` holds before a call, and the
-/// table is sound after the call, `IsMap` holds after it (`map`). The clause `map` of each call ensures that the table
-/// is sound.
+/// If no two keys are equal before a call, no two keys are equal after the call (`keys`). If `IsMap` holds before a
+/// call, and the table is sound after the call, `IsMap` also holds after the call (`map`). The clause `map` of each
+/// call ensures that the table is sound.
 pub fn calls_keep_maps<K: Eq + Hash, V, I: LookupKey<K>, L: Insertion<K, V, I>, S: KeyHasher<K>>() {}
 
 /// If the running total of the limiter is the sum of the costs of the entries, this is still so after each `Step`. The
@@ -28,8 +28,8 @@ pub fn calls_keep_the_length<K: Eq + Hash, V, I: LookupKey<K>, L: Insertion<K, V
 pub fn calls_keep_the_memory_usage<K: Eq + Hash, V, I: LookupKey<K>, L: Insertion<K, V, I>, S: KeyHasher<K>>() {}
 
 /// Suppose that the limiter has a budget, as `ByCost` and `ByWeight` have. No `Step` changes the budget (`budget`). If
-/// the running total is the sum of the costs of the entries, and at most the budget, the total is still at most the
-/// budget after each `Step` (`total`).
+/// the running total is the sum of the costs of the entries, and is at most the budget, it is still at most the budget
+/// after each `Step` (`total`).
 pub fn calls_keep_the_budget<K: Eq + Hash, V, L: Budgeted<K, V>, S: KeyHasher<K>>() {}
 
 /// Each `AnyStep` adds at most one entry.

@@ -5,8 +5,9 @@ use crate::rattle_std::prelude::*;
 use crate::erased::lru_limits::{Budgeted, Insertion, KeyHasher, Limiter, LookupKey};
 use crate::rattle_std::hash::Hash;
 
-/// If a map satisfies `IsMap`, it still does after any sequence of calls, and of writes through references into the
-/// map. `IsMap` implies that no two keys are equal, and that the bound `paid` of `inserts_pay_for_moves` holds.
+/// If a map satisfies `IsMap`, the map also satisfies `IsMap` after any sequence of calls and writes through references
+/// into the map. `IsMap` implies that no two keys are equal, and that the bound `paid` of `inserts_pay_for_moves`
+/// holds.
 pub fn runs_keep_maps<K: Eq + Hash, V, I: LookupKey<K>, L: Insertion<K, V, I>, S: KeyHasher<K>>() {}
 
 /// If the running total of the limiter is the sum of the costs of the entries, this is still so after any `Step`s.
@@ -14,7 +15,7 @@ pub fn runs_keep_maps<K: Eq + Hash, V, I: LookupKey<K>, L: Insertion<K, V, I>, S
 pub fn runs_keep_sums<K: Eq + Hash, V, I: LookupKey<K>, L: Insertion<K, V, I>, S: KeyHasher<K>>() {}
 
 /// During any sequence of calls, the count of moved entries, plus the `potential` (`specs/State`), rises by at most 2
-/// for each stored entry, plus 1 for each entry that a shrink rehashed. The bound holds until the count `placed` or
+/// for each stored entry, and 1 for each entry that a shrink rehashed. The bound holds until the count `placed` or
 /// `shrunk` reaches `u64::MAX`.
 pub fn runs_pay_for_moves<K: Eq + Hash, V, I: LookupKey<K>, L: Insertion<K, V, I>, S: KeyHasher<K>>() {}
 

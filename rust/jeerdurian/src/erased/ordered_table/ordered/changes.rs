@@ -48,7 +48,7 @@ impl<K, V, N: LinkType> OrderedTable<K, V, N> {
                 self.linked.promote(*last);
                 *last = b;
             }
-            // Writes this promotion into the links at once, which touches the second-oldest entry. If calls keep
+            // Writes this promotion into the links at once. This write touches the second-oldest entry. If calls keep
             // promoting the oldest entry, the next call reads the entry touched here.
             None if self.linked.oldest() == b => self.linked.promote(b),
             None => self.promoted = Some(b),
@@ -124,8 +124,7 @@ impl<K: Eq + Hash, V, N: LinkType> OrderedTable<K, V, N> {
 }
 
 impl<K, V, N: LinkType> OrderedTable<K, V, N> {
-    /// Clones each entry into the bucket with the same number, in the same order. The links are copied with the
-    /// entries.
+    /// Clones each entry into the bucket with the same number, in the same order.
     ///
     /// Cost: `O(buckets)`, and a clone of each key and value.
     ///

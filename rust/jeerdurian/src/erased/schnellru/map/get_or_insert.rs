@@ -117,8 +117,8 @@ impl<K: Eq + Hash, V, L: Limiter<K, V>, S: KeyHasher<K>> LruMap<K, V, L, S> {
     ///
     /// # Errors
     ///
-    /// `Caller` contains the error of the closure, and nothing has changed. `Memory` means that the closure succeeded,
-    /// and the insert failed as `insert` does.
+    /// `Caller` means that the closure failed, and contains the error of the closure. Nothing has changed. `Memory`
+    /// means that the closure succeeded, and the insert failed as `insert` does.
     pub fn ensure_newest_fallible<I: LookupKey<K>, E, F: FnOnce() -> Result<V, E>>(
         &mut self,
         key: I,

@@ -16,10 +16,10 @@ impl<K: Eq + Hash, V, L: Limiter<K, V>, S: KeyHasher<K>> LruMap<K, V, L, S> {
     /// removed. If the key is new, the limiter returns the entry to store, or `None` to reject it. If the limiter would
     /// be over its limit with one more entry, the oldest entry is evicted first.
     ///
-    /// If no bucket can take the new entry, the table grows. But a table with fewer than half of the entries that it
-    /// may hold is rehashed instead. If there is no larger table, or the limiter refuses it, the oldest entries are
-    /// evicted until a bucket can take the new entry. If the evictions leave fewer than half of the entries that the
-    /// table may hold, the table is rehashed. If there is no entry to evict, the new entry is not stored.
+    /// If no bucket can take the new entry, the table grows. But if the table contains fewer than half of the entries
+    /// that it may hold, it is rehashed instead. If there is no larger table, or the limiter refuses it, the oldest
+    /// entries are evicted until a bucket can take the new entry. If the evictions leave fewer than half of the entries
+    /// that the table may hold, the table is rehashed. If there is no entry to evict, the new entry is not stored.
     ///
     /// At the end, if the key is in the map, the oldest entries are evicted while the limiter is over its limit. A
     /// replaced value is dropped before anything is evicted.
@@ -51,8 +51,8 @@ impl<K: Eq + Hash, V, L: Limiter<K, V>, S: KeyHasher<K>> LruMap<K, V, L, S> {
     /// entry that is removed because its new value is rejected, and a new entry that the limiter accepted but the map
     /// could not store.
     ///
-    /// The callback gets each such entry once, even if the result is an `Err`. The callback gets an entry before the
-    /// limiter is called again (tested, not proved). The callback does not get a replaced value.
+    /// The callback gets each of these entries once, even if the result is an `Err`. The callback gets an entry before
+    /// the limiter is called again (tested, not proved). The callback does not get a replaced value.
     ///
     /// Cost: as `insert`, plus the calls of the callback.
     ///
@@ -160,7 +160,7 @@ impl<K: Eq + Hash, V, L: Limiter<K, V>, S: KeyHasher<K>> LruMap<K, V, L, S> {
     }
 
     /// Inserts a key that is not in the map, without a search. Takes what `insert_hashed` takes, and returns what
-    /// `insert` returns. The callback gets what `insert_with` passes.
+    /// `insert` returns. Passes to the callback what `insert_with` passes.
     ///
     /// The prover checks that the key is absent. In Rust nothing checks this, so a map may contain a key twice.
     ///

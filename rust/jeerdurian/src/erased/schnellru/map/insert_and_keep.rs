@@ -11,8 +11,8 @@ use crate::rattle_std::hash::Hash;
 impl<K: Eq + Hash, V, L: Limiter<K, V>, S: KeyHasher<K>> LruMap<K, V, L, S> {
     /// Does what `insert_with` does, but returns the entries with the result instead of passing them to a callback.
     ///
-    /// Cost: as `insert`, and memory for n + 1 entries if the map contains n, even if nothing is evicted. If the map is
-    /// large, call `insert_with`.
+    /// Cost: as `insert`, and memory for one entry more than the map contains, even if nothing is evicted. If the map
+    /// is large, call `insert_with`.
     ///
     /// # Errors
     ///

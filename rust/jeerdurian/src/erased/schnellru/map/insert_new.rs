@@ -32,8 +32,8 @@ impl<K: Eq + Hash, V, L: Limiter<K, V>, S: KeyHasher<K>> LruMap<K, V, L, S> {
         }
     }
 
-    // The hash is the third argument, because the last multiplication of the hasher leaves the hash in the register of
-    // this argument.
+    // The hash is the third argument, because the last multiplication of the hasher leaves the hash in the register for
+    // the third argument.
     #[inline(never)]
     fn insert_by_call<I: LookupKey<K>, F: FnMut(K, V)>(
         &mut self,
@@ -71,8 +71,8 @@ impl<K: Eq + Hash, V, L: Limiter<K, V>, S: KeyHasher<K>> LruMap<K, V, L, S> {
         self.settle();
         let mut pair = pair;
         self.holding(&mut pair, |map| map.make_room(sink));
-        // `insert_without_growth` takes a key and a value instead of a pair, because each insert would first clear
-        // memory for a pair.
+        // `insert_without_growth` takes a key and a value. If it took a pair, each insert would first clear memory for
+        // a pair.
         let (key, value) = pair;
         if self.growth_left() == 0 {
             return self.insert_without_growth(hash, key, value, sink);

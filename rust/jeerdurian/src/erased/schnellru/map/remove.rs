@@ -1,5 +1,5 @@
 // Erased from crates/schnellru/src/map/remove.rt: do not edit.
-//! Removals, pops, a clear and evictions. Each notifies the limiter.
+//! Removals, pops, a clear and evictions. Each of these calls notifies the limiter.
 
 #[allow(unused_imports)]
 use crate::rattle_std::prelude::*;
@@ -140,8 +140,8 @@ pub(super) fn notify<K, V, L: Limiter<K, V>>(limiter: &mut L, pair: (K, V)) -> (
     (key, value)
 }
 
-// The callback for calls that take no callback. Drops the key, and then the value. Parameters without a name would be
-// dropped in the opposite order.
+// The callback that is used by calls without a parameter for a callback. Drops the key, and then the value. Parameters
+// without a name would be dropped in the opposite order.
 pub(crate) fn discard<K, V>(key: K, value: V) {
     drop(key);
     drop(value);

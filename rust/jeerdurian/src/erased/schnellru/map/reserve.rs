@@ -12,8 +12,8 @@ impl<K: Eq + Hash, V, L: Limiter<K, V>, S: KeyHasher<K>> LruMap<K, V, L, S> {
     /// Reserves growth for n more entries: afterwards `guaranteed_capacity` is at least `len` + n.
     ///
     /// The entries and the counts of `move_report` stay. If enough growth is left, nothing happens. Otherwise, the
-    /// table is rehashed at its size if `len` + n is at most half of the entries that the table may hold. If `len` + n
-    /// is more than half, the limiter is queried for a larger table.
+    /// table keeps its size and is rehashed if `len` + n is at most half of the entries that the table may hold. If
+    /// `len` + n is more than half, the limiter is queried for a larger table.
     ///
     /// Cost: `O(1)` if there is enough growth left, else `O(old buckets + new buckets)`.
     ///
