@@ -13,16 +13,19 @@ use Rattle.std.specs.declared.alloc.AllocError.{AllocError}
 use Rattle.group_table.specs.Change.{count_up}
 use Rattle.lru_limits.specs.Admissions.{Terms, offers_of}
 use Rattle.lru_limits.specs.Limiters.{length_rules, length_terms, length_offers}
+use Rattle.lru_limits.specs.Limits.{length-limits}
 use Rattle.lru_limits.specs.Rules.{Rules}
 use Rattle.lru_model.proofs.CallerLemmas.{found_named, promoted_sized, read_back}
+use Rattle.lru_model.proofs.Theorems.NewestInserts.{keeps_on, keeps_written, leaves_newest}
+use Rattle.lru_model.proofs.Theorems.RunLimits.{step_keeps_number}
 use Rattle.lru_model.specs.Calls.{promoted, written}
 use Rattle.lru_model.specs.Exact.{AlwaysGrants}
 use Rattle.lru_model.specs.GetOrInserts.{MakesNewest, got, inserted, MakesNewestIfMade, failed, as_made}
 use Rattle.lru_model.specs.Inserts.{Insert}
-use Rattle.lru_model.specs.Kept.{LeavesTheNewest, KeepsToLength, stored_key}
+use Rattle.lru_model.specs.Kept.{KeepsToLength, stored_key}
 use Rattle.lru_model.specs.Lists.{keys_of, lookup, lookup_entry, without, after, front}
 use Rattle.lru_model.specs.Reservations.{Reserve, unchanged, rehashed, reserved, asked_only}
-use Rattle.lru_model.specs.Runs.{Step, inserts, gets, reserves}
+use Rattle.lru_model.specs.Runs.{inserts, gets, reserves}
 use Rattle.lru_model.specs.State.{State, IsSized}
 use Rattle.lru_model.specs.TryInserts.{TryInsert, there as was_there, cannot_store as cannot, unready}
 use Rattle.lru_model.specs.TryInserts.{inserted as placed_in, has_growth, reserved as made_room}
@@ -147,44 +150,32 @@ module _ {K V : Type 0} {eq : K → K → Bool} (laws : IsEquivalence eq) where
       go None e = laws.refl key
       go (Some p) e = laws.symm p.0 key ∙ found_named (eq key) xs p e
 
-pub record KnownLengths {K H : Type 0} (V : Type 0) (eq : K → K → Bool) (hash_of : H → K → ℕ) : Type 0 where
-  pub newest : (key : K) (value : V) (old : State K V ℕ H) (result : Result Bool AllocError) (new : State K V ℕ H)
-      → KeepsToLength old → Insert length_rules length_offers eq hash_of key value old result new
-      → LeavesTheNewest eq old.limiter key value old.pairs result new.pairs
-  pub goes_on : (old new : State K V ℕ H) → KeepsToLength old → IsSized new
-      → Step length_rules length_offers eq hash_of old new → KeepsToLength new
-  pub written : (names : K → Bool) (value : V) (old : State K V ℕ H) → KeepsToLength old
-      → KeepsToLength (written names value old)
-  pub limiter : (old new : State K V ℕ H) → Step length_rules length_offers eq hash_of old new
-      → new.limiter ≡ old.limiter
+from_equal : {K : Type 0} (eq : K → K → Bool) (xs ys zs : List K) → xs ≡ ys → AreEqual eq ys zs → AreEqual eq xs zs
+from_equal eq xs ys zs e h = subst (λ ks. AreEqual eq ks zs) (sym e) h
 
-module _ {K V H : Type 0} {eq : K → K → Bool} {hash_of : H → K → ℕ} (laws : IsEquivalence eq)
-    (lengths : KnownLengths V eq hash_of) where
-  in_front : (n : ℕ) (key x : K) (keys : List K) → eq x key ≡ true
-      → AreEqual eq (take n (x ∷ remove_key (eq key) keys)) (refer eq n key keys)
-  in_front n key x keys same = taken_equal eq n (x ∷ remove_key (eq key) keys) (key ∷ remove_key (eq key) keys)
-      (both_equal eq x (remove_key (eq key) keys) key (remove_key (eq key) keys) same
-      (equal_refl laws (remove_key (eq key) keys)))
+in_front : {K : Type 0} {eq : K → K → Bool} → IsEquivalence eq → (n : ℕ) (key x : K) (keys : List K) → eq x key ≡ true
+    → AreEqual eq (take n (x ∷ remove_key (eq key) keys)) (refer eq n key keys)
+in_front {eq = eq} laws n key x keys same = taken_equal eq n (x ∷ remove_key (eq key) keys)
+    (key ∷ remove_key (eq key) keys) (both_equal eq x (remove_key (eq key) keys) key (remove_key (eq key) keys) same
+    (equal_refl laws (remove_key (eq key) keys)))
 
-  from_equal : (xs ys zs : List K) → xs ≡ ys → AreEqual eq ys zs → AreEqual eq xs zs
-  from_equal xs ys zs e h = subst (λ ks. AreEqual eq ks zs) (sym e) h
-
+module _ {K V H : Type 0} {eq : K → K → Bool} (laws : IsEquivalence eq) (hash_of : H → K → ℕ) where
   insert_refers : (key : K) (v : V) (old : State K V ℕ H) (flag : Bool) (new : State K V ℕ H) → KeepsToLength old
       → IsSized new → Insert length_rules length_offers eq hash_of key v old (Ok flag) new
       → Reference (of_length eq) key old new
   insert_refers key v old flag new keeps sized h =
-      let leaves = lengths.newest key v old (Ok flag) new keeps h in
+      let leaves = leaves_newest eq key v old (Ok flag) new keeps h in
       let step = inserts key v (Ok flag) h in
       let stored = stored_key (eq key) key old.pairs in
       record {
         does = record {
-          keys = from_equal (keys_of new.pairs) (take old.limiter (stored ∷ remove_key (eq key) (keys_of old.pairs)))
+          keys = from_equal eq (keys_of new.pairs) (take old.limiter (stored ∷ remove_key (eq key) (keys_of old.pairs)))
               (refer eq old.limiter key (keys_of old.pairs))
               (ap keys_of leaves.newest ∙ keys_taken old.limiter ((stored, v) ∷ without (eq key) old.pairs)
               ∙ ap (λ ks. take old.limiter (stored ∷ ks)) (keys_without (eq key) old.pairs))
-              (in_front old.limiter key stored (keys_of old.pairs) (stored_equal laws key old.pairs));
-          limit = lengths.limiter old new step;
-          keeps = λ _. lengths.goes_on old new keeps sized step;
+              (in_front laws old.limiter key stored (keys_of old.pairs) (stored_equal laws key old.pairs));
+          limit = step_keeps_number eq hash_of length-limits.fixed old new step;
+          keeps = λ _. keeps_on eq old new keeps sized step;
         };
         stored = λ some. insert_counts length_rules hash_of length_offers eq key v old new keeps.sized.placed (Ok flag)
             refl (λ none. leaves.answer refl ∙ ap Ok (lt-ltb 0 old.limiter some)) h;
@@ -213,12 +204,12 @@ module _ {K V H : Type 0} {eq : K → K → Bool} {hash_of : H → K → ℕ} (l
           (omega (arith, fewer, length-keys_of old.pairs, within))) in
           record {
             does = record {
-              keys = from_equal (keys_of (written (eq key) left (promoted (eq key) old)).pairs)
+              keys = from_equal eq (keys_of (written (eq key) left (promoted (eq key) old)).pairs)
                   (take old.limiter (p.0 ∷ remove_key (eq key) keys)) (refer eq old.limiter key keys) all
-                  (in_front old.limiter key p.0 keys first);
+                  (in_front laws old.limiter key p.0 keys first);
               limit = refl;
-              keeps = λ keeps. lengths.written (eq key) left (promoted (eq key) old)
-                  (lengths.goes_on old (promoted (eq key) old) keeps (promoted_sized old (eq key) keeps.sized)
+              keeps = λ keeps. keeps_written (eq key) left (promoted (eq key) old)
+                  (keeps_on eq old (promoted (eq key) old) {hash_of = hash_of} keeps (promoted_sized old (eq key) keeps.sized)
                   (gets (eq key) refl));
             };
             stored = λ some. rw is (same_count old.counts.placed sized.placed);
@@ -236,8 +227,8 @@ module _ {K V H : Type 0} {eq : K → K → Bool} {hash_of : H → K → ℕ} (l
     grants = λ s bytes. (refl, refl);
     equal = λ n key other keys same. let named : eq other ≡ eq key = λ i x. laws.congr other key x same i in
         subst (λ test. AreEqual eq (take n (other ∷ remove_key test keys)) (refer eq n key keys)) (sym named)
-        (in_front n key other keys same);
+        (in_front laws n key other keys same);
     insert = λ key v old flag new keeps ok sized h. insert_refers key v old flag new keeps sized h;
     get = λ key w old keeps found. promoted_refers (eq key) key w old refl keeps.within keeps.sized found;
-    reserve = λ old ready keeps sized h. lengths.goes_on old ready keeps sized (reserves 1 (Ok tt) h);
+    reserve = λ old ready keeps sized h. keeps_on eq old ready {hash_of = hash_of} keeps sized (reserves 1 (Ok tt) h);
   }

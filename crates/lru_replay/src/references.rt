@@ -20,7 +20,6 @@ ghost use Rattle.lru_theory.specs.Traces.{AreEqual, is_in, recency, misses, past
 ghost use Rattle.lru_replay.specs.References.{ChangesKeys, Reference, Referenced, Did, of_length};
 
 use lru_limits::{Admission, ByLength, Insertion, KeyHasher, Limiter};
-use lru_model::laws;
 use std::hash::Hash;
 
 /// These calls make a reference if they return `Ok`: an insert (`inserts`), a `try_insert` (`tries`), and a call of a
@@ -51,11 +50,7 @@ pub fn calls_make_references<K: Eq + Hash + Drop, V: Drop, S: KeyHasher<K>>()
         Reference (of_length K.eq) key old new }
     ensures equal { (key other : K) (old new : State K V ByLength S) →
         K.eq other key ≡ true → Reference (of_length K.eq) other old new → Reference (of_length K.eq) key old new }
-{
-    laws::inserts_leave_the_newest::<K, V, S>();
-    laws::maps_keep_to_their_length::<K, V, S>();
-    laws::calls_keep_the_length::<K, V, K, ByLength, S>();
-}
+{}
 
 /// If `ensure_newest` or `get_or_insert`, with the closure `make`, returns `Ok`, the call makes a reference.
 pub fn gets_that_insert_make_references<
@@ -68,11 +63,7 @@ pub fn gets_that_insert_make_references<
         MakesNewest ⟦<ByLength as Limiter<K, V>>⟧.rules ⟦<ByLength as Insertion<K, V, K>>⟧.offers K.eq S.hash_of
         (F.post make) key old (Ok kept) new →
         Reference (of_length K.eq) key old new }
-{
-    laws::inserts_leave_the_newest::<K, V, S>();
-    laws::maps_keep_to_their_length::<K, V, S>();
-    laws::calls_keep_the_length::<K, V, K, ByLength, S>();
-}
+{}
 
 /// If the fallible form of `ensure_newest` or `get_or_insert` returns `Ok`, the call makes a reference.
 pub fn gets_that_insert_if_made_make_references<
@@ -86,11 +77,7 @@ pub fn gets_that_insert_if_made_make_references<
         MakesNewestIfMade ⟦<ByLength as Limiter<K, V>>⟧.rules ⟦<ByLength as Insertion<K, V, K>>⟧.offers K.eq S.hash_of
         (F.post make) key old (Ok kept) new →
         Reference (of_length K.eq) key old new }
-{
-    laws::inserts_leave_the_newest::<K, V, S>();
-    laws::maps_keep_to_their_length::<K, V, S>();
-    laws::calls_keep_the_length::<K, V, K, ByLength, S>();
-}
+{}
 
 /// Says what other calls do to the keys. `promotes` covers gets and promotions, even if the key is not in the map, and
 /// `looks` covers each call that changes nothing.
@@ -110,11 +97,7 @@ pub fn calls_change_the_keys<K: Eq + Hash + Drop, V: Drop, S: KeyHasher<K>>()
     ensures writes { (names : K → Bool) (value : V) (old : State K V ByLength S) →
         ChangesKeys K.eq KeyCall.looks old (written names value old) }
     ensures looks { (st : State K V ByLength S) → ChangesKeys K.eq KeyCall.looks st st }
-{
-    laws::inserts_leave_the_newest::<K, V, S>();
-    laws::maps_keep_to_their_length::<K, V, S>();
-    laws::calls_keep_the_length::<K, V, K, ByLength, S>();
-}
+{}
 
 /// A program that makes one more reference after a trace has made the references of the longer trace. The number of
 /// misses stays if the last reference hits (`hits`), and rises by one if the last reference misses (`misses`). The map

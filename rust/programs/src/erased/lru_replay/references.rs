@@ -5,40 +5,23 @@
 use crate::rattle_std::prelude::*;
 
 use crate::erased::lru_limits::{Admission, ByLength, Insertion, KeyHasher, Limiter};
-use crate::erased::lru_model::laws;
 use crate::rattle_std::hash::Hash;
 
 /// These calls make a reference if they return `Ok`: an insert (`inserts`), a `try_insert` (`tries`), and a call of a
 /// memo (`remembers`). If the map contains the key, a get (`gets`) and a promotion (`promotes`) make a reference. The
 /// program may write to the value that a get lends. A reference to a key is also a reference to each equal key
 /// (`equal`).
-pub fn calls_make_references<K: Eq + Hash, V, S: KeyHasher<K>>() {
-    laws::inserts_leave_the_newest::<K, V, S>();
-    laws::maps_keep_to_their_length::<K, V, S>();
-    laws::calls_keep_the_length::<K, V, K, ByLength, S>();
-}
+pub fn calls_make_references<K: Eq + Hash, V, S: KeyHasher<K>>() {}
 
 /// If `ensure_newest` or `get_or_insert`, with the closure `make`, returns `Ok`, the call makes a reference.
-pub fn gets_that_insert_make_references<K: Eq + Hash, V, F: FnOnce() -> V, S: KeyHasher<K>>() {
-    laws::inserts_leave_the_newest::<K, V, S>();
-    laws::maps_keep_to_their_length::<K, V, S>();
-    laws::calls_keep_the_length::<K, V, K, ByLength, S>();
-}
+pub fn gets_that_insert_make_references<K: Eq + Hash, V, F: FnOnce() -> V, S: KeyHasher<K>>() {}
 
 /// If the fallible form of `ensure_newest` or `get_or_insert` returns `Ok`, the call makes a reference.
-pub fn gets_that_insert_if_made_make_references<K: Eq + Hash, V, E, F: FnOnce() -> Result<V, E>, S: KeyHasher<K>>() {
-    laws::inserts_leave_the_newest::<K, V, S>();
-    laws::maps_keep_to_their_length::<K, V, S>();
-    laws::calls_keep_the_length::<K, V, K, ByLength, S>();
-}
+pub fn gets_that_insert_if_made_make_references<K: Eq + Hash, V, E, F: FnOnce() -> Result<V, E>, S: KeyHasher<K>>() {}
 
 /// Says what other calls do to the keys. `promotes` covers gets and promotions, even if the key is not in the map, and
 /// `looks` covers each call that changes nothing.
-pub fn calls_change_the_keys<K: Eq + Hash, V, S: KeyHasher<K>>() {
-    laws::inserts_leave_the_newest::<K, V, S>();
-    laws::maps_keep_to_their_length::<K, V, S>();
-    laws::calls_keep_the_length::<K, V, K, ByLength, S>();
-}
+pub fn calls_change_the_keys<K: Eq + Hash, V, S: KeyHasher<K>>() {}
 
 /// A program that makes one more reference after a trace has made the references of the longer trace. The number of
 /// misses stays if the last reference hits (`hits`), and rises by one if the last reference misses (`misses`). The map
