@@ -1,4 +1,4 @@
--- What a block of places for entries of type R owns and lends.
+-- A block of places for entries of type R: what the block owns and lends.
 use Rattle.std.specs.Prelude.{ℕ, ◌+◌, ◌*◌, ◌^◌, List, [], ◌∷◌, length, Option, Some, None}
 use Rattle.std.specs.Mem.{type_size}
 use base.Fraction.{full_share}

@@ -25,8 +25,8 @@ insertion_count c = count_up c.placed c.moved
 abbrev pub MayFill : List BucketState → ℕ → Type 0
 MayFill states b = (0 < growth_left states) ⊎ (bucket_at states b ≡ deleted)
 
--- No bucket takes a new entry with this hash. The table has no buckets; or no growth is left, and the first free bucket
--- in a search for the hash is empty.
+-- No bucket takes a new entry with this hash. Either the table has no buckets, or no growth is left and the first free
+-- bucket in a search for the hash is empty.
 abbrev pub HasNoPlace : List BucketState → ℕ → Type 0
 HasNoPlace states hash = (length states ≡ 0)
     ⊎ ((growth_left states ≡ 0) × (b : ℕ) × IsFirstFree states hash b × (bucket_at states b ≡ empty))

@@ -12,7 +12,7 @@ use Rattle.group_table.specs.declared.probe.Probe.{Probe}
 use Rattle.group_table.specs.declared.probe.Searched.{Searched}
 use Rattle.group_table.specs.declared.probe.Searched.TheVariants.{Accepted, Ended, GoesOn}
 
--- how many buckets the search visited before the current group
+-- the number of buckets that the search visited before the current group
 abbrev pub passed_by : Probe → ℕ
 passed_by probe = probe.stride - 16
 
@@ -23,7 +23,7 @@ pub record IsProbe (buckets hash : ℕ) (probe : Probe) : Type 0 where
   pub stride : 16 ≤ probe.stride
 
 module _ {T : Type 0} (slots : List (Slot T)) where
-  -- how many different buckets a group contains
+  -- the number of different buckets in a group
   abbrev pub width : ℕ
   width = min 16 (length slots)
 

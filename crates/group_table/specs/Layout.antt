@@ -37,7 +37,7 @@ module _ {T : Type 0} where
   Agrees byte (Some entry) = IsTag byte
   Agrees byte None = (byte ≡ deleted_byte) ⊎ (byte ≡ empty_byte)
 
-  -- the control bytes after `byte` was written twice: as the byte of bucket b, and as the repetition of this byte
+  -- the control bytes after `byte` was written as the byte of bucket b, and as its repetition
   abbrev pub written : List ℕ → List (Option T) → ℕ → ℕ → List ℕ
   written control entries b byte = slice_set (slice_set control b byte) (b + max 16 (length entries)) byte
 

@@ -2,7 +2,7 @@
 --     `IsLinkType number link most`: the laws of `LinkType`; `most` stands for `MAX`.
 --     `link_below laws n below`: if n is below the number of `MAX`, `link n` is not `MAX`.
 --     `narrowest_most`: the least number that `MAX` may have.
---     `numbers_are_links`: the laws hold if each link is its own number.
+--     `numbers_are_links`: the laws hold if links are numbers.
 use Rattle.std.specs.Prelude.{◌≡◌, ◌≢◌, ◌≤◌, ◌<◌, ℕ, refl}
 use Rattle.std.proofs.Common.{ap, arith}
 

@@ -7,7 +7,7 @@ module _ (Empty : ℕ → Type 0) (buckets b : ℕ) where
   HasEmptyNeighbours = (start at : ℕ) → at < 16 → (start + at) % buckets ≡ b
       → (lane : ℕ) × (lane < 16) × Empty ((start + lane) % buckets)
 
-  -- some run of 16 neighbouring buckets includes b, but no empty bucket
+  -- a run of 16 neighbouring buckets includes b, and none of these buckets is empty
   pub record IsHemmedIn : Type 0 where
     pub start : ℕ
     pub at : ℕ

@@ -12,7 +12,7 @@ module _ {N : Type 0} (number : N → ℕ) (none : N) where
 
 -- Below, `old b` is the entry that was in the old bucket b, or `None` if there was no entry.
 module _ {T N : Type 0} (number : N → ℕ) (none : N) (old : ℕ → Option T) (new : List (Slot T)) (links : List N) where
-  -- for each old bucket b with an entry, the entry is now in bucket `moved_to b`; no other new bucket is full
+  -- the entry of each old bucket b is now in the new bucket `moved_to b`; no other new bucket is full
   pub record Moves : Type 0 where
     pub moved : (b : ℕ) (entry : T) → old b ≡ Some entry → entry_at new (moved_to number none links b) ≡ Some entry
     pub others : (b : ℕ) → old b ≡ None → slice_index_or links b none ≡ none

@@ -1,4 +1,4 @@
--- How many entries n buckets may hold, and how many buckets n entries need. Quotients are rounded down.
+-- The capacity of n buckets, and the number of buckets for n entries. Quotients are rounded down.
 use Rattle.std.specs.Prelude.{◌≡◌, ◌⊎◌, ℕ, zero, suc, ◌-◌, ◌*◌, ◌/◌, ◌^◌, ◌==◌, nat_lt, nat_le, if◌then◌else◌, Option}
 use Rattle.std.specs.Prelude.{Some, None}
 
@@ -9,7 +9,7 @@ IsPowerFromFour buckets = (k : ℕ) × (buckets ≡ 4 * 2 ^ k)
 abbrev pub IsBucketCount : ℕ → Type 0
 IsBucketCount buckets = (buckets ≡ 0) ⊎ IsPowerFromFour buckets
 
--- the most entries that n buckets may hold: n - 1 for up to 8 buckets, and seven eighths of n for more
+-- the most entries that n buckets may hold: n - 1 if n is at most 8, else seven eighths of n
 unfoldable pub full_capacity : ℕ → ℕ
 full_capacity buckets = if nat_le buckets 8 then buckets - 1 else buckets / 8 * 7
 
@@ -25,7 +25,7 @@ least_power n = first_power_from 64 n 1
 abbrev pub below : ℕ → ℕ → Option ℕ
 below limit n = if nat_lt n limit then Some n else None
 
--- How many buckets n entries need, or `None` if n entries need `max` buckets or more. 0 entries need 0 buckets, 1 to 3
+-- The number of buckets for n entries, or `None` if this number is `max` or more. 0 entries need 0 buckets, 1 to 3
 -- entries need 4 buckets, and 4 to 7 entries need 8 buckets. If n is 8 or more, the number of buckets is the least
 -- power of two that is at least 8 * n / 7. If 8 * n does not fit 64 bits, the result is `None`.
 unfoldable pub buckets_for : ℕ → ℕ → Option ℕ

@@ -3,12 +3,12 @@ use Rattle.std.specs.Prelude.{◌≡◌, ℕ, ◌+◌, ◌^◌, ◌<◌, ◌≤�
 use Rattle.group_table.specs.Sizes.{IsBucketCount, full_capacity}
 use Rattle.group_table.specs.Bucket.{Slot, BucketState, bucket_at, refilled, is_deleted, is_used}
 
--- how many new entries the table has stored, and how many entries the table has moved
+-- the number of new entries that the table stored, and the number of entries that it moved
 pub record Insertions : Type 0 where
   pub placed : ℕ
   pub moved : ℕ
 
--- a table: what is in each bucket, and how many insertions the table has made
+-- a table: the contents of each bucket, and the counts of insertions
 pub record Table (T : Type 0) : Type 0 where
   pub slots : List (Slot T)
   pub insertions : Insertions

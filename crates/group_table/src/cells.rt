@@ -31,8 +31,8 @@ impl<T> Clone for Block<T> {
 
 impl<T> Copy for Block<T> {}
 
-// SAFETY: a `Block` is an address. Only code that has the `Cells` of the block reads or writes at this address, and
-// `Cells` are `Send` or `Sync` only if `T` is.
+// SAFETY: a `Block` is an address. Only code that has the `Cells` of the block reads or writes at this address. `Cells`
+// are `Send` or `Sync` only if `T` is.
 unsafe impl<T> Send for Block<T> {}
 
 unsafe impl<T> Sync for Block<T> {}

@@ -62,7 +62,7 @@ pub(crate) fn fill_bucket<T>(
     entries.write(b, entry);
 }
 
-// Writes the tag and the entry of a bucket. If `byte`, the old control byte, is a tag, returns the old entry.
+// Writes the tag and the entry of a bucket. `byte` is the old control byte. If it is a tag, returns the old entry.
 #[inline]
 pub(crate) fn put<T>(
     control: &mut Control,

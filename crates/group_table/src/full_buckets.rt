@@ -6,8 +6,8 @@ ghost use Rattle.group_table.specs.FullBuckets.{IsAhead, IsNextFull};
 use crate::control::Control;
 use crate::group::{lowest_lane, without_lowest};
 
-// The position of a walk over the full buckets. `lanes` is a mask of the full buckets of the current group that are not
-// yet visited, so a step within the group does not load the group again.
+// The position of a walk over the full buckets. `lanes` is a mask of the full buckets that the walk has still to visit
+// in the current group. So a step within the group does not load the group again.
 #[derive(Drop)]
 pub(crate) struct FullBuckets {
     start: usize,

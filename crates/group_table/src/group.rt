@@ -7,8 +7,8 @@ ghost use Rattle.group_table.specs.Lanes.{IsMaskOf, HasLane, lowest};
 use crate::control::{DELETED, EMPTY};
 use std::simd::prelude::*;
 
-/// Returns which of sixteen neighbouring control bytes are the tag: bit i of the result is set if and only if byte i is
-/// the tag. `docs/TABLE.md` shows masks.
+/// Returns a mask of sixteen neighbouring control bytes: bit i is set if and only if byte i is the tag. `docs/TABLE.md`
+/// shows masks.
 ///
 /// ```
 /// let bytes: [u8; 16] = [0, 255, 128, 5, 255, 255, 255, 255, 255, 255, 255, 255, 255, 255, 255, 255];

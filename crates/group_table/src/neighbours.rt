@@ -1,4 +1,5 @@
-//! Tests all runs of 16 neighbouring buckets that include bucket b: whether each run contains an empty bucket.
+//! Considers all runs of 16 neighbouring buckets that include bucket b, and tests whether each run contains an empty
+//! bucket.
 ghost use Rattle.std.specs.Prelude.{◌≡◌, ◌≢◌, ◌+◌, ◌-◌, ◌%◌, ◌^◌, ◌<◌, Bool, if◌then◌else◌, nat_lt, slice_index};
 ghost use Rattle.std.specs.Prelude.{MatchBool};
 ghost use Rattle.group_table.specs.Bytes.{empty_byte};
@@ -36,8 +37,8 @@ fn ones_if_less(low: u32, high: u16) -> usize
     (difference >> 32).cast_unsigned() as usize
 }
 
-// Count the used (full or deleted) buckets between the nearest empty buckets around b. If they are fewer than 16, each
-// run contains an empty bucket.
+// Take the row of used (full or deleted) buckets that contains b. If the row is shorter than 16 buckets, each run
+// contains an empty bucket.
 #[inline]
 pub(crate) fn ones_if_empty_neighbours(control: &Control, b: usize) -> usize
     requires bucket { b < buckets_of control.now }
@@ -48,7 +49,7 @@ pub(crate) fn ones_if_empty_neighbours(control: &Control, b: usize) -> usize
         (IsHemmedIn (IsEmptyAt control.now) (buckets_of control.now) b) }
 {
     // `used` has a bit for each used bucket from b up to the next empty bucket. `used` is less than the mask of the
-    // empty buckets before b if and only if fewer than 16 used buckets are in a row around b. Comparing the masks takes
+    // empty buckets before b if and only if the row around b is shorter than 16 buckets. Comparing the masks takes
     // fewer instructions than two counts and their sum.
     let used = lanes_below(empty_from(control, b));
     ones_if_less(used, empty_before(control, b))

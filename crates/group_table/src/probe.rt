@@ -88,8 +88,8 @@ fn search_group<T, F: FnMut(&T) -> bool>(
     }
 }
 
-// Calls `f` with the entries that have the tag of the hash, group by group, until `f` accepts an entry or a group has
-// an empty bucket. This function is inlined: a call would load all arguments, even if the search compares no entry.
+// Calls `f` with the entries that have the tag of the hash, group by group. Ends when `f` accepts an entry, or when a
+// group has an empty bucket. Inlined, because a call would load all arguments, even if the search compares no entry.
 #[inline(always)]
 pub(crate) fn find_bucket<T, F: FnMut(&T) -> bool>(
     control: &Control,

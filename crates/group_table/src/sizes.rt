@@ -1,8 +1,8 @@
-//! How many entries n buckets hold, and how many buckets n entries need.
+//! The capacity of n buckets, and the number of buckets for n entries.
 ghost use Rattle.std.specs.Prelude.{◌≡◌, ◌<◌, ◌≤◌, IfSome};
 ghost use Rattle.group_table.specs.Sizes.{IsBucketCount, full_capacity, buckets_for};
 
-/// Returns how many entries a table may hold: 0 without buckets, `buckets` - 1 for up to 8 buckets, and otherwise seven
+/// Returns how many entries a table may hold: 0 if `buckets` is 0, `buckets` - 1 if `buckets` is at most 8, else seven
 /// eighths of `buckets`.
 #[inline]
 #[tactic(auto, unfolding(crate::specs::Sizes::full_capacity))]
@@ -16,8 +16,8 @@ pub fn full_capacity(buckets: usize) -> usize
     }
 }
 
-/// Returns how many buckets `capacity` entries need: 0 if `capacity` is 0, and otherwise a power of two below `max`.
-/// Returns `None` if no such power is enough, or if 8 * `capacity` overflows.
+/// Returns the number of buckets for `capacity` entries: 0 if `capacity` is 0, else a power of two below `max`. Returns
+/// `None` if no such power is enough, or if 8 * `capacity` overflows.
 #[tactic(auto, unfolding(crate::specs::Sizes::buckets_for))]
 pub fn buckets_for_capacity(capacity: usize, max: usize) -> Option<usize>
     ensures value { result ≡ buckets_for max capacity }

@@ -133,7 +133,7 @@ impl<T> Table<T> {
 
     /// Returns the bucket of the first entry that `f` accepts.
     ///
-    /// `f` is called with entries whose hashes agree with `hash` in the top 7 bits, in the order of the search. Tests,
+    /// `f` is called in the order of the search, with entries whose hashes agree with `hash` in the top 7 bits. Tests,
     /// not proofs, show that `f` is called at most once with each entry. If the result is `None`, `f` rejected each
     /// entry with this hash.
     #[inline]
@@ -230,8 +230,8 @@ impl<T> Table<T> {
     ///
     /// # Errors
     ///
-    /// There are no buckets; or no growth is left, and the first free bucket is empty. Returns the entry. Nothing has
-    /// changed.
+    /// Fails if there are no buckets, or if no growth is left and the first free bucket is empty. Returns the entry.
+    /// Nothing has changed.
     #[inline(always)]
     pub fn try_place(&mut self, hash: u64, entry: T) -> Result<usize, T>
         ensures placed { IfOk result (Places self.old self.new hash entry) }
@@ -340,7 +340,7 @@ impl<T: Drop> Table<T> {
     }
 }
 
-// If growth is left, there are buckets, and `control` is not read.
+// If growth is left, the table has buckets, so `control` is not read.
 #[inline]
 fn is_without_buckets(control: &Control, growth_left: usize) -> bool
     requires { buckets_of control.now ≡ 0 → growth_left ≡ 0 }

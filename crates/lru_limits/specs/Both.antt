@@ -1,6 +1,6 @@
 -- Two limiters that limit one map.
---     `both_rules a b`: a map is over the limit if it is over one of the two limits; a table is permitted if both
---         limiters permit the table.
+--     `both_rules a b`: a map is over the limit if either limiter says so; a table is permitted if both limiters permit
+--         it.
 --     `both_terms a b`: an entry is accepted if both limiters accept the entry.
 --     `both-sums`: the running total of the first limiter is also a running total of `Both`.
 use Rattle.std.specs.Prelude.{◌≡◌, ◌≤◌, ◌+◌, ◌-◌, ◌&&◌, ◌||◌, ℕ, Bool, true, false, Some, None, IsTrue}
@@ -14,7 +14,7 @@ use Rattle.lru_limits.specs.Stores.{ReturnsPairIf, given-adds, refused-keeps}
 use Rattle.lru_limits.specs.Admissions.{Terms, offers_of}
 
 module _ {K V A B : Type 0} where
-  -- the second limiter's `on_removed` gets the key and the value as the first limiter's `on_removed` left them
+  -- the second `on_removed` gets the key and the value as the first `on_removed` left them
   abbrev pub both_rules : Rules K V A → Rules K V B → Rules K V (Both A B)
   both_rules a b = record {
     is_over_the_limit = λ s n. a.is_over_the_limit s.0 n || b.is_over_the_limit s.1 n;
@@ -49,8 +49,8 @@ module _ {K V A B : Type 0} where
         then record { 0 = a.admit_in_place s.0 n k v w; 1 = b.admit_in_place s.1 n k v w } else s;
   }
 
--- `adds_if` is the lemma `given-adds` of `Stores`, and `exchanges_if` is `replaced-exchanges`; here the first premise
--- must hold only if the limiter accepts the entry.
+-- `adds_if` is like the lemma `given-adds` of `Stores`, and `exchanges_if` is like `replaced-exchanges`. But the first
+-- premise must hold only if the limiter accepts the entry.
 module _ {K V S : Type 0} (cost : K → V → ℕ) (account : S → ℕ) where
   adds_if : (accepts : Bool) (s s' : S) (i : K) (v : V) (t : S) (k : K) (w : V)
       → (IsTrue accepts → account s' ≡ account s + cost i v)

@@ -17,8 +17,8 @@ use Rattle.lru_limits.specs.Stores.{answers, given-adds, refused-keeps, replaced
 abbrev pub in_word : ℕ → ℕ
 in_word n = min n (2 ^ 64 - 1)
 
--- A block of n bytes takes n bytes, rounded up to a multiple of 16, plus 16. The result is at most 2 ^ 64 - 16. If n is
--- 0, no block is allocated, and the result is 0.
+-- The size n is rounded up to a multiple of 16, and 16 is added. The result is at most 2 ^ 64 - 16. If n is 0, no block
+-- is allocated, and the result is 0.
 abbrev pub block_bytes : ℕ → ℕ
 block_bytes n = if n == 0 then 0 else in_word (n + 31) / 16 * 16
 

@@ -1,5 +1,5 @@
 -- Look-up keys that are numbers, fields or pairs.
---     `number-lawful`: a look-up key that is a number names the equal number.
+--     `number-lawful`: the laws, if look-up keys and keys are numbers.
 --     `field-lawful of_q of_k`: a look-up key q names a key k if the field `of_q q` names the field `of_k k`.
 --     `both-lawful`: a look-up key of two parts names a key if both parts name the key.
 use Rattle.std.specs.Prelude.{◌≡◌, ◌&&◌, ◌++◌, ℕ, Bool, true, false, List, IsTrue, nat_eq}

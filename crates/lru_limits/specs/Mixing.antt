@@ -23,7 +23,7 @@ folded a b = bit_xor (a * b % 2 ^ 64) (a * b / 2 ^ 64)
 abbrev pub joined : ℕ → ℕ → ℕ → ℕ
 joined key state word = folded (bit_xor state word) key
 
--- bytes after the end of the rest count as 0
+-- the bytes after the end of the rest are 0
 abbrev pub rest_word : List ℕ → ℕ
 rest_word bytes = from_le_bytes w64 bytes + length bytes * 2 ^ 56
 

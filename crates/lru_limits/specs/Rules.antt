@@ -32,9 +32,9 @@ pub record Rules (K V S : Type 0) : Type 0 where
   pub on_grow : S → ℕ → Allowed S
 
 pub record Offers (K V S I : Type 0) : Type 1 where
-  -- What may result if an entry is offered to a map of n entries: the limiter after the offer, and the entry to store.
-  -- `on_insert` is a relation, not a function, because the stored key may be in newly allocated memory, whose address
-  -- is not determined.
+  -- The possible results of an offer to a map of n entries: the limiter after the offer, and the entry to store.
+  -- `on_insert` is a relation, not a function: the stored key may be in newly allocated memory, and the address of this
+  -- memory is not determined.
   pub on_insert : S → ℕ → I → V → S → Option (K × V) → Type 0
   pub may_run_out : S → ℕ → I → V → Type 0
   -- what `on_replace` does with the stored key, the offered key, the old value and the new value

@@ -4,11 +4,11 @@
 --         inner limiter.
 --     `ReturnsPairIf accepts s k v t given`: t equals s, and `given` is the entry (k, v), or `None` if `accepts` is
 --         false.
---     `unmoved s k v`: the limiter s, and the unchanged entry, after `on_removed`.
---     `answers s b`: the limiter s, and the result b of `on_grow`.
---     `replaces s k v w`: the limiter s after `on_replace` accepted the new value w.
---     `given-is`: the returned entry is the offered entry. `given-names`: a reflexive test accepts the offered key and
---         the returned key.
+--     `unmoved s k v`: `on_removed` changes neither the limiter s nor the entry.
+--     `answers s b`: `on_grow` returns b, and the limiter is then s.
+--     `replaces s k v w`: `on_replace` accepts the new value w, and the limiter is then s.
+--     `given-is`: the returned entry is the offered entry. `given-names`: a reflexive test says that the offered key
+--         equals the returned key.
 --     `given-adds`, `refused-keeps`, `replaced-exchanges`: lemmas on the running total after an offer, for your own
 --         impl of `Summing`.
 use Rattle.std.specs.Prelude.{◌≡◌, ◌≤◌, ◌+◌, ◌-◌, ℕ, Bool, true, false, Option, Some, None, IsTrue, if◌then◌else◌}
@@ -59,8 +59,8 @@ given-names {accepts} {s} {t} {i} {k} {v} {w} E reflexive h =
 
 -- In the lemmas below, the limiter s becomes s' if it accepts an entry, and stays s if it rejects the entry.
 
--- If the total of s' is the total of s plus the cost of the entry, the running total rises by the cost of each accepted
--- entry.
+-- If the total of s' is the total of s plus the cost of the entry, an accepted entry raises the running total by its
+-- cost.
 pub given-adds : {K V S : Type 0} (cost : K → V → ℕ) (account : S → ℕ) (accepts : Bool) (s s' : S) (i : K) (v : V)
     (t : S) (k : K) (w : V) → account s' ≡ account s + cost i v
     → ReturnsPairIf accepts (if accepts then s' else s) i v t (Some (k, w)) → account t ≡ account s + cost k w
@@ -74,8 +74,8 @@ refused-keeps account true s s' i v t h = let e = h.pair in cc
 refused-keeps account false s s' i v t h = ap account h.limiter
 
 -- Suppose that the total of s is at least the old cost, and that the total of s' is the total of s, minus the old cost,
--- plus the new cost. The running total falls by the old cost, and rises by the new cost if the new value is accepted,
--- or else by the old cost.
+-- plus the new cost. If the new value is accepted, the running total falls by the old cost and rises by the new cost.
+-- If not, the running total stays.
 pub replaced-exchanges : {K V S : Type 0} (cost : K → V → ℕ) (account : S → ℕ) (accepts : Bool) (s s' : S) (k : K)
     (v w : V) → account s' ≡ account s - cost k v + cost k w
     → cost k v ≤ account s → account (if accepts then s' else s) ≡ account s - cost k v

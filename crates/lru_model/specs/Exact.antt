@@ -13,14 +13,14 @@ use Rattle.lru_model.specs.Inserts.{make_room, replacement, with_replaced, with_
 
 -- what the table reports when a pair is inserted
 pub record Report : Type 0 where
-  -- the bytes of the larger table for which the limiter was queried, or `None` if the limiter was not queried
+  -- the bytes of the larger table for which the limiter was queried, or `None` without a query
   pub asked : Option ℕ
   -- the number of oldest pairs that were evicted because growth was refused
   pub evicted : ℕ
   -- whether there is a bucket for the pair
   pub has_bucket : Bool
 
--- the report of a table that has a bucket for the pair, if the limiter was not queried and no pair was evicted
+-- the report of a table that has a bucket for the pair without a query or an eviction
 abbrev pub at_once : Report
 at_once = record { asked = None; evicted = 0; has_bucket = true }
 
@@ -64,7 +64,7 @@ module _ {K V S : Type 0} (rules : Rules K V S) where
   queried None s = s
   queried (Some bytes) s = (rules.on_grow s bytes).limiter
 
-  -- the contents after what the report says: the limiter was queried, and pairs were evicted
+  -- the contents after the query and the evictions of the report
   abbrev pub met : Report → Contents K V S → Contents K V S
   met report c = pops rules report.evicted (record { pairs = c.pairs; limiter = queried report.asked c.limiter })
 
@@ -91,18 +91,18 @@ exchanged rules offers names i v c pair =
     if (replacement rules offers names pair i v c).taken then trimmed rules (with_replaced rules offers names pair i v c)
     else (Ok false, with_removed rules offers names pair i v c)
 
--- What an insert into a list of pairs returns, and the list and the limiter after the insert. `Tells s pair report`
--- means that the table may report `report` after `on_insert` returned `pair` and left the limiter s.
+-- An insert into a list of pairs: its result, and the list and the limiter afterwards. `Tells s pair report` means that
+-- the table may report `report` after `on_insert` returned `pair` and changed the limiter to s.
 module _ {K V S I : Type 0} (rules : Rules K V S) (offers : Offers K V S I) (names : I → K → Bool)
     (Tells : S → K × V → Report → Type 0) (i : I) (v : V) (old : Contents K V S) (result : Result Bool AllocError)
     (new : Contents K V S) where
   pub data InsertsNew : Type 0 where
-    -- When the key is offered, the limiter either runs out of memory or returns no pair to store.
+    -- The limiter either runs out of memory or returns no pair to store.
     not_offered : offers.may_run_out old.limiter (length old.pairs) i v → IsErr result → new ≡ old → InsertsNew
     not_admitted : (s : S) → MayGive rules offers names i v old s None →
         result ≡ Ok false → new ≡ record { pairs = old.pairs; limiter = s } → InsertsNew
-    -- The limiter returns a pair to store. Unless the map runs out of memory, the pair is stored if the table reports a
-    -- bucket for the pair.
+    -- The limiter returns a pair to store. If the table reports a bucket for the pair, the pair is stored, unless the
+    -- map runs out of memory.
     admitted : (s : S) (pair : K × V) → MayGive rules offers names i v old s (Some pair) →
         (report : Report) → Tells s pair report →
         stored rules report pair (make_room rules (record { pairs = old.pairs; limiter = s })) ≡ (result, new) →
@@ -138,7 +138,7 @@ module _ {K V S I : Type 0} (rules : Rules K V S) (offers : Offers K V S I) (nam
     InsertsInSmallTable i v = InsertsGiven (λ s pair. small_report rules old
         (make_room rules (record { pairs = old.pairs; limiter = s }))) i v (contents old)
 
--- the limiter and the arguments of `on_insert` determine its result, and the limiter after the call
+-- two calls of `on_insert` with equal limiters and arguments have equal results, and leave equal limiters
 abbrev pub IsDetermined : {K V S I : Type 0} → Offers K V S I → Type 0
 IsDetermined {K} {V} {S} {I} offers = (s : S) (n : ℕ) (i : I) (v : V) (t u : S) (given other : Option (K × V)) →
     offers.on_insert s n i v t given → offers.on_insert s n i v u other → (t ≡ u) × (given ≡ other)

@@ -47,11 +47,11 @@ module _ {K V S I : Type 0} (rules : Rules K V S) (offers : Offers K V S I) (nam
   abbrev pub replacement : K × V → I → V → Contents K V S → Replaced K V S
   replacement pair i v c = offers.on_replace c.limiter (length c.pairs) pair.0 i pair.1 v
 
-  -- the key of the pair and the new value, as `on_replace` leaves them
+  -- the pair's key and the new value, as `on_replace` leaves them
   abbrev pub with_new_value : K × V → I → V → Contents K V S → K × V
   with_new_value pair i v c = let r = replacement pair i v c in (r.key, r.new_value)
 
-  -- the key of the pair and the old value, as `on_replace` leaves them
+  -- the pair's key and the old value, as `on_replace` leaves them
   abbrev pub with_old_value : K × V → I → V → Contents K V S → K × V
   with_old_value pair i v c = let r = replacement pair i v c in (r.key, r.old_value)
 
@@ -67,11 +67,11 @@ module _ {K V S I : Type 0} (rules : Rules K V S) (offers : Offers K V S I) (nam
   with_removed pair i v c = let r = replacement pair i v c in
       record { pairs = without (names i) c.pairs; limiter = (rules.on_removed r.limiter r.key r.old_value).limiter }
 
-  -- the value that the map does not keep after an insert, or `None` if the key was new
+  -- the value that an insert leaves out of the map, or `None` if the key was new
   abbrev pub unkept_value : I → V → Contents K V S → Option V
   unkept_value i v c = option_map (λ pair. unkept_of (replacement pair i v c)) (lookup_entry (names i) c.pairs)
 
-  -- If a new key is offered, `on_insert` may return `given` (a pair to store, or `None`), and leave the limiter s.
+  -- If a new key is offered, `on_insert` may return `given` (a pair to store, or `None`), and change the limiter to s.
   abbrev pub MayGive : I → V → Contents K V S → S → Option (K × V) → Type 0
   MayGive i v c s given = offers.on_insert c.limiter (length c.pairs) i v s given
 

@@ -11,9 +11,9 @@ use Rattle.lru_model.specs.Inserts.{replacement, with_old_value, MayGive}
 use Rattle.lru_model.specs.Theorems.{Stores}
 
 module _ {K V S H I : Type 0} (rules : Rules K V S) (offers : Offers K V S I) (names : I → K → Bool) where
-  -- A value is lost only if the insert replaces or rejects the value. Each old pair, and the pair that the limiter
-  -- returned for a new key, is in the map after the insert, or was passed to the callback. `passed` lists the pairs
-  -- that the callback got, in order.
+  -- A value is lost only if the insert replaces or rejects the value. After the insert, each old pair is in the map, or
+  -- was passed to the callback. The same is true of the pair that the limiter returned for a new key. `passed` lists
+  -- the pairs that the callback got, in order.
   pub data LosesNothing (i : I) (v : V) (old : State K V S H) (result : Result Bool AllocError)
       (passed : List (K × V)) (new : State K V S H) : Type 0 where
     -- A pair is stored as the newest, in front of the old pairs of other keys. The oldest pairs may be evicted. If no
@@ -70,8 +70,8 @@ abbrev pub newest_after : {K V : Type 0} → (K → K → Bool) → ℕ → List
 newest_after eq most inserted old = fold
     (λ left pair. take most ((stored_key (eq pair.0) pair.0 left, pair.1) ∷ without (eq pair.0) left)) old inserted
 
--- The pairs of a map with the maximum length `most` after an insert: the new pair, and the newest pairs of other keys,
--- up to `most` pairs in all. If the insert runs out of memory, the newest `most` - 1 of the old pairs stay.
+-- The pairs after an insert into a map with the maximum length `most`: the new pair, and the newest pairs of other
+-- keys, up to `most` pairs in all. If the insert runs out of memory, the newest `most` - 1 of the old pairs stay.
 pub record LeavesTheNewest {K V : Type 0} (eq : K → K → Bool) (most : ℕ) (key : K) (value : V) (old : List (K × V))
     (result : Result Bool AllocError) (new : List (K × V)) : Type 0 where
   pub answer : IsOk result → result ≡ Ok (nat_lt 0 most)

@@ -10,8 +10,8 @@ use Rattle.lru_limits.specs.Rules.{Rules}
 use Rattle.lru_model.specs.Sizes.{target, Target, no_table, new_table}
 use Rattle.lru_model.specs.State.{State, TableState, buckets, growth_left, FirstFreeIs, count_insert, contents, Leaves, pop}
 
--- The pair is stored (`placed`), or the table cannot grow and there is no pair to evict (`refused`), or the map runs
--- out of memory (`no_memory`).
+-- `placed`: the pair is stored. `refused`: the table cannot grow, and there is no pair to evict. `no_memory`: the map
+-- runs out of memory.
 pub data Outcome : Type 0 where
   placed refused no_memory : Outcome
 
@@ -102,8 +102,7 @@ module _ {K V S H : Type 0} (rules : Rules K V S) where
   IsPlacedIfMemory pair count spare moves old no_memory new = new ≡ unstored pair old
   IsPlacedIfMemory pair count spare moves old refused new = ⊥
 
-  -- Either all entries moved into a table of `count` buckets, which also stores the new pair, or the map ran out of
-  -- memory.
+  -- Either a table of `count` buckets now contains all entries and the new pair, or the map ran out of memory.
   abbrev pub IsPlacedByMove : K × V → ℕ → State K V S H → Outcome → State K V S H → Type 0
   IsPlacedByMove pair count old =
       IsPlacedIfMemory pair count (full_capacity count - length old.pairs - 1) (length old.pairs) old
@@ -116,8 +115,8 @@ module _ {K V S H : Type 0} (rules : Rules K V S) where
         mid ≡ asked bytes old → CannotGrow old mid
 
   -- The oldest pairs of `mid` are evicted until a bucket takes the new pair. If the pairs fill less than half of the
-  -- capacity, no more pairs are evicted: the table is rehashed, or the map runs out of memory. If there is no pair to
-  -- evict, the new pair is not stored. `old` and `mid` are the maps of `CannotGrow`.
+  -- capacity, the evictions stop: the table is rehashed, or the map runs out of memory. If there is no pair to evict,
+  -- the new pair is not stored. `old` and `mid` are the maps of `CannotGrow`.
   pub data Evicts (hash : ℕ) (pair : K × V) (old mid : State K V S H) (outcome : Outcome)
       (new : State K V S H) : Type 0 where
     nothing_to_evict : old.pairs ≡ [] →

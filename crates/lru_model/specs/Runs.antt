@@ -1,5 +1,5 @@
--- How one call changes a map (`Step`), and how several calls, one after another, change a map (`Run`). What each insert
--- of a run evicts (`InsertEvictsOldest`).
+-- How a map changes by one call (`Step`), and by several calls, one after another (`Run`). What each insert of a run
+-- evicts (`InsertEvictsOldest`).
 --     `names i k`: the key i of a call names k.
 --     `hash_of h k`: the hash of k by the hasher h.
 use Rattle.std.specs.Prelude.{◌≡◌, ◌⊎◌, ℕ, Bool, true, false, List, Option, IfSome, Result, Contains, map}
@@ -79,7 +79,7 @@ module _ {K V S H I : Type 0} (rules : Rules K V S) (offers : Offers K V S I) (n
   abbrev pub StepAmong : (K → Bool) → State K V S H → State K V S H → Type 0
   StepAmong test old new = (step : AnyStep old new) × NamesOnly test old new step
 
-  -- An insert evicts only the oldest pairs. Or the limiter rejected the new value, and the insert removes only the pair
+  -- An insert evicts only the oldest pairs. But if the limiter rejects the new value, the insert removes only the pair
   -- of the inserted key.
   abbrev pub InsertEvictsOldest : (old new : State K V S H) → AnyStep old new → Type 0
   InsertEvictsOldest old new (calls (inserts key value result h)) = EvictsOldest (names key)

@@ -14,7 +14,7 @@ module _ {K V S H : Type 0} where
   abbrev pub IsLooseFor : ℕ → State K V S H → Type 0
   IsLooseFor count st = (buckets_for st.max (length st.pairs) ≡ Some count) × (count < buckets st)
 
-  -- the map after the number of its pairs was added to the count `shrunk`
+  -- the map after the count `shrunk` rose by the number of pairs
   abbrev pub shrink_counted : State K V S H → State K V S H
   shrink_counted st = record st { counts = record st.counts { shrunk = count_up st.counts.shrunk (length st.pairs) } }
 

@@ -1,4 +1,4 @@
--- How many buckets the width of links permits, how many bytes a table takes, and into which table a map grows.
+-- The number of buckets that the width of links permits, the bytes of a table, and the table into which a map grows.
 -- Quotients are rounded down.
 use Rattle.std.specs.Prelude.{◌≡◌, ◌⊎◌, ℕ, ◌+◌, ◌-◌, ◌*◌, ◌/◌, ◌^◌, ◌<◌, ◌≤◌, ◌==◌, nat_lt, nat_le, if◌then◌else◌}
 use Rattle.std.specs.Prelude.{Option, Some, None}
@@ -11,7 +11,8 @@ max_of_32_bits = 2 ^ 32 - 1
 abbrev pub max_of_64_bits : ℕ
 max_of_64_bits = 2 ^ 64 - 1
 
--- The bytes of a table: the bytes of the entries, rounded up to a multiple of 16, plus a byte for each bucket, plus 16.
+-- The bytes of a table: the bytes of the entries are rounded up to a multiple of 16, and a byte for each bucket and 16
+-- bytes are added.
 abbrev pub bytes_of : ℕ → ℕ → ℕ
 bytes_of entry_bytes buckets = (entry_bytes * buckets + 15) / 16 * 16 + buckets + 16
 
@@ -23,7 +24,7 @@ usage entry_bytes buckets =
     else (if nat_le (bytes_of entry_bytes buckets) (2 ^ 63 - 16) then Some (bytes_of entry_bytes buckets)
     else None)
 
--- The largest table that has fewer than `max` buckets and fits the budget uses `bytes` bytes. If there is no such
+-- `bytes` is the usage of the largest table that has fewer than `max` buckets and fits the budget. If there is no such
 -- table, `bytes` is 0.
 pub record IsGreatestUsage (max entry_bytes budget bytes : ℕ) : Type 0 where
   pub within : bytes ≤ budget
@@ -32,7 +33,7 @@ pub record IsGreatestUsage (max entry_bytes budget bytes : ℕ) : Type 0 where
   pub greatest : (buckets other : ℕ) → IsPowerFromFour buckets → buckets < max →
       usage entry_bytes buckets ≡ Some other → other ≤ budget → other ≤ bytes
 
--- Into which table a map grows: no table, a table of the same size (a rehash), or a new table with these numbers of
+-- The table into which a map grows: no table, a table of the same size (a rehash), or a new table with these numbers of
 -- buckets and bytes.
 pub data Target : Type 0 where
   no_table same_table : Target

@@ -26,12 +26,12 @@ abbrev pub empty_table : TableState
 empty_table = record { states = []; places = [] }
 
 pub record Counts : Type 0 where
-  -- how many insertions the table has made; new and moved entries both count
+  -- the number of insertions into the table, of both new and moved entries
   pub insertions : ℕ
-  -- how many entries all inserts together moved, and how many new entries they stored
+  -- the number of entries that inserts moved, and the number of new entries that they stored
   pub moved : ℕ
   pub placed : ℕ
-  -- how many entries all shrinks together have rehashed
+  -- the number of entries that shrinks rehashed
   pub shrunk : ℕ
 
 pub record State (K V S H : Type 0) : Type 0 where
@@ -42,7 +42,7 @@ pub record State (K V S H : Type 0) : Type 0 where
   pub hasher : H
   pub table : TableState
   pub counts : Counts
-  -- how many bytes an entry takes in the table; the constructor got or computed this number
+  -- the bytes of an entry in the table, which the constructor got or computed
   pub entry_bytes : ℕ
   -- the number of the link `MAX`; all bucket numbers are smaller
   pub max : ℕ
@@ -84,8 +84,8 @@ pub record GivesBack (was n : ℕ) (old new : List BucketState) : Type 0 where
 abbrev pub FirstFreeIs : BucketState → ℕ → List BucketState → Type 0
 FirstFreeIs state hash states = (b : ℕ) × IsFirstFree states hash b × (bucket_at states b ≡ state)
 
--- The pair at `place` was removed, and its bucket is now free. If some run of 16 neighbouring buckets includes this
--- bucket, but no empty bucket, the bucket is deleted. Otherwise, the bucket is empty. The other buckets keep their
+-- The pair at `place` was removed, and its bucket is now free. If this bucket is in a run of 16 neighbouring buckets of
+-- which none is empty, its new state is deleted. Otherwise, its new state is empty. The other buckets keep their
 -- states.
 pub record Frees (place : Option ℕ) (old new : TableState) : Type 0 where
   pub bucket : ℕ

@@ -29,8 +29,9 @@ module _ {K V S H : Type 0} where
         new.counts.moved + potential new + 2 * old.counts.placed
         ≤ old.counts.moved + potential old + 2 * new.counts.placed
 
-  -- Take the number that `count` reads, plus the `potential`. This sum rises by at most m for each stored entry, and n
-  -- for each entry that a shrink rehashed. This bound holds until the count `placed` or `shrunk` stops at its maximum.
+  -- Consider the number that `count` reads, plus the `potential`. This sum rises by at most m for each stored entry,
+  -- plus n for each entry that a shrink rehashed. This bound holds until the count `placed` or `shrunk` stops at its
+  -- maximum.
   pub record PaysFor (count : Counts → ℕ) (m n : ℕ) (old new : State K V S H) : Type 0 where
     pub placed : old.counts.placed ≤ new.counts.placed
     pub shrunk : old.counts.shrunk ≤ new.counts.shrunk
@@ -67,8 +68,8 @@ pub record IsNewest {K V : Type 0} (names : K → Bool) (pairs : List (K × V)) 
 -- limiter rejects the new value for this pair.
 pub data EvictsOldest {K V : Type 0} (names : K → Bool) (refuses : K × V → Type 0) (old new : List (K × V))
     : Type 0 where
-  -- Take the pair of the inserted key, and then the old pairs of other keys. The list begins with the list `new`, which
-  -- may be empty.
+  -- Consider a list of the pair of the inserted key, and then the old pairs of other keys. This list begins with the
+  -- list `new`, which may be empty.
   behind : (newest : K × V) → names newest.0 ≡ true → IsFront new (newest ∷ without names old) →
       EvictsOldest names refuses old new
   -- The inserted key was new, and its pair is not stored. The oldest pairs may have been evicted.

@@ -99,8 +99,8 @@ pub fn small_inserts_are_exact<
 
 /// An insert changes the entries as the `Report` of the table says (`exact`; see `small_inserts_are_exact`). Every
 /// insert has a report (`given`). Suppose that the limiter and the arguments determine what `on_insert` does
-/// (`IsDetermined`), and that two inserts return `Ok`. If both inserts have equal arguments and reports, and find equal
-/// entries and limiters, they return equal results, and leave equal entries and limiters (`alike`).
+/// (`IsDetermined`), and that two inserts return `Ok`. If their arguments and reports are equal, and they begin with
+/// equal entries and limiters, they return equal results, and end with equal entries and limiters (`alike`).
 pub fn inserts_are_exact_unless_refused<
     K: Eq + Hash,
     V,
@@ -212,9 +212,9 @@ pub fn inserts_pay_for_moves<
         CountsInsertions old.counts new.counts }
 {}
 
-/// If growth is refused (`IsRefusedGrowth`), the entries after the insertion, including the new entry, fill at least
-/// half of the capacity (`half`). If memory runs out, the map may have one entry fewer (`without_memory`). If the table
-/// has up to 16 buckets, only the oldest entry is evicted (`one`).
+/// If growth is refused (`IsRefusedGrowth`), the entries that stay and the new entry fill at least half of the capacity
+/// (`half`). If memory runs out, the map may have one entry fewer (`without_memory`). If the table has up to 16
+/// buckets, only the oldest entry is evicted (`one`).
 pub fn refused_growth_keeps_half<K: Eq + Hash, V, L: Limiter<K, V>, S: KeyHasher<K>>()
     ensures half { (pair : K × V) (old new : State K V L S) →
         IsRefusedGrowth L.rules old →

@@ -1,4 +1,4 @@
-//! How many bytes a table takes, and into which table a map grows.
+//! The bytes of a table, and the table into which a map grows.
 ghost use Rattle.std.specs.Prelude.{◌≡◌, ◌-◌, ◌/◌, ◌^◌, ◌<◌, ◌≤◌};
 ghost use Rattle.group_table.specs.Sizes.{IsBucketCount, full_capacity};
 ghost use Rattle.lru_model.specs.Sizes.{bytes_of, usage, IsGreatestUsage, target, larger};
@@ -7,7 +7,7 @@ use group_table::{buckets_for_capacity, full_capacity};
 
 const MOST_BYTES: usize = isize::MAX as usize - 15;
 
-/// Returns how many bytes a table of `buckets` buckets takes, or `None` if it would take more than `isize::MAX - 15`
+/// Returns the bytes of a table of `buckets` buckets, or `None` if the table would take more than `isize::MAX - 15`
 /// bytes.
 #[tactic(auto, unfolding(crate::specs::Sizes::usage))]
 pub fn usage(entry_bytes: usize, buckets: usize) -> Option<usize>
@@ -25,7 +25,7 @@ pub fn usage(entry_bytes: usize, buckets: usize) -> Option<usize>
     }
 }
 
-/// Returns how many bytes a table with one or more buckets takes. The result must be at most `isize::MAX - 15`.
+/// Returns the bytes of a table with one or more buckets. The result must be at most `isize::MAX - 15`.
 pub fn bytes_of(entry_bytes: usize, buckets: usize) -> usize
     requires { bytes_of entry_bytes buckets ≤ 2 ^ 63 - 16 }
     ensures { result ≡ bytes_of entry_bytes buckets }
@@ -33,7 +33,7 @@ pub fn bytes_of(entry_bytes: usize, buckets: usize) -> usize
     (entry_bytes * buckets + 15) / 16 * 16 + buckets + 16
 }
 
-/// Returns the buckets and the bytes of the table into which a table of `buckets` buckets grows to hold `pairs`
+/// Returns the buckets and the bytes of the larger table, if a table of `buckets` buckets grows to hold `pairs`
 /// entries. `pairs` must be more than half of the capacity of the old table. Returns `None` if the larger table would
 /// have `max` or more buckets (too many for the links), or would take more than `isize::MAX - 15` bytes.
 #[tactic(auto, unfolding(crate::specs::Sizes::target))]

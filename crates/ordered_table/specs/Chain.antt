@@ -9,7 +9,7 @@ use Rattle.ordered_table.specs.OrderedTable.{bucket_after, bucket_before}
 use Rattle.ordered_table.specs.declared.linked.Entry.{Entry}
 use Rattle.ordered_table.specs.declared.linked.chain.Chain.{Chain}
 
--- the same bucket, but with a pair in place of the entry with its links
+-- the same bucket, but with only the key and the value of its entry
 abbrev pub pair_slot : {K V N : Type 0} → Slot (Entry K V N) → Slot (K × V)
 pair_slot empty = empty
 pair_slot deleted = deleted
@@ -23,8 +23,8 @@ module _ {N : Type 0} (link : ℕ → N) (none : N) where
   link_to None = none
   link_to (Some b) = link b
 
--- The buckets to which the link `from`, and then the links to older entries, lead: n buckets, or fewer if the links
--- end.
+-- The buckets that a walk reaches by the link `from`, and then by the links to older entries: n buckets, or fewer if
+-- the links end.
 abbrev pub along : {K V N : Type 0} → (N → ℕ) → ℕ → List (Slot (Entry K V N)) → N → List ℕ
 along number zero slots from = []
 along number (suc n) slots from = unwrap_or (option_map (λ entry. number from ∷ along number n slots entry.older)

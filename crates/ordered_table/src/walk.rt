@@ -22,7 +22,7 @@ pub(crate) mod keys;
 #[derive(Drop)]
 pub struct Walk<'a, K, V, N: LinkType> {
     entries: &'a OrderedTable<K, V, N>,
-    // The bucket of the first remaining entry, the bucket of the last, and the number of remaining entries.
+    // The buckets of the first and the last remaining entry, and the number of remaining entries.
     front: usize,
     back: usize,
     left: usize,

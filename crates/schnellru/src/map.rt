@@ -61,8 +61,8 @@ pub(crate) mod update;
 /// # The bytes of an entry
 ///
 /// An entry contains a key, a value and two links to its neighbours in the order of use. The links have the type `N`,
-/// the limiter's `LinkType`. `default`, `with_limiter` and `with_limiter_and_hasher` compute the entry's size. To the
-/// other constructors, pass `size_of::<(K, V, N, N)>()` as `entry_bytes`.
+/// the limiter's `LinkType`. `default`, `with_limiter` and `with_limiter_and_hasher` compute the entry's size. If you
+/// call another constructor, pass `size_of::<(K, V, N, N)>()` as `entry_bytes`.
 ///
 /// `entry_bytes` does not change how much memory a table takes. If `entry_bytes` is too small, `ByMemoryUsage` and
 /// `ByBytes` permit tables above their limit. If `entry_bytes` is too great, they refuse tables that would fit.

@@ -103,7 +103,7 @@ impl<K: Eq + Hash, V, L: Limiter<K, V>, S: KeyHasher<K>> LruMap<K, V, L, S> {
     /// assert_eq!(rt; (map.get_index_of(&1), map.get_index_of(&9)), (Some(2), None));
     /// ```
     ///
-    /// Cost: `O(1)` expected to find the key, and `O(index)` to count the entries that are newer.
+    /// Cost: `O(1)` expected to find the key, and `O(index)` to count the newer entries.
     ///
     /// Follows `get_index_of` of the crate `indexmap`.
     pub fn get_index_of<Q: LookupKey<K>>(&self, key: &Q) -> Option<usize>
@@ -113,8 +113,8 @@ impl<K: Eq + Hash, V, L: Limiter<K, V>, S: KeyHasher<K>> LruMap<K, V, L, S> {
         Some(self.entries.index_of(b))
     }
 
-    /// Returns the next entry that is older than the entry of a key. Returns `None` if the key is not there, or if its
-    /// entry is the oldest. So code can step through a map without an iterator.
+    /// Returns the neighbour of a key's entry towards the oldest entry. Returns `None` if the key is not there, or if
+    /// its entry is the oldest. So code can step through a map without an iterator.
     ///
     /// ```
     /// assert!(rt; map.peek_older(&2) == Some((&1, &10)) && map.peek_older(&1).is_none());
@@ -131,8 +131,8 @@ impl<K: Eq + Hash, V, L: Limiter<K, V>, S: KeyHasher<K>> LruMap<K, V, L, S> {
         Some(self.entries.pair(self.entries.older_unless_last(b)))
     }
 
-    /// Returns the next entry that is newer than the entry of a key. Returns `None` if the key is not there, or if its
-    /// entry is the newest.
+    /// Returns the neighbour of a key's entry towards the newest entry. Returns `None` if the key is not there, or if
+    /// its entry is the newest.
     ///
     /// ```
     /// assert!(rt; map.peek_newer(&2) == Some((&3, &30)) && map.peek_newer(&3).is_none());

@@ -9,8 +9,8 @@ use group_table::Table;
 /// A value that reports how many bytes it owns outside of itself: the bytes of its blocks, plus the bytes that the
 /// values in these blocks own.
 ///
-/// A block counts as its bytes rounded up to a multiple of 16, plus 16 for the allocator. The GNU allocator takes at
-/// most this number, except for very large blocks, which it maps page by page.
+/// The bytes of a block are rounded up to a multiple of 16, and 16 is added for the allocator. The GNU allocator takes
+/// at most this number of bytes, except for very large blocks, which it maps page by page.
 ///
 /// ```
 /// let block: Vec<u8> = Vec::with_capacity(alloc, 17)?;

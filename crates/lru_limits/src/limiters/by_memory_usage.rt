@@ -8,8 +8,8 @@ use std::marker::Model;
 /// Limits the bytes of the table. Contracts represent the limiter by its limit.
 ///
 /// `ByMemoryUsage` permits a growth if and only if the new table is within the limit. If `ByMemoryUsage` refuses a
-/// growth, an insert evicts the oldest entries. The limiter counts neither the old table, which exists during a growth,
-/// nor what keys and values own.
+/// growth, an insert evicts the oldest entries. The limiter does not count the memory that keys and values own, or the
+/// old table, which exists during a growth.
 ///
 /// ```
 /// let mut limiter = ByMemoryUsage::new(152);

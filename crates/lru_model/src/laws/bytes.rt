@@ -10,8 +10,8 @@ use lru_limits::{Admission, ByBytes, Insertion, KeyHasher, Limiter, OwnedBytes, 
 use std::hash::Hash;
 
 /// A map with `ByBytes` keeps to its limit (`KeepsBytes`) if its limiter counts all bytes of the map, and the count is
-/// at most the limit. The bytes of a map that keeps to its limit are at most this limit (`memory`). The map still keeps
-/// to its limit after each `Step` (`kept`) and each `try_insert` (`tried`). No `Step` changes the limit (`limit`). The
+/// at most the limit. If a map keeps to its limit, its bytes are at most this limit (`memory`). The map still keeps to
+/// its limit after each `Step` (`kept`) and each `try_insert` (`tried`). No `Step` changes the limit (`limit`). The
 /// limiter permits a growth only if the new table plus the owned bytes are within the limit (`grown`). The old table,
 /// which exists until all entries have moved, is not counted.
 ///

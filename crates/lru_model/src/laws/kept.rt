@@ -76,9 +76,9 @@ pub fn inserts_with_room_are_exact<
 
 /// After a successful insert with `ByLength`, the map has the first `max_length` entries of this list: the stored key
 /// with the new value, and then the old entries of other keys, newest first. The law holds for a map that keeps to its
-/// length (`newest`; see `maps_keep_to_their_length`), and for a map with at most `max_length` entries and growth left
-/// (`with_room`). If the map keeps to its length, several inserts, one after another, leave the newest entries, too
-/// (`lists`).
+/// length (`newest`; see `maps_keep_to_their_length`). It also holds for a map with at most `max_length` entries and
+/// growth left (`with_room`). If the map keeps to its length, several inserts, one after another, leave the newest
+/// entries, too (`lists`).
 pub fn inserts_leave_the_newest<K: Eq + Hash + Drop, V: Drop, S: KeyHasher<K>>()
     ensures newest { (key : K) (value : V) (old : State K V ByLength S) (result : Result Bool AllocError)
         (new : State K V ByLength S) →

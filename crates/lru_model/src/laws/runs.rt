@@ -11,16 +11,15 @@ ghost use Rattle.lru_model.specs.Theorems.{PaysForMoves, UsesAtMost, IsSummed, o
 use lru_limits::{Budgeted, Insertion, KeyHasher, Limiter, LookupKey};
 use std::hash::Hash;
 
-/// If a map satisfies `IsMap`, the map also satisfies `IsMap` after any sequence of calls and writes through references
-/// into the map. `IsMap` implies that no two keys are equal, and that the bound `paid` of `inserts_pay_for_moves`
-/// holds.
+/// If a map satisfies `IsMap`, it still does so after any sequence of calls, and of writes through references into the
+/// map. `IsMap` implies that no two keys are equal, and that the bound `paid` of `inserts_pay_for_moves` holds.
 pub fn runs_keep_maps<K: Eq + Hash, V, I: LookupKey<K>, L: Insertion<K, V, I>, S: KeyHasher<K>>()
     ensures map { (old new : State K V L S) →
         Run (AnyStep L.rules L.offers I.names S.hash_of) new old →
         IsMap K.eq old → IsMap K.eq new }
 {}
 
-/// If the running total of the limiter is the sum of the costs of the entries, this is still so after any `Step`s.
+/// If the running total of the limiter is the sum of the costs of the entries, this is still true after any `Step`s.
 /// Values may be written between the steps, if each new value costs as much as the old value.
 pub fn runs_keep_sums<K: Eq + Hash, V, I: LookupKey<K>, L: Insertion<K, V, I>, S: KeyHasher<K>>()
     ensures sum { (cost : K → V → ℕ) (account : L → ℕ) → IsAccount L.rules L.offers cost account →
@@ -30,7 +29,7 @@ pub fn runs_keep_sums<K: Eq + Hash, V, I: LookupKey<K>, L: Insertion<K, V, I>, S
 {}
 
 /// During any sequence of calls, the count of moved entries, plus the `potential` (`specs/State`), rises by at most 2
-/// for each stored entry, and 1 for each entry that a shrink rehashed. The bound holds until the count `placed` or
+/// for each stored entry, plus 1 for each entry that a shrink rehashed. The bound holds until the count `placed` or
 /// `shrunk` reaches `u64::MAX`.
 pub fn runs_pay_for_moves<
     K: Eq + Hash,
@@ -44,8 +43,8 @@ pub fn runs_pay_for_moves<
         IsSized old → PaysForMoves old new }
 {}
 
-/// Consider the entries whose keys no call of a run names. A run without `pop_newest` evicts only the oldest of these
-/// entries.
+/// Consider the entries whose keys are not named by any call of a run. A run without `pop_newest` evicts only the
+/// oldest of these entries.
 pub fn runs_evict_the_oldest<
     K: Eq + Hash,
     V,

@@ -8,15 +8,15 @@ ghost use Rattle.lru_model.specs.Theorems.{UsesAtMost};
 use lru_limits::{KeyHasher, Limiter};
 use std::hash::Hash;
 
-/// A shrink keeps the entries, the limiter, and the counts of entries that inserts moved and stored.
+/// A shrink keeps the entries, the limiter, and the counts `moved` and `placed`.
 pub fn shrinks_keep_the_list<K: Eq + Hash, V, L: Limiter<K, V>, S: KeyHasher<K>>()
     ensures { (old : State K V L S) (result : Result Bool AllocError) (new : State K V L S) →
         Shrink old result new → (new.pairs ≡ old.pairs) × (new.limiter ≡ old.limiter)
         × (new.counts.moved ≡ old.counts.moved) × (new.counts.placed ≡ old.counts.placed) }
 {}
 
-/// If a shrink makes the table smaller, the shrink rehashes and counts each entry, and the `potential` (`specs/State`)
-/// is then at most the number of entries (`shrunk`). If the table keeps its size, the shrink changes nothing (`kept`).
+/// If a shrink makes the table smaller, the shrink rehashes and counts each entry. The `potential` (`specs/State`) is
+/// then at most the number of entries (`shrunk`). If the table keeps its size, the shrink changes nothing (`kept`).
 pub fn shrinks_pay_for_moves<K: Eq + Hash, V, L: Limiter<K, V>, S: KeyHasher<K>>()
     ensures shrunk { (old new : State K V L S) →
         Shrink old (Ok true) new →
@@ -25,7 +25,7 @@ pub fn shrinks_pay_for_moves<K: Eq + Hash, V, L: Limiter<K, V>, S: KeyHasher<K>>
         (result ≡ Ok true → ⊥) → Shrink old result new → new ≡ old }
 {}
 
-/// After a shrink the table has no more buckets (`fewer`) and takes no more bytes (`usage`) than before. If a shrink
+/// A shrink raises neither the number of buckets (`fewer`) nor the bytes that the table takes (`usage`). If a shrink
 /// made the table smaller, a second shrink finds nothing to do (`again`).
 pub fn shrinks_leave_a_tight_table<K: Eq + Hash, V, L: Limiter<K, V>, S: KeyHasher<K>>()
     ensures fewer { (old : State K V L S) (result : Result Bool AllocError) (new : State K V L S) →

@@ -145,7 +145,8 @@ impl<K: Drop, V: Drop, N: LinkType> OrderedTable<K, V, N> {
 
 impl<K: Eq + Hash, V, N: LinkType> OrderedTable<K, V, N> {
     /// Offers a limiter a new value for the entry in a full bucket. Returns whether the limiter accepted the value. If
-    /// the limiter accepted, the entry has the new value afterwards, and `value` is the old value. The order stays.
+    /// the limiter accepted the value, the entry has the new value afterwards, and `value` is the old value. The order
+    /// stays.
     #[inline]
     pub fn offer<I: LookupKey<K>, L: Insertion<K, V, I>>(
         &mut self,

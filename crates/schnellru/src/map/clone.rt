@@ -22,7 +22,7 @@ impl<
     /// ```
     ///
     /// A clone of a key must equal the key, and a clone of the hasher must return the same hashes. Cost: `O(buckets)`,
-    /// two allocations if the map has buckets, and what the clones of keys, values, limiter and hasher allocate.
+    /// plus what the clones of keys, values, limiter and hasher allocate, plus two allocations if the map has buckets.
     ///
     /// # Errors
     ///

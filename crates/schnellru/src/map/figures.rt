@@ -53,7 +53,7 @@ impl<K: Eq + Hash, V, L: Limiter<K, V>, S: KeyHasher<K>> LruMap<K, V, L, S> {
         self.entries.len() == 0
     }
 
-    /// Returns how many entries the table can surely hold without growing: `len` plus the growth left.
+    /// Returns the number of entries that the table can surely hold without growing: `len` plus the growth left.
     ///
     /// This capacity may fall when an entry is removed from a table of more than 16 buckets. Cost: `O(1)`.
     ///

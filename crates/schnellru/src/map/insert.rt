@@ -62,8 +62,8 @@ impl<K: Eq + Hash + Drop, V: Drop, L: Limiter<K, V>, S: KeyHasher<K>> LruMap<K, 
 
 impl<K: Eq + Hash, V: Drop, L: Limiter<K, V>, S: KeyHasher<K>> LruMap<K, V, L, S> {
     /// Does what `insert` does, and passes each evicted entry to the callback, oldest first. The callback also gets an
-    /// entry that is removed because its new value is rejected, and a new entry that the limiter accepted but the map
-    /// could not store.
+    /// entry that is removed because its new value is rejected. It also gets a new entry that the limiter accepted, but
+    /// the map could not store.
     ///
     /// The callback gets each of these entries once, even if the result is an `Err`. The callback gets an entry before
     /// the limiter is called again (tested, not proved). The callback does not get a replaced value.

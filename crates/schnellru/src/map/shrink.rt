@@ -8,7 +8,7 @@ use std::alloc::AllocError;
 use std::hash::Hash;
 
 impl<K: Eq + Hash, V, L: Limiter<K, V>, S: KeyHasher<K>> LruMap<K, V, L, S> {
-    /// Shrinks the table to the fewest buckets that hold the entries. Returns false if the table is already that small.
+    /// Shrinks the table to the fewest buckets that hold the entries. Returns whether the table became smaller.
     ///
     /// The entries and their order stay. The limiter is not called. An empty map frees its table.
     ///

@@ -34,8 +34,8 @@ impl<K: Eq + Hash + Drop, V: Drop, L: Limiter<K, V>, S: KeyHasher<K>> LruMap<K, 
     /// Sets another limiter, and evicts the oldest entries while the new limiter is over its limit. Returns the old
     /// limiter.
     ///
-    /// A new limiter with a running total, such as `ByCost`, must begin with the total cost of the stored entries,
-    /// because it is not notified of them. `map.limiter().with_limit(n)` begins with the right total.
+    /// The running total of a new limiter, such as `ByCost`, must begin as the total cost of the stored entries,
+    /// because the limiter is not notified of them. `map.limiter().with_limit(n)` begins with the right total.
     ///
     /// ```
     /// let old = map.set_limiter(ByLength::new(1));

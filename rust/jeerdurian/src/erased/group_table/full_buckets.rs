@@ -7,8 +7,8 @@ use crate::rattle_std::prelude::*;
 use crate::erased::group_table::control::Control;
 use crate::erased::group_table::group::{lowest_lane, without_lowest};
 
-// The position of a walk over the full buckets. `lanes` is a mask of the full buckets of the current group that are not
-// yet visited, so a step within the group does not load the group again.
+// The position of a walk over the full buckets. `lanes` is a mask of the full buckets that the walk has still to visit
+// in the current group. So a step within the group does not load the group again.
 
 pub(crate) struct FullBuckets {
     start: usize,

@@ -7,8 +7,8 @@ use crate::rattle_std::prelude::*;
 use crate::erased::group_table::control::{DELETED, EMPTY};
 use crate::rattle_std::simd::prelude::*;
 
-/// Returns which of sixteen neighbouring control bytes are the tag: bit i of the result is set if and only if byte i is
-/// the tag. `docs/TABLE.md` shows masks.
+/// Returns a mask of sixteen neighbouring control bytes: bit i is set if and only if byte i is the tag. `docs/TABLE.md`
+/// shows masks.
 #[inline]
 pub fn match_tag(bytes: &[u8; 16], tag: u8) -> u16 {
     u8x16::from_array(*bytes).simd_eq(u8x16::splat(tag)).to_bitmask() as u16

@@ -4,7 +4,7 @@
 #[allow(unused_imports)]
 use crate::rattle_std::prelude::*;
 
-/// The type of a link: the number of a bucket, or `MAX`, which means no bucket.
+/// The type of a link. A link is the number of a bucket, or is `MAX`, which means no bucket.
 ///
 /// A table with links of type `N` has fewer than `N::MAX` buckets, so the width of the links limits the size of the
 /// table. The trait is implemented for `u8`, `u16`, `u32` and `usize`.

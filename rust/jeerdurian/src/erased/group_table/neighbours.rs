@@ -1,5 +1,6 @@
 // Erased from crates/group_table/src/neighbours.rt: do not edit.
-//! Tests all runs of 16 neighbouring buckets that include bucket b: whether each run contains an empty bucket.
+//! Considers all runs of 16 neighbouring buckets that include bucket b, and tests whether each run contains an empty
+//! bucket.
 
 #[allow(unused_imports)]
 use crate::rattle_std::prelude::*;
@@ -23,12 +24,12 @@ fn ones_if_less(low: u32, high: u16) -> usize {
     (difference >> 32).cast_unsigned() as usize
 }
 
-// Count the used (full or deleted) buckets between the nearest empty buckets around b. If they are fewer than 16, each
-// run contains an empty bucket.
+// Take the row of used (full or deleted) buckets that contains b. If the row is shorter than 16 buckets, each run
+// contains an empty bucket.
 #[inline]
 pub(crate) fn ones_if_empty_neighbours(control: &Control, b: usize) -> usize {
     // `used` has a bit for each used bucket from b up to the next empty bucket. `used` is less than the mask of the
-    // empty buckets before b if and only if fewer than 16 used buckets are in a row around b. Comparing the masks takes
+    // empty buckets before b if and only if the row around b is shorter than 16 buckets. Comparing the masks takes
     // fewer instructions than two counts and their sum.
     let used = lanes_below(empty_from(control, b));
     ones_if_less(used, empty_before(control, b))

@@ -1,10 +1,10 @@
 // Erased from crates/group_table/src/sizes.rt: do not edit.
-//! How many entries n buckets hold, and how many buckets n entries need.
+//! The capacity of n buckets, and the number of buckets for n entries.
 
 #[allow(unused_imports)]
 use crate::rattle_std::prelude::*;
 
-/// Returns how many entries a table may hold: 0 without buckets, `buckets` - 1 for up to 8 buckets, and otherwise seven
+/// Returns how many entries a table may hold: 0 if `buckets` is 0, `buckets` - 1 if `buckets` is at most 8, else seven
 /// eighths of `buckets`.
 #[inline]
 
@@ -12,8 +12,8 @@ pub fn full_capacity(buckets: usize) -> usize {
     if buckets <= 8 { buckets.saturating_sub(1) } else { buckets / 8 * 7 }
 }
 
-/// Returns how many buckets `capacity` entries need: 0 if `capacity` is 0, and otherwise a power of two below `max`.
-/// Returns `None` if no such power is enough, or if 8 * `capacity` overflows.
+/// Returns the number of buckets for `capacity` entries: 0 if `capacity` is 0, else a power of two below `max`. Returns
+/// `None` if no such power is enough, or if 8 * `capacity` overflows.
 
 pub fn buckets_for_capacity(capacity: usize, max: usize) -> Option<usize> {
     if capacity == 0 {

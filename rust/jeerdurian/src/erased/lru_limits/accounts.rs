@@ -20,7 +20,7 @@ pub use owned_bytes::OwnedBytes;
 /// A value with a cost. The cost of an unsigned number of up to 64 bits is the number. The cost of a text is its number
 /// of bytes, and the cost of a vector is its number of items.
 ///
-/// The limiter reads the cost of a value again when its entry is evicted or removed, or when the value is replaced. If
+/// The limiter reads the cost of a value again when the value is replaced, or when the entry is evicted or removed. If
 /// the cost of a stored value changes, the running total is no longer the sum of the costs.
 pub trait Costed {
     /// Returns the cost of the value.

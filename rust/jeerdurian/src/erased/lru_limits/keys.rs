@@ -6,11 +6,11 @@ use crate::rattle_std::prelude::*;
 
 use crate::rattle_std::hash::{BuildHasher, Hash};
 
-/// A value that looks up a key: the value names at most one key, up to equality, and has the hash of this key.
+/// A value that looks up a key. All keys that the value names are equal, and the value has their hash.
 ///
 /// Every key type implements `LookupKey` for its own keys, and `&str` implements it for `String` keys. In your own
-/// impl, define in `names` which key a value names, compute `names` in `is_key`, and prove two laws (`IsLookup`). For
-/// the law `writes`: if a struct has one field, its derived `Hash` writes what the field writes.
+/// impl, `names` defines which key a value names, and `is_key` computes `names`. Prove two laws (`IsLookup`). For the
+/// law `writes`: if a struct has one field, its derived `Hash` writes what the field writes.
 pub trait LookupKey<K: Eq + Hash>: Hash {
     /// Returns whether the value names this key.
     fn is_key(&self, key: &K) -> bool;

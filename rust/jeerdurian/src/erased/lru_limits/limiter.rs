@@ -25,16 +25,16 @@ pub trait Limiter<K, V> {
     /// - Before an insert stores a new entry in a map that is not empty, `length` is the length of the map plus 1.
     ///   `try_insert` calls `is_over_the_limit` on a copy of the limiter, even if the map is empty, and evicts nothing.
     ///
-    /// - In `trim` and `set_limiter`, and after an insert or an update that stored an entry or replaced a value,
-    ///   `length` is the length of the map. The map repeats the call after each eviction, until the map is empty.
+    /// - In `trim`, in `set_limiter`, and at the end of an insert or an update that stored a value, `length` is the
+    ///   length of the map. The map repeats the call after each eviction, until the map is empty.
     fn is_over_the_limit(&self, length: usize) -> bool;
 
     /// Called with each entry that is evicted, removed, popped or taken by an iterator, as soon as the entry is out of
     /// the map. The limiter may write to the key and the value before the caller of the map gets them.
     ///
     /// Also called with an entry that `on_insert` returned, if the map cannot store the entry. If a clear or a `Drain`
-    /// drops an entry, the map does not call `on_removed`. The same holds if the drop of the map or of an `IntoIter`
-    /// drops an entry, but no contract says so.
+    /// drops an entry, the map does not call `on_removed`. The drop of the map or of an `IntoIter` does not call
+    /// `on_removed` either, but no contract says so.
     fn on_removed(&mut self, key: &mut K, value: &mut V);
 
     /// Called once by each clear of the map, even if the map is empty. Dropping a `Drain` counts as a clear.
@@ -43,10 +43,10 @@ pub trait Limiter<K, V> {
     /// Returns whether the map may have a larger table, of `new_memory_usage` bytes.
     ///
     /// Called by an insert that finds no bucket for a new entry, and by `try_reserve` and `try_insert` if too little
-    /// growth is left. Not called if no larger table exists, or if the table is rehashed without growing. If the result
-    /// is `false`, the insert evicts the oldest entries to store the new entry, and `try_reserve` and `try_insert`
-    /// fail. If the result is `true`, the allocation of the table may still fail. The limiter is not notified of this
-    /// failure.
+    /// growth is left. Not called if there is no larger table, or if the table is rehashed without growing. If the
+    /// result is `false`, the insert evicts the oldest entries to store the new entry, and `try_reserve` and
+    /// `try_insert` fail. If the result is `true`, the allocation of the table may still fail. The limiter is not
+    /// notified of this failure.
     fn on_grow(&mut self, new_memory_usage: usize) -> bool;
 }
 

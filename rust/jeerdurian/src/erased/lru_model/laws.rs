@@ -45,8 +45,8 @@ pub fn small_inserts_are_exact<K: Eq + Hash, V, I: LookupKey<K>, L: Insertion<K,
 
 /// An insert changes the entries as the `Report` of the table says (`exact`; see `small_inserts_are_exact`). Every
 /// insert has a report (`given`). Suppose that the limiter and the arguments determine what `on_insert` does
-/// (`IsDetermined`), and that two inserts return `Ok`. If both inserts have equal arguments and reports, and find equal
-/// entries and limiters, they return equal results, and leave equal entries and limiters (`alike`).
+/// (`IsDetermined`), and that two inserts return `Ok`. If their arguments and reports are equal, and they begin with
+/// equal entries and limiters, they return equal results, and end with equal entries and limiters (`alike`).
 pub fn inserts_are_exact_unless_refused<K: Eq + Hash, V, I: LookupKey<K>, L: Insertion<K, V, I>, S: KeyHasher<K>>() {}
 
 /// An insert changes the entries as it would change a plain list without a table (`InsertsInList`), under two premises.
@@ -70,9 +70,9 @@ pub fn deleted_buckets_serve<K: Eq + Hash, V, I: LookupKey<K>, L: Insertion<K, V
 /// `rise` and `counted` hold until a count stops at `u64::MAX`.
 pub fn inserts_pay_for_moves<K: Eq + Hash, V, I: LookupKey<K>, L: Insertion<K, V, I>, S: KeyHasher<K>>() {}
 
-/// If growth is refused (`IsRefusedGrowth`), the entries after the insertion, including the new entry, fill at least
-/// half of the capacity (`half`). If memory runs out, the map may have one entry fewer (`without_memory`). If the table
-/// has up to 16 buckets, only the oldest entry is evicted (`one`).
+/// If growth is refused (`IsRefusedGrowth`), the entries that stay and the new entry fill at least half of the capacity
+/// (`half`). If memory runs out, the map may have one entry fewer (`without_memory`). If the table has up to 16
+/// buckets, only the oldest entry is evicted (`one`).
 pub fn refused_growth_keeps_half<K: Eq + Hash, V, L: Limiter<K, V>, S: KeyHasher<K>>() {}
 
 /// If an insertion grows the table, it evicts nothing (`grown`). An insertion evicts entries only if the table needs to

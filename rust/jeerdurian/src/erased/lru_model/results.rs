@@ -12,7 +12,7 @@ use crate::rattle_std::fmt::Display;
 ///   not store it, or if the map stored and then evicted it.
 ///
 /// - If the limiter accepted a new value for a key of the map, `unkept` is the old value. `kept` is false if the entry
-///   was evicted afterwards, because the limiter was still over its limit.
+///   was then evicted, because the limiter was still over its limit.
 ///
 /// - If the limiter rejected a new value for a key of the map, the entry was removed. `unkept` is the new value, and
 ///   `kept` is false.
@@ -41,7 +41,7 @@ pub enum Updated<V> {
 /// Why `try_reserve` fails.
 #[derive(Clone, Copy, Debug, PartialEq, Eq)]
 pub enum ReserveError {
-    /// No table can hold the entries of the map and the entries to reserve, or the number of both together overflows.
+    /// No table can hold the old entries and the reserved entries together, or the sum of their numbers overflows.
     TooLarge = 1,
     /// The limiter refused the larger table.
     Refused = 2,
@@ -81,7 +81,8 @@ where
     }
 }
 
-/// How many entries the inserts of a map moved and stored, and how many entries its shrinks rehashed.
+/// Three counts of a map: the entries that its inserts moved, the new entries that its inserts stored, and the entries
+/// that its shrinks rehashed.
 #[derive(Clone, Copy, Debug, PartialEq, Eq)]
 pub struct MoveReport {
     /// Entries that inserts moved, because the table grew or was rehashed. Entries that `try_reserve` or `try_insert`

@@ -55,7 +55,7 @@ impl<K, V, N: LinkType> OrderedTable<K, V, N> {
         self.linked.growth_left()
     }
 
-    /// Returns how many entries were put into the table. A moved entry is not counted again.
+    /// Returns the number of entries that were put into the table. A moved entry is not counted again.
     #[inline]
     pub fn placed(&self) -> u64 {
         self.linked.placed()

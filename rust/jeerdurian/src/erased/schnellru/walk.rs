@@ -59,7 +59,7 @@ impl<K: Eq + Hash, V, L: Limiter<K, V>, S: KeyHasher<K>> LruMap<K, V, L, S> {
 
     /// Returns the index of a key in the order of use. The newest key has index 0.
     ///
-    /// Cost: `O(1)` expected to find the key, and `O(index)` to count the entries that are newer.
+    /// Cost: `O(1)` expected to find the key, and `O(index)` to count the newer entries.
     ///
     /// Follows `get_index_of` of the crate `indexmap`.
     pub fn get_index_of<Q: LookupKey<K>>(&self, key: &Q) -> Option<usize> {
@@ -67,8 +67,8 @@ impl<K: Eq + Hash, V, L: Limiter<K, V>, S: KeyHasher<K>> LruMap<K, V, L, S> {
         Some(self.entries.index_of(b))
     }
 
-    /// Returns the next entry that is older than the entry of a key. Returns `None` if the key is not there, or if its
-    /// entry is the oldest. So code can step through a map without an iterator.
+    /// Returns the neighbour of a key's entry towards the oldest entry. Returns `None` if the key is not there, or if
+    /// its entry is the oldest. So code can step through a map without an iterator.
     ///
     /// Cost: `O(1)` expected.
     pub fn peek_older<Q: LookupKey<K>>(&self, key: &Q) -> Option<(&K, &V)> {
@@ -79,8 +79,8 @@ impl<K: Eq + Hash, V, L: Limiter<K, V>, S: KeyHasher<K>> LruMap<K, V, L, S> {
         Some(self.entries.pair(self.entries.older_unless_last(b)))
     }
 
-    /// Returns the next entry that is newer than the entry of a key. Returns `None` if the key is not there, or if its
-    /// entry is the newest.
+    /// Returns the neighbour of a key's entry towards the newest entry. Returns `None` if the key is not there, or if
+    /// its entry is the newest.
     ///
     /// Cost: `O(1)` expected.
     pub fn peek_newer<Q: LookupKey<K>>(&self, key: &Q) -> Option<(&K, &V)> {

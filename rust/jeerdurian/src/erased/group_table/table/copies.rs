@@ -10,7 +10,7 @@ use crate::erased::group_table::table::Table;
 use crate::rattle_std::alloc::AllocError;
 
 impl<T> Table<T> {
-    /// Copies the table. The copy of an entry is the result of `f`, in the same bucket.
+    /// Copies the table. The copy of each entry is the result of `f`, and is in the same bucket.
     ///
     /// `f` is called in rising order of the buckets, once for each entry, until it returns an error. Deleted buckets
     /// stay deleted, so the growth left is the same. The counts of insertions are copied. Allocates twice.

@@ -33,14 +33,14 @@ impl<T> Table<T> {
         self.growth_left
     }
 
-    /// Returns how many insertions the table has made. A moved entry counts as one insertion. The count stops at
+    /// Returns the number of insertions into the table. A moved entry counts as one insertion. The count stops at
     /// `u64::MAX`.
     #[inline]
     pub fn insertion_count(&self) -> u64 {
         self.placed.saturating_add(self.moved)
     }
 
-    /// Returns how many entries `place` and `try_place` have inserted. The count stops at `u64::MAX`.
+    /// Returns the number of entries that `place` and `try_place` inserted. The count stops at `u64::MAX`.
     #[inline]
     pub fn placed(&self) -> u64 {
         self.placed

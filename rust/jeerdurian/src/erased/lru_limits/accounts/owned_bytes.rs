@@ -7,8 +7,8 @@ use crate::erased::group_table::Table;
 /// A value that reports how many bytes it owns outside of itself: the bytes of its blocks, plus the bytes that the
 /// values in these blocks own.
 ///
-/// A block counts as its bytes rounded up to a multiple of 16, plus 16 for the allocator. The GNU allocator takes at
-/// most this number, except for very large blocks, which it maps page by page.
+/// The bytes of a block are rounded up to a multiple of 16, and 16 is added for the allocator. The GNU allocator takes
+/// at most this number of bytes, except for very large blocks, which it maps page by page.
 pub trait OwnedBytes {
     /// Returns the bytes that the value owns.
     fn owned_bytes(&self) -> u64;

@@ -9,22 +9,22 @@ use crate::erased::lru_limits::{Budgeted, Insertion, KeyHasher, LookupKey};
 use crate::rattle_std::hash::Hash;
 
 /// If no two keys are equal before a call, no two keys are equal after the call (`keys`). If `IsMap` holds before a
-/// call, and the table is sound after the call, `IsMap` also holds after the call (`map`). The clause `map` of each
-/// call ensures that the table is sound.
+/// call, and the call leaves a sound table, `IsMap` still holds (`map`). The clause `map` of each call ensures that the
+/// table is sound.
 pub fn calls_keep_maps<K: Eq + Hash, V, I: LookupKey<K>, L: Insertion<K, V, I>, S: KeyHasher<K>>() {}
 
-/// If the running total of the limiter is the sum of the costs of the entries, this is still so after each `Step`. The
-/// premise `IsAccount` is a law of `Summing`.
+/// If the running total of the limiter is the sum of the costs of the entries, this is still true after each `Step`.
+/// The premise `IsAccount` is a law of `Summing`.
 pub fn calls_keep_sums<K: Eq + Hash, V, I: LookupKey<K>, L: Insertion<K, V, I>, S: KeyHasher<K>>() {}
 
 /// Suppose that the limiter limits the length to `most` entries (`LimitsLength`), as `ByLength` does. No `Step` changes
-/// this limit (`limit`). If there are at most `most` entries before a `Step`, there are at most `most` entries after it
+/// this limit (`limit`). If there are at most `most` entries before a `Step`, this is still true after the `Step`
 /// (`length`).
 pub fn calls_keep_the_length<K: Eq + Hash, V, I: LookupKey<K>, L: Insertion<K, V, I>, S: KeyHasher<K>>() {}
 
 /// Suppose that the limiter permits only tables of at most `most` bytes (`LimitsMemory`), as `ByMemoryUsage` does,
 /// alone or in `Storing` or `Both`. No `Step` changes this limit (`limit`). If the table takes at most `most` bytes
-/// before a `Step`, it takes at most `most` bytes after it (`usage`).
+/// before a `Step`, this is still true after the `Step` (`usage`).
 pub fn calls_keep_the_memory_usage<K: Eq + Hash, V, I: LookupKey<K>, L: Insertion<K, V, I>, S: KeyHasher<K>>() {}
 
 /// Suppose that the limiter has a budget, as `ByCost` and `ByWeight` have. No `Step` changes the budget (`budget`). If

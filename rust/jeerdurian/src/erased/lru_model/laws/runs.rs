@@ -5,22 +5,21 @@ use crate::rattle_std::prelude::*;
 use crate::erased::lru_limits::{Budgeted, Insertion, KeyHasher, Limiter, LookupKey};
 use crate::rattle_std::hash::Hash;
 
-/// If a map satisfies `IsMap`, the map also satisfies `IsMap` after any sequence of calls and writes through references
-/// into the map. `IsMap` implies that no two keys are equal, and that the bound `paid` of `inserts_pay_for_moves`
-/// holds.
+/// If a map satisfies `IsMap`, it still does so after any sequence of calls, and of writes through references into the
+/// map. `IsMap` implies that no two keys are equal, and that the bound `paid` of `inserts_pay_for_moves` holds.
 pub fn runs_keep_maps<K: Eq + Hash, V, I: LookupKey<K>, L: Insertion<K, V, I>, S: KeyHasher<K>>() {}
 
-/// If the running total of the limiter is the sum of the costs of the entries, this is still so after any `Step`s.
+/// If the running total of the limiter is the sum of the costs of the entries, this is still true after any `Step`s.
 /// Values may be written between the steps, if each new value costs as much as the old value.
 pub fn runs_keep_sums<K: Eq + Hash, V, I: LookupKey<K>, L: Insertion<K, V, I>, S: KeyHasher<K>>() {}
 
 /// During any sequence of calls, the count of moved entries, plus the `potential` (`specs/State`), rises by at most 2
-/// for each stored entry, and 1 for each entry that a shrink rehashed. The bound holds until the count `placed` or
+/// for each stored entry, plus 1 for each entry that a shrink rehashed. The bound holds until the count `placed` or
 /// `shrunk` reaches `u64::MAX`.
 pub fn runs_pay_for_moves<K: Eq + Hash, V, I: LookupKey<K>, L: Insertion<K, V, I>, S: KeyHasher<K>>() {}
 
-/// Consider the entries whose keys no call of a run names. A run without `pop_newest` evicts only the oldest of these
-/// entries.
+/// Consider the entries whose keys are not named by any call of a run. A run without `pop_newest` evicts only the
+/// oldest of these entries.
 pub fn runs_evict_the_oldest<K: Eq + Hash, V, I: LookupKey<K>, L: Insertion<K, V, I>, S: KeyHasher<K>>() {}
 
 /// `inserts_evict_the_oldest` holds for each insert of a run, including each get that inserts, whatever the other calls

@@ -11,7 +11,7 @@ impl<K: TryClone, V: TryClone, L: Limiter<K, V> + TryClone, S: TryClone> LruMap<
     /// Clones the limiter, the hasher, and the entries in their order. The clone has the same bucket states and counts.
     ///
     /// A clone of a key must equal the key, and a clone of the hasher must return the same hashes. Cost: `O(buckets)`,
-    /// two allocations if the map has buckets, and what the clones of keys, values, limiter and hasher allocate.
+    /// plus what the clones of keys, values, limiter and hasher allocate, plus two allocations if the map has buckets.
     ///
     /// # Errors
     ///

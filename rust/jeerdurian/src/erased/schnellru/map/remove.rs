@@ -140,8 +140,8 @@ pub(super) fn notify<K, V, L: Limiter<K, V>>(limiter: &mut L, pair: (K, V)) -> (
     (key, value)
 }
 
-// The callback that is used by calls without a parameter for a callback. Drops the key, and then the value. Parameters
-// without a name would be dropped in the opposite order.
+// The callback of calls that have no parameter for a callback. Drops the key, and then the value. Parameters without a
+// name would be dropped in the opposite order.
 pub(crate) fn discard<K, V>(key: K, value: V) {
     drop(key);
     drop(value);
