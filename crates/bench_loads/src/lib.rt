@@ -1,5 +1,5 @@
 //! Loads on the map. A Rust program times one call of `rattle_load` for each load. If memory runs out, an entry is
-//! missing, and the result differs from the result of the other maps.
+//! missing, so the result differs from the result of the other maps.
 #![tactic(auto)]
 
 mod more;

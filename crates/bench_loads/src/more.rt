@@ -17,7 +17,7 @@ fn map_of_texts(alloc: Global, length: u32, texts: &str, width: usize) -> LruMap
     map
 }
 
-/// Inserts texts of `width` bytes, and gets each text by a `&str`, `rounds` times.
+/// Inserts texts of `width` bytes once, and then gets each text `rounds` times, by a `&str`.
 #[unsafe(no_mangle)]
 pub extern "C" fn rattle_texts(
     alloc: Global,

@@ -51,7 +51,7 @@ impl<'a> CrashFile<'a> {
         })
     }
 
-    /// Leaves each sector at random as it was last made durable, or as it was last written.
+    /// Leaves in each sector, at random, its last durable bytes or its last written bytes.
     pub fn crash(&mut self, random: &mut Random) {
         let sectors = self
             .now

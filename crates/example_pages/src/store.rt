@@ -211,8 +211,8 @@ impl<'a> Store<'a> {
         Ok(recovered)
     }
 
-    /// Copies page n of the log to its place in the file. Does so only if the page in this place is torn, or belongs to
-    /// an earlier transaction.
+    /// Copies page n of the log to its place in the file, if the page in this place is torn or belongs to an earlier
+    /// transaction.
     fn redo(&mut self, n: u64, recovered: &mut Recovered) -> Result<(), StoreError> {
         let Some(page) = self.log.read(n)? else {
             return Ok(());

@@ -29,8 +29,8 @@ module _ {K : Type 0} (names : K → Bool) (now : ℕ) where
   abbrev pub looked_up : List (K × Response) → List (K × Response)
   looked_up pairs = if is_some (fresh_at now (lookup names pairs)) then front names pairs else without names pairs
 
--- The map `old` with the list `list`, the counts `counts`, and the table and the running total of `left`. Nothing else
--- changes.
+-- The map `old` after these changes: its list is `list`, its counts are `counts`, and `left` gives its table and its
+-- running total.
 abbrev pub with_list : {K S : Type 0} → List (K × Response) → Counts → Host K S → Host K S → Host K S
 with_list list counts left old = record old {
   pairs = list;

@@ -14,8 +14,8 @@ use Rattle.lru_tenants.specs.declared.error.TenantError.TheVariants.{Memory}
 use Rattle.example_responses.specs.LookUps.{Host}
 use Rattle.example_responses.specs.declared.cache.Response.{Response}
 
--- Either the call did what `CountsPut` says, with a copy of the path as the key, or memory ran out for this copy and
--- nothing changed.
+-- If memory ran out for the copy of the path, nothing changed. Otherwise the call did what `CountsPut` says, with this
+-- copy as the key.
 abbrev pub PutsPath : {N S : Type 0} → Rules (String Global) Response (Counting Budget)
     → Offers (String Global) Response (Counting Budget) (String Global) → (Counting Budget → ℕ)
     → (S → String Global → ℕ) → (N → N → Bool) → (N → Bool) → List ℕ → Response

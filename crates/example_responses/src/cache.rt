@@ -187,8 +187,8 @@ impl ResponseCache {
         (stored, evicted)
     }
 
-    /// If the path's response is fresh, returns a copy and counts a hit. Otherwise counts a miss, and removes a stale
-    /// response.
+    /// If the path's response is fresh, returns a copy and counts a hit. Otherwise counts a miss. If a stale response
+    /// is stored, removes it.
     pub fn get(&mut self, host: &str, path: &str, now: u64) -> Result<Option<Response>, TenantError>
         ensures fresh { IfOk result (λ found. IfSome found (λ response. now < response.expires)) }
         ensures gets { On string_eq (names_text host.now) (OfOpen (GetsCopy (names_text path.now) now))
@@ -205,7 +205,7 @@ impl ResponseCache {
         Ok(self.entries.remove(&host, &path)?.is_some())
     }
 
-    /// Removes the responses of a host for the paths that begin with the prefix.
+    /// Removes a host's responses for the paths that begin with the prefix.
     pub fn purge_below(&mut self, host: &str, prefix: &str) -> Result<(), TenantError>
         ensures { On string_eq (names_text host.now) (IfOpen (PurgesBelow prefix.now))
             self.old.entries result self.new.entries }

@@ -1,4 +1,4 @@
-//! Tests of `group_table` through its public calls, for what no clause says.
+//! Tests, through public calls, what no clause of `group_table` says.
 #![tactic(auto)]
 
 #[cfg(test)]

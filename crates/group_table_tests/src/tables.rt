@@ -1,4 +1,4 @@
-//! Tables for tests, and a list with the key of each bucket, which follows the rules of docs/TABLE.md.
+//! Tables for tests, and lists of the keys in their buckets. `keys_after` follows the rules of docs/TABLE.md.
 use group_table::{Table, buckets_for_capacity, full_capacity};
 use std::alloc::{AllocError, Global};
 use std::cell::Cell;

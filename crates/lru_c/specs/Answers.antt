@@ -41,8 +41,8 @@ fitting [] slots = 0
 fitting (pair ∷ pairs) [] = 0
 fitting (pair ∷ pairs) (slot ∷ slots) = suc (fitting pairs slots)
 
--- If a pair was noted before, the result is this pair. Otherwise the result is `None` if the key of `pair` is `key`,
--- and else `pair`.
+-- If a pair was noted before, the result is this pair. Otherwise the result is `pair`, or `None` if the key of `pair`
+-- is `key`.
 abbrev pub noting_other : ℕ → Option (ℕ × ℕ) → ℕ × ℕ → Option (ℕ × ℕ)
 noting_other key None pair = if nat_eq key pair.0 then None else Some pair
 noting_other key (Some noted) pair = Some noted

@@ -1,7 +1,7 @@
 -- The map from byte strings to byte strings, and what the calls of this map do.
 --     `names_bytes bytes k`: the key k has these bytes.
 --     `weight key value`: the weight of an entry with a key and a value of these lengths.
---     `poured bytes buffer`: the buffer after the bytes were copied to its beginning, if the bytes fit.
+--     `poured bytes buffer`: the buffer, with the bytes copied to its beginning if they fit.
 use Rattle.std.specs.Prelude.{◌≡◌, ◌++◌, ◌<◌, ◌≤◌, ◌+◌, ◌&&◌, ℕ, Bool, true, false, List, length, drop, Option, Some}
 use Rattle.std.specs.Prelude.{None, nat_le, nat_lt, option_map, vec_items, vec_len, is_some, if◌then◌else◌, map}
 use Rattle.std.specs.Vec.{vec_ptr}

@@ -20,7 +20,7 @@ Remembers rules offers eq hash_of key value old new = (kept : Result Bool AllocE
     × MakesNewest rules offers eq hash_of (λ made. made ≡ value) key old kept new
 
 module _ {K V : Type 0} (eq : K → K → Bool) (post : K → V → Type 0) where
-  -- the function may return the value for the key or for an equal key
+  -- the function may return the value for `key`, or for a key that equals `key`
   abbrev pub IsAnswer : K → V → Type 0
   IsAnswer key value = (k : K) × (eq key k ≡ true) × post k value
 

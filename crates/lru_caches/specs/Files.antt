@@ -47,7 +47,7 @@ known [] n = None
 known (e ∷ earlier) n = known_after e.0 (nat_eq n e.1) e.2 (known earlier n)
 
 -- The bytes that a crash after an event leaves in a block, or `None` if the events do not determine these bytes. Before
--- the event, the known bytes of the block were `block`, and a crash would leave `old`.
+-- the event, the known bytes of the block were `block`, and a crash would have left `old`.
 abbrev pub left_after : ℕ → Bool → Option (List ℕ) → Option (List ℕ) → Option (List ℕ)
 left_after zero same block old = old
 left_after (suc zero) same block old = old

@@ -143,13 +143,13 @@ module _ {B D E S : Type 0} (d : device.Ghosts D B E S) where
   abbrev pub ShowsTheSame : Cached B D → Cached B D → Type 0
   ShowsTheSame old new = IsGood new.device → (n : ℕ) (block : S) → shown old n ≡ Some block → shown new n ≡ Some block
 
-  -- the page was cached and dirty, and `block` is the block of the page, or a torn block
+  -- the page was cached and dirty; `block` is torn, or is the block of the page
   abbrev pub IsWritten : Option (Page B) → S → Type 0
   IsWritten None block = ⊥
   IsWritten (Some page) block = IsTrue page.is_dirty × ((block ≡ d.seen page.block) ⊎ d.IsTorn block)
 
-  -- After the call, a crash may leave as block n only what a crash before the call might leave, the block of the dirty
-  -- page n, or a torn block.
+  -- After the call, each block n that a crash may leave is a block that a crash before the call might leave, the block
+  -- of the dirty page n, or a torn block.
   abbrev pub CrashAdds : List (ℕ × Page B) → D → D → Type 0
   CrashAdds pages old new = (n : ℕ) (block : S) → d.may_leave new n block
       → d.may_leave old n block ⊎ IsWritten (lookup (nat_eq n) pages) block

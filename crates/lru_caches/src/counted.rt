@@ -27,7 +27,7 @@ pub struct Counts {
     pub hits: u64,
     /// How many look-ups did not find their key.
     pub misses: u64,
-    /// How many inserts left their key in the cache.
+    /// The number of inserts that returned `Ok(true)`.
     pub insertions: u64,
     /// The number of inserts that returned `Ok(false)`, because the limiter rejected the entry, no table could hold the
     /// entry, or the entry was evicted at once.

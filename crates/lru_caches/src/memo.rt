@@ -122,16 +122,16 @@ impl<
     L: Insertion<K, V, K>,
     S: KeyHasher<K>,
 > Memo<K, V, F, L, S> {
-    /// Returns a result of the function for a key or an equal key. If no result is stored, calls the function and
-    /// stores the result.
+    /// Returns a result of the function for `key`, or for a key that equals `key`. If no result is stored, calls the
+    /// function and stores the result.
     ///
-    /// If memory runs out, or a limit prevents storing the result, still returns the result.
+    /// Returns the result even if memory runs out or a limit prevents storing it.
     ///
     /// ```
     /// assert_eq!(rt; (squares.answer(3), squares.len()), (9, 1));
     /// ```
     ///
-    /// Cost: a get. If no result is stored, also a call of the function and an insert.
+    /// Cost: a get and, if no result is stored, a call of the function and an insert.
     pub fn answer(&mut self, key: K) -> V
         requires callable { F.IsAlwaysCallable self.old.function }
         requires known { AreAnswers K.eq (FnReturnsAt F.Fn self.old.function) self.old.map.pairs }
@@ -236,8 +236,7 @@ impl<K: Eq + Hash + Drop, V: Drop, F: Fn(&K) -> V, L: Insertion<K, V, K>, S: Key
         self.get_with(key, |value| *value)
     }
 
-    /// Does what `get` does, but lends the result to a closure, and returns what the closure returns. The results need
-    /// not be `Copy`.
+    /// Does what `get` does, but lends the result to a closure, and returns what the closure returns.
     ///
     /// ```
     /// let mut lists = Memo::new(alloc, ByLength::new(9), |n: &usize| vec![in alloc; 7u8; *n].ok());
@@ -264,7 +263,7 @@ impl<K: Eq + Hash + Drop, V: Drop, F: Fn(&K) -> V, L: Insertion<K, V, K>, S: Key
         Some(read(&*value))
     }
 
-    /// Sets another limiter, and drops the oldest results while the new limiter is over its limit. Returns the old
+    /// Sets another limiter, and drops the oldest results while the memo is over the new limit. Returns the old
     /// limiter. `LruMap::set_limiter` says which running total the new limiter must have.
     ///
     /// ```

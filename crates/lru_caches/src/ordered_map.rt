@@ -312,7 +312,7 @@ impl<K: Eq + Hash + Drop, V: Drop, S: KeyHasher<K>> OrderedMap<K, V, S> {
     ///
     /// # Errors
     ///
-    /// The key is new, and memory ran out or there is no larger table. Nothing has changed.
+    /// The key is new and cannot be stored: memory ran out, or there is no larger table. Nothing has changed.
     pub fn insert(&mut self, key: K, value: V) -> Result<Option<V>, AllocError>
         ensures old { IfOk result (λ was. was ≡ lookup (K.eq key) self.old) }
         ensures entries { OnOk result (self.new ≡ put (K.eq key) (key, value) self.old) }

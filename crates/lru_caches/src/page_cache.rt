@@ -28,7 +28,7 @@ mod pins;
 pub enum PageError<E> {
     #[error("the device failed: {0}")]
     Device(E),
-    /// Out of memory for one more page, or the table already holds its maximum of 1,879,048,192 pages.
+    /// Memory ran out for one more page, or the table already holds its maximum of 1,879,048,192 pages.
     #[error("out of memory")]
     Memory,
     /// The device has no block with this number.
@@ -92,7 +92,7 @@ impl<B: Copy, D: BlockDevice<B>, S: KeyHasher<u64>> Model for PageCache<B, D, S>
 }
 
 impl<B: Copy, D: BlockDevice<B>> PageCache<B, D, RandomState> {
-    /// Makes an empty cache of a device, for at most `capacity` pages, or for one page if `capacity` is 0.
+    /// Makes an empty cache of a device. The cache holds at most `capacity` pages, or one page if `capacity` is 0.
     ///
     /// If strangers choose the block numbers, call `with_hasher`.
     ///

@@ -1,4 +1,4 @@
-//! Tests of `lru_caches` through its public calls, for what no clause says.
+//! Tests, through public calls, what no clause of `lru_caches` says.
 #![tactic(auto)]
 
 #[cfg(test)]

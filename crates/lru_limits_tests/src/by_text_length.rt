@@ -1,4 +1,4 @@
-//! A limiter of your own with a running total: the sum of the lengths of the values, which are texts.
+//! A limiter of your own. Its running total is the sum of the lengths of the values, which are texts.
 //! `docs/LIMITERS.md` explains it.
 ghost use Rattle.std.specs.Prelude.{◌≡◌, ◌+◌, ◌-◌, true, Some, None, nat_lt, string_len, if◌then◌else◌, refl};
 ghost use Rattle.lru_limits.specs.Budget.{can_add};

@@ -52,9 +52,9 @@ module _ {S : Type 0} (rules : Rules ℕ ℕ S) (offers : Offers ℕ ℕ S ℕ) 
   abbrev pub IsTextOf : Map S → List (List ℕ) → List ℕ → Type 0
   IsTextOf old lines text = (new : Map S) × IsLineRun old lines text new
 
--- Below, `IsText` says which texts are answers to lines. `Wrote` says how much of a text was written. `from` and `to`
--- list the unread bytes before and after. `old` and `new` list the written bytes before and after. Each list may be
--- unknown (`None`).
+-- Below, `IsText` says which texts are answers to lines. `Wrote` says how much of a text was written. `from` lists the
+-- unread bytes before the call, and `to` after it. `old` lists the written bytes before the call, and `new` after it.
+-- Each list may be unknown (`None`).
 module _ (IsText : List (List ℕ) → List ℕ → Type 0) (from : Option (List ℕ)) where
   abbrev pub OfAll : (List ℕ → Type 0) → Type 0
   OfAll Wrote = IfSome from (λ input. (text : List ℕ) × IsText (lines_of input) text × Wrote text)
@@ -65,8 +65,8 @@ module _ (IsText : List (List ℕ) → List ℕ → Type 0) (from : Option (List
       × IsText lines text × TakesLines from to lines part × Wrote text
 
 module _ (IsText IsTextSoFar : List (List ℕ) → List ℕ → Type 0) (from to old new : Option (List ℕ)) where
-  -- All lines were read, or some whole lines and a part of the next line. A prefix of the answers to the whole lines
-  -- was written.
+  -- The call read all lines, or some whole lines and a part of the next line. A prefix of the answers to the whole
+  -- lines was written.
   abbrev pub BeginsText : Type 0
   BeginsText = (OfAll IsText from (Begins old new) × OnSome from (IsAtEnd to))
       ⊎ OfRead IsTextSoFar from to (Begins old new)

@@ -23,7 +23,7 @@ lines_of (b ∷ bytes) = if b == 10 then [] ∷ lines_of bytes else onto_first b
 abbrev pub fed : List ℕ → List ℕ
 fed line = line ++ 10 ∷ []
 
--- `old` and `new` list the unread bytes before and after a read. Each list may be unknown (`None`).
+-- `old` lists the unread bytes before a read, and `new` after it. Each list may be unknown (`None`).
 module _ (old new : Option (List ℕ)) where
   abbrev pub TakesPart : List ℕ → Type 0
   TakesPart bytes = Lacks 10 bytes × Consumes old new bytes

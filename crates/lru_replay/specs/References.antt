@@ -63,8 +63,8 @@ module _ {K V S H : Type 0} (cache : Cache K V S H) where
     pub keeps : cache.Keeps old → cache.Keeps new
 
   -- After a reference, the referenced key is the newest, and the old keys follow in their order. The oldest keys are
-  -- evicted while the cache is over its limit (`does`). If a cache with this limit stores each missed key, `placed`
-  -- rises by one, up to `u64::MAX`, exactly if the key was not in the map (`stored`).
+  -- evicted while the cache is over its limit (`does`). If a cache with this limit stores each missed key, a miss
+  -- raises `placed` by one, up to `u64::MAX`, and a hit does not change `placed` (`stored`).
   pub record Reference (key : K) (old new : State K V S H) : Type 0 where
     pub does : LeavesKeys (cache.refer (cache.limit old.limiter) key (keys_of old.pairs)) old new
     pub stored : cache.Stores (cache.limit old.limiter)

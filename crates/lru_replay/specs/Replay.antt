@@ -51,8 +51,8 @@ abbrev pub SoFar : (List (List ℕ) → List ℕ → Type 0) → List (List ℕ)
 SoFar IsText [] text = text ≡ []
 SoFar IsText (first ∷ others) text = IsText (first ∷ others) text
 
--- How a replay ended. `from` and `to` list the unread bytes before and after. `old` and `new` list the written bytes
--- before and after. Each list may be unknown (`None`).
+-- How a replay ended. `from` lists the unread bytes before the replay, and `to` after it. `old` lists the written bytes
+-- before the replay, and `new` after it. Each list may be unknown (`None`).
 module _ (from to old new : Option (List ℕ)) where
   pub record Finished : Type 0 where
     pub named : IfSome from (λ input. NamesNoLimit (lines_of input) → ⊥)

@@ -1,5 +1,5 @@
--- What each call does to a map. A call on a list of pairs (newest first), with a limiter but no table, does what it
--- would do on a map that always has a free bucket.
+-- What each call does to a map. A list of pairs, newest first, has a limiter but no table. A call on such a list does
+-- what it would do on a map that always has a free bucket.
 --     `rules`, `offers`: the limiter's `Rules` and `Offers` (`lru_limits`).
 --     `eq`: when two keys are equal.
 --     `hash_of h k`: the hash of k by the hasher h.

@@ -17,9 +17,9 @@ ghost use Rattle.lru_replay.specs.References.{KeepsToCost, CostsAlike, Reference
 use lru_limits::KeyHasher;
 use std::hash::Hash;
 
-/// A new map keeps to its cost (`KeepsToCost`) under these premises. The limit is below 2 ^ 63, and for each key below
-/// 234,881,023 times the cost of the key. An entry takes fewer than 2 ^ 32 - 1 bytes, and the links are wide enough for
-/// 2 ^ 31 buckets.
+/// A new map keeps to its cost (`KeepsToCost`) under these premises. The limit is below 2 ^ 63, and below 234,881,023
+/// times the cost of each key. An entry takes fewer than 2 ^ 32 - 1 bytes, and the links are wide enough for 2 ^ 31
+/// buckets.
 pub fn maps_keep_to_their_cost<K: Eq + Hash + Drop, V: Drop, S: KeyHasher<K>>()
     ensures { (weight : K → V → ℕ) (cost : K → ℕ) (limit entry_bytes max : ℕ) (hasher : S) →
         limit < 2 ^ 63 → ((key : K) → limit < 234881023 * cost key) → entry_bytes < 2 ^ 32 - 1 →
@@ -95,9 +95,9 @@ pub fn gets_that_insert_if_made_make_references<
         Reference (of_cost K.eq weight cost) key old new }
 {}
 
-/// After the references of a trace, the map contains the same keys as an LRU cache with this limit of cost (`keys`),
-/// and the program missed as often as this cache (`misses`). The map counts the misses in `placed` (`stored`). Equal
-/// keys must cost the same.
+/// After the references of a trace, the map contains the same keys as an LRU cache with this limit of cost (`keys`).
+/// The program missed as often as this cache (`misses`). The map counts the misses in `placed` (`stored`). Equal keys
+/// must cost the same.
 pub fn references_keep_the_newest<K: Eq + Hash + Drop, V: Drop, S: KeyHasher<K>>()
     ensures keys { (weight : K → V → ℕ) (cost : K → ℕ) (trace : List K) (missed : ℕ) (old new : State K V Budget S) →
         CostsAlike K.eq weight cost → Referenced (of_cost K.eq weight cost) old trace missed new →
@@ -111,8 +111,9 @@ pub fn references_keep_the_newest<K: Eq + Hash + Drop, V: Drop, S: KeyHasher<K>>
 {}
 
 /// Suppose that equal keys cost the same, and that the references of one trace are made on two maps, by any calls. If
-/// the map with the smaller limit has the newest keys of the other map before the trace, the same holds after the trace
-/// (`front`). In this case, the map with the smaller limit misses at least as often as the other map (`misses`).
+/// the keys of the map with the smaller limit are exactly the newest few keys of the other map before the trace, this
+/// is still so after the trace (`front`). In this case, the map with the smaller limit misses at least as often as the
+/// other map (`misses`).
 pub fn more_capacity_never_misses_more<K: Eq + Hash + Drop, V: Drop, S: KeyHasher<K>>()
     ensures front { (weight : K → V → ℕ) (cost : K → ℕ) (trace : List K) (missed other_missed : ℕ)
         (old small other large : State K V Budget S) →

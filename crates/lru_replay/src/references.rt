@@ -79,7 +79,7 @@ pub fn gets_that_insert_if_made_make_references<
         Reference (of_length K.eq) key old new }
 {}
 
-/// Says what other calls do to the keys. `promotes` covers gets and promotions, even if the key is not in the map, and
+/// Says what other calls do to the keys. `promotes` covers gets and promotions, even if the key is not in the map.
 /// `looks` covers each call that changes nothing.
 pub fn calls_change_the_keys<K: Eq + Hash + Drop, V: Drop, S: KeyHasher<K>>()
     ensures promotes { (names : K → Bool) (key : K) (old new : State K V ByLength S) →
@@ -99,9 +99,9 @@ pub fn calls_change_the_keys<K: Eq + Hash + Drop, V: Drop, S: KeyHasher<K>>()
     ensures looks { (st : State K V ByLength S) → ChangesKeys K.eq KeyCall.looks st st }
 {}
 
-/// A program that makes one more reference after a trace has made the references of the longer trace. The number of
-/// misses stays if the last reference hits (`hits`), and rises by one if the last reference misses (`misses`). The map
-/// still keeps to its length (`keeps`).
+/// If a program made the references of a trace, and then makes one more reference, it made the references of the longer
+/// trace. The number of misses stays if the last reference hits (`hits`), and rises by one if the last reference misses
+/// (`misses`). The map still keeps to its length (`keeps`).
 pub fn programs_make_references<K: Eq + Hash + Drop, V: Drop, S: KeyHasher<K>>()
     ensures hits { (trace : List K) (missed : ℕ) (key : K) (value : V) (old mid new : State K V ByLength S) →
         Referenced (of_length K.eq) old trace missed mid → lookup (K.eq key) mid.pairs ≡ Some value →
@@ -133,10 +133,10 @@ pub fn references_keep_the_newest<K: Eq + Hash + Drop, V: Drop, S: KeyHasher<K>>
         new.counts.placed ≡ count_up old.counts.placed missed }
 {}
 
-/// Suppose that the references of one trace are made on two maps, by any calls. If the smaller map has the newest keys
-/// of the larger map before the trace, the same holds after the trace (`front`). If the keys of the smaller map are
-/// included in the keys of the larger map before the trace (`IsIncluded`), the smaller map misses at least as often as
-/// the larger map (`misses`).
+/// Suppose that the references of one trace are made on two maps, by any calls. If a smaller map of n places has
+/// exactly the n newest keys of the larger map before the trace, this is still so after the trace (`front`). If the
+/// keys of the smaller map are included in the keys of the larger map before the trace (`IsIncluded`), the smaller map
+/// misses at least as often as the larger map (`misses`).
 pub fn more_capacity_never_misses_more<K: Eq + Hash + Drop, V: Drop, S: KeyHasher<K>>()
     ensures front { (trace : List K) (missed other_missed : ℕ) (old small other large : State K V ByLength S) →
         Referenced (of_length K.eq) old trace missed small → Referenced (of_length K.eq) other trace other_missed large →

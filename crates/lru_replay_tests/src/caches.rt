@@ -43,8 +43,8 @@ fn load<F: Fn(&String) -> Result<u64, u64>>(
 }
 
 /// Reads a block through a page cache that has no pins and may evict dirty pages. A successful read is a reference to
-/// the block number: the numbers of the pages change like the keys of an LRU cache (`refers`). If the cached numbers
-/// were the numbers that were read last, this is still so afterwards (`newest`).
+/// the block number: the numbers of the pages change like the keys of an LRU cache (`refers`). If the cached pages were
+/// the pages that were read last, this is still so afterwards (`newest`).
 fn read<D: BlockDevice<u8>>(cache: &mut PageCache<u8, D>, n: u64) -> Result<u8, PageError<D::Error>>
     requires plain { cache.old.keeps_dirty ≡ false }
     requires unpinned { (m : ℕ) → pinned cache.old m ≡ false }

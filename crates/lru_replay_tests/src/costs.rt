@@ -87,7 +87,7 @@ fn map_within<L: Source>(alloc: Global, limit: u64) -> LruMap<String, Vec<u8>, B
     LruMap::new(alloc, ByCost::new(limit), [1, 2, 3, 4], 40)
 }
 
-/// The map with the larger limit loads no more values.
+/// The map with the larger limit loads at most as many values as the other map.
 fn compare<L: Source>(
     alloc: Global,
     texts: &[String],

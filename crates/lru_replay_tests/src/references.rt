@@ -54,9 +54,9 @@ pub fn read_through<F: Fn(&String) -> u64>(
     Ok(count)
 }
 
-/// The larger map computes no more values than the smaller map. Suppose that the smaller map has k places and computes
-/// n values. Then each policy with h ≤ k places pays at least (k + 1 - h) / k * n times. The policy begins empty,
-/// stores each text, and may load texts ahead.
+/// The larger map computes at most as many values as the smaller map. Suppose that the smaller map has k places and
+/// computes n values. Then each policy with h ≤ k places pays at least (k + 1 - h) / k * n times. The policy begins
+/// empty, stores each text, and may load texts ahead.
 fn compare<F: Fn(&String) -> u64>(
     alloc: Global,
     texts: &[String],

@@ -1,4 +1,4 @@
--- A limiter that stores the counts of its map, and what counted calls do.
+-- What counted calls do, and a limiter that stores the counts of its map.
 --     `rules`, `terms`: the `Rules` and `Terms` of the limiter inside.
 use Rattle.std.specs.Prelude.{◌≡◌, ℕ, Bool, true, false, Option, Some, is_some, Result, Ok, Err}
 use Rattle.std.specs.Result.{result_map_both}
@@ -81,8 +81,8 @@ abbrev pub is_kept : {E : Type 0} → Result Bool E → Bool
 is_kept (Ok kept) = kept
 is_kept (Err e) = false
 
--- The counts after a get that inserts an absent key. The get counts a hit, or a miss and an insert that evicted n
--- entries.
+-- The counts after a get that inserts an absent key. If the key was there, the get counts a hit. Otherwise it counts a
+-- miss, and an insert that evicted n entries.
 abbrev pub got_or_put : {E : Type 0} → (found : Bool) → Result Bool E → ℕ → Counts → Counts
 got_or_put true answer n counts = looked_up true counts
 got_or_put false answer n counts = looked_up false (inserted answer n counts)

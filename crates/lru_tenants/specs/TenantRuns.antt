@@ -51,13 +51,13 @@ module _ {K V L S : Type 0} where
   read_of reads None = Err NotOpen
   read_of reads (Some map) = Ok (reads map)
 
-  -- a call that succeeds if the tenant is open, and does not close the tenant
+  -- a call that does not close the tenant, and succeeds if the tenant is open
   abbrev pub IfOpen : {R : Type 0} → (State K V L S → R → State K V L S → Type 0) → Option (State K V L S)
       → Result R TenantError → Option (State K V L S) → Type 0
   IfOpen {R} does = OfOpen (λ map answer new.
       (result : R) × (left : State K V L S) × does map result left × (answer ≡ Ok result) × (new ≡ Some left))
 
-  -- If the total limit permits the new budget, the tenant gets this budget, and the tenant's oldest entries are evicted
+  -- If the total limit permits the new budget, the tenant gets this budget. The tenant's oldest entries are evicted
   -- while the tenant is over the budget.
   abbrev pub SetsBudget : Rules K V L → (L → L) → Bool → State K V L S → Result (Unit {0}) TenantError
       → Option (State K V L S) → Type 0

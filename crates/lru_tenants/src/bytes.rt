@@ -136,7 +136,7 @@ impl<
     /// # Errors
     ///
     /// The tenants are unchanged. `AlreadyOpen`. `OverTotal`: `limit` plus the bytes of the name is above `left()`.
-    /// `Memory`: the table of tenants must grow, and memory ran out or the cache's limit does not permit a larger
+    /// `Memory`: the table of tenants must grow, but memory ran out, or the cache's limit does not permit a larger
     /// table. After `Memory` the table may be larger, so `left` may be lower.
     pub fn open(&mut self, name: N, limit: u64) -> Result<(), TenantError>
         ensures opens { On N.eq (N.eq name) (Opens (is_over N.owned name limit self.old)

@@ -1,4 +1,4 @@
-//! What calls do to the map of a tenant. Each call keeps `IsTenant`.
+//! What calls do to the map of a tenant.
 ghost use Rattle.std.specs.Prelude.{◌≡◌, true, false, List, length, reverse, Some, None, option_map, Ok, IfOk};
 ghost use Rattle.std.specs.Option.{option_copied};
 ghost use Rattle.lru_limits.specs.Admissions.{offers_of};

@@ -1,4 +1,4 @@
-//! A cache of pages for many hosts. The whole cache takes at most its limit.
+//! A cache of pages for many hosts.
 ghost use Rattle.std.specs.Prelude.{◌≡◌, ◌+◌, ◌≤◌, sum_by, string_capacity};
 ghost use Rattle.lru_limits.specs.Bytes.{both_own, block_bytes};
 ghost use Rattle.lru_tenants.specs.Bytes.{taken};
@@ -10,7 +10,7 @@ use test_helpers::{all, check};
 
 type Pages = ByteTenants<String, String, String>;
 
-/// Returns how many pages were there.
+/// Returns how many pages were cached already.
 fn serve(pages: &mut Pages, host: &str, paths: Vec<String>) -> Result<u64, TenantError>
     ensures { pages.new.limit ≡ pages.old.limit }
 {
@@ -26,8 +26,8 @@ fn serve(pages: &mut Pages, host: &str, paths: Vec<String>) -> Result<u64, Tenan
     Ok(hits)
 }
 
-/// Serves a host. Whatever `serve` returns, the cache takes at most its limit: the table of hosts, and each host's
-/// name, table, paths and pages.
+/// Serves a host. Whatever `serve` returns, the cache takes at most its limit. This covers the table of hosts, and each
+/// host's name, table, paths and pages.
 fn serve_within(pages: &mut Pages, host: &str, paths: Vec<String>) -> Result<u64, TenantError>
     ensures { pages.new.table + sum_by (taken (λ name. block_bytes (string_capacity name))
         (both_own (λ path. block_bytes (string_capacity path)) (λ page. block_bytes (string_capacity page))))

@@ -28,7 +28,7 @@ pub fn page_of(path: &String) -> Result<String, TenantError> {
     }
 }
 
-/// Returns how many pages were there.
+/// Returns how many pages were cached already.
 fn serve(
     pool: &mut TenantPool<String, String, String>,
     host: &str,

@@ -1,4 +1,4 @@
-//! Tests of `lru_tenants` through its public calls, for what no clause says.
+//! Tests, through public calls, what no clause of `lru_tenants` says.
 #![tactic(auto)]
 
 #[cfg(test)]

@@ -1,5 +1,4 @@
 -- The best possible eviction policies, which know the rest of the trace.
---     `eq`: when two keys are equal.
 use Rattle.std.specs.Prelude.{ℕ, zero, suc, ◌+◌, Bool, nat_le, if◌then◌else◌, List, [], ◌∷◌, take}
 use Rattle.std.specs.Set.{remove_key}
 use Rattle.lru_theory.specs.Traces.{fault}

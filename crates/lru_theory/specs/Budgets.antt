@@ -1,6 +1,4 @@
 -- LRU caches that limit the sum of the costs of their keys.
---     `eq`: when two keys are equal.
---     `cost`: what each key costs.
 use Rattle.std.specs.Prelude.{◌≡◌, ℕ, ◌+◌, ◌-◌, Bool, true, not, ◌||◌, nat_le, nat_lt, if◌then◌else◌, List, [], ◌∷◌}
 use Rattle.std.specs.Prelude.{sum_by}
 use Rattle.std.specs.Set.{remove_key}

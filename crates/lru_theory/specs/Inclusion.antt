@@ -1,5 +1,4 @@
 -- Calls on LRU caches of several sizes.
---     `eq`: when two keys are equal.
 use Rattle.std.specs.Prelude.{◌≡◌, ℕ, ◌+◌, ◌-◌, ◌≤◌, Bool, true, if◌then◌else◌, List, [], ◌∷◌, length}
 use Rattle.std.specs.Set.{remove_key}
 use Rattle.lru_theory.specs.Traces.{is_in, refer}
@@ -22,13 +21,12 @@ module _ {K : Type 0} (eq : K → K → Bool) (n : ℕ) where
   after_call clears keys = []
   after_call looks keys = keys
 
-  -- the keys after these calls, one after another
   abbrev pub after_calls : List (KeyCall K) → List K → List K
   after_calls [] keys = keys
   after_calls (call ∷ calls) keys = after_calls calls (after_call call keys)
 
 module _ {K : Type 0} (eq : K → K → Bool) where
-  -- xs and ys are equal key by key after some keys of ys (or none) are left out
+  -- some keys of ys (or none) can be left out so that the other keys equal the keys of xs, one by one
   pub data IsSubsequence : List K → List K → Type 0 where
     none : (ys : List K) → IsSubsequence [] ys
     both : (x y : K) (xs ys : List K) → eq x y ≡ true → IsSubsequence xs ys → IsSubsequence (x ∷ xs) (y ∷ ys)

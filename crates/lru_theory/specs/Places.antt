@@ -1,5 +1,4 @@
 -- One list of places for LRU caches of every size. A place contains a key, or is free.
---     `eq`: when two keys are equal.
 use Rattle.std.specs.Prelude.{ℕ, suc, ◌+◌, Bool, false, if◌then◌else◌, List, [], ◌∷◌, Option, Some, None, map}
 use Rattle.lru_theory.specs.Traces.{fault}
 use Rattle.lru_theory.specs.Inclusion.{KeyCall, refers, promotes, removes, clears, looks, after_call}
@@ -55,7 +54,8 @@ module _ {K : Type 0} (eq : K → K → Bool) where
   call_fault clears keys = 0
   call_fault looks keys = 0
 
-  -- How many of these calls reference a key that is not cached. The LRU cache has n places, and begins with `keys`.
+  -- The number of these calls that reference a key that is not cached. The LRU cache has n places, and begins with
+  -- `keys`.
   abbrev pub call_faults : ℕ → List (KeyCall K) → List K → ℕ
   call_faults n [] keys = 0
   call_faults n (call ∷ calls) keys = call_fault call keys + call_faults n calls (after_call eq n call keys)

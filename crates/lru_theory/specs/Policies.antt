@@ -1,5 +1,4 @@
 -- Eviction policies other than LRU. The order of the keys in a cache does not matter.
---     `eq`: when two keys are equal.
 use Rattle.std.specs.Prelude.{◌≡◌, ℕ, ◌+◌, ◌≤◌, Bool, true, false, List, [], ◌∷◌, length}
 use Rattle.std.specs.Set.{remove_key}
 use Rattle.lru_theory.specs.Traces.{is_in, fault}

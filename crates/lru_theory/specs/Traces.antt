@@ -1,5 +1,4 @@
 -- Definitions for traces. A trace is the list of the keys that were referenced, in order of time.
---     `eq`: when two keys are equal.
 --     `past`: the keys of earlier references, newest first.
 use Rattle.std.specs.Prelude.{◌≡◌, ℕ, ◌+◌, Bool, true, not, ◌||◌, nat_le, if◌then◌else◌, List, [], ◌∷◌, length, take}
 use Rattle.std.specs.Cmp.Lexicographic.{pointwise}

@@ -28,7 +28,7 @@ pub fn more_places_never_miss_more<K: Eq>()
     ensures { (n m : ℕ) (past trace : List K) → n ≤ m → misses K.eq m past trace ≤ misses K.eq n past trace }
 {}
 
-/// Take any policy with h places, even one that knows the whole trace, and an LRU cache of k ≥ h places that begins
+/// Take any policy with h places, even one that knows the whole trace. Take an LRU cache of k ≥ h places that begins
 /// with any keys. The policy begins with the keys `first`, and pays `paid` times.
 ///
 /// - If the policy stores each referenced key, and may load keys ahead, LRU misses at most
@@ -60,8 +60,8 @@ pub fn loading_ahead_gains_nothing<K: Eq>()
 
 /// A cache of n places is *included* in a cache of m ≥ n places if the larger cache contains the keys of the smaller
 /// cache, in the same order, and at most m - n more keys. Any calls (`KeyCall`) keep the smaller cache included
-/// (`included`). So the larger cache finds each key that the smaller cache finds (`finds`), and misses no more often in
-/// a trace (`misses`).
+/// (`included`). So the larger cache finds each key that the smaller cache finds (`finds`). In a trace, it misses at
+/// most as often (`misses`).
 pub fn a_smaller_cache_is_included<K: Eq>()
     ensures included { (n m : ℕ) (calls : List (KeyCall K)) (small large : List K) → n ≤ m →
         IsIncluded K.eq n m small large →
@@ -87,8 +87,9 @@ pub fn deletes_leave_places<K: Eq>()
         call_faults K.eq n (map refers trace) keys ≡ faults K.eq n keys trace }
 {}
 
-/// If the cache with the smaller budget contains the newest keys of the other cache, this is still so after any trace
-/// (`front`). In this case, the cache with the smaller budget misses at least as often as the other cache (`misses`).
+/// If the keys of the cache with the smaller budget are exactly the newest few keys of the other cache, this is still
+/// so after any trace (`front`). In this case, the cache with the smaller budget misses at least as often as the other
+/// cache (`misses`).
 pub fn a_larger_budget_never_misses_more<K: Eq>()
     ensures front { (cost : K → ℕ) (n m some : ℕ) (keys trace : List K) → n ≤ m →
         let small = cached_within K.eq cost n (take some keys) trace in
@@ -110,8 +111,8 @@ pub fn a_budget_keeps_the_newest<K: Eq>()
         ≡ misses_within K.eq cost n past trace }
 {}
 
-/// The misses of MIN are at most the payments of any policy that stores each referenced key, whether it loads keys
-/// ahead (`loads`) or only on demand (`demands`). The misses of MIN with bypass are at most the payments of any policy
+/// The misses of MIN are at most the payments of any policy that stores each referenced key. The policy may load keys
+/// ahead (`loads`), or only on demand (`demands`). The misses of MIN with bypass are at most the payments of any policy
 /// that need not store referenced keys (`bypasses`). All these policies have n places, and begin with no keys. If MIN
 /// has a place, it stores each referenced key (`min`). MIN with bypass is a policy that need not store referenced keys
 /// (`bypass`).

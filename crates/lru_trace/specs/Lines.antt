@@ -29,7 +29,7 @@ EndsSo endings.Feed bytes line = bytes ≡ fed line
 EndsSo endings.InputEnd bytes line = (line ≡ bytes) × (0 < length line) × ((front : List ℕ) → bytes ≡ fed front → ⊥)
 EndsSo endings.Nothing bytes line = (line ≡ bytes) × (line ≡ [])
 
--- `from` and `to` list the unread bytes before and after a read. Each list may be unknown (`None`).
+-- `from` lists the unread bytes before a read, and `to` after it. Each list may be unknown (`None`).
 module _ (from to : Option (List ℕ)) where
   -- These bytes, which contain no line feed, were read. The reader has no bytes left.
   abbrev pub TakesRest : List ℕ → Type 0

@@ -16,8 +16,8 @@ use Rattle.lru_trace.specs.declared.lines.Others.{Others}
 use Rattle.lru_trace.specs.Report.{output}
 use Rattle.lru_trace.specs.Sizes.{sizes_from}
 
--- The reader was read to the end, and `curve` counts the references that the lines make. `from` and `to` list the
--- unread bytes before and after the reads. Each list may be unknown (`None`).
+-- The reader was read to the end, and `curve` counts the references that the lines make. `from` lists the unread bytes
+-- before the reads, and `to` after them. Each list may be unknown (`None`).
 pub record KeysRead (from to : Option (List ℕ)) (options : Options) (curve : AnyCurve) (others : Others) : Type 0 where
   pub input : List ℕ
   pub reads : Consumes from to input
@@ -39,7 +39,7 @@ pub record TraceRead (from to : Option (List ℕ)) (options : Options) (sizes : 
   pub fits : Fits options sizes curve
   pub left_out : others ≡ others_in options rest
 
--- No line was read, or one line that names no sizes.
+-- The program read no line, or one line that names no sizes.
 pub record NoSizesRead (from to : Option (List ℕ)) : Type 0 where
   pub input : List ℕ
   pub reads : Consumes from to input
@@ -56,7 +56,7 @@ pub record TooLargeRead (n : ℕ) (from to : Option (List ℕ)) (options : Optio
   pub reads : Consumes from to input
   pub large : AreTooLarge (warm_in options (drop n (lines_of input))) (counted_in options (drop n (lines_of input)))
 
--- A prefix of the text was written. `old` and `new` list the written bytes before and after. Each list may be unknown
+-- A prefix of the text was written. `old` lists the written bytes before, and `new` after. Each list may be unknown
 -- (`None`).
 abbrev pub Begins : Option (List ℕ) → Option (List ℕ) → List ℕ → Type 0
 Begins old new text = (begun rest : List ℕ) × (text ≡ begun ++ rest) × Appends old new begun

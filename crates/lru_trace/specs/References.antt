@@ -98,8 +98,8 @@ module _ (options : Options) where
     abbrev pub counted_in : List (List ℕ × ℕ)
     counted_in = sampled (bits_of options) (drop warm_up_in references_in)
 
-    -- the numbers of malformed lines, of references to keys outside the sample (after the warm-up), and of lines that
-    -- delete a key
+    -- three counts: malformed lines, references to keys outside the sample (after the warm-up), and lines that delete a
+    -- key
     abbrev pub others_in : Others
     others_in = record {
       malformed = malformed_in;

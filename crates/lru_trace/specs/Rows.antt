@@ -71,7 +71,7 @@ module _ (measure : Measure) (warm trace : List (List ℕ × ℕ)) where
   abbrev pub axis_in : ℕ → List ℕ
   axis_in bits = powers (max (needed measure warm trace) 1 * 2 ^ bits) 64 0
 
-  -- The powers of two on the axis, from 2 ^ bits on. In the sample, 2 ^ bits is the size 1.
+  -- The powers of two on the axis, from 2 ^ bits on. In the sample, a cache of the size 1 stands for the size 2 ^ bits.
   abbrev pub powers_in : ℕ → List ℕ
   powers_in bits = drop bits (axis_in bits)
 

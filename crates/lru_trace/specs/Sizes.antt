@@ -7,15 +7,15 @@ abbrev pub with_digit : ℕ → ℕ → Option ℕ
 with_digit number b = if nat_le 48 b && (nat_le b 57 && nat_lt (10 * number + (b - 48)) (2 ^ 64))
     then Some (10 * number + (b - 48)) else None
 
--- The number that the bytes spell in decimal digits. If `number` is not `None`, the digits of this number precede the
--- bytes.
+-- The number that the bytes spell in decimal digits. If `number` is not `None`, the bytes are read as if the digits of
+-- this number stood before them.
 abbrev pub number_from : Option ℕ → List ℕ → Option ℕ
 number_from number [] = number
 number_from number (b ∷ bytes) =
     option_and_then (λ n. number_from (Some n) bytes) (with_digit (unwrap_or number 0) b)
 
--- The sizes `before`, followed by the sizes that the bytes name. If a number is given, the digits of this number
--- precede the bytes.
+-- The sizes `before`, followed by the sizes that the bytes name. If a number is given, the bytes are read as if its
+-- digits stood before them.
 abbrev pub sizes_from : List ℕ → Option ℕ → List ℕ → Option (List ℕ)
 sizes_from before None [] = None
 sizes_from before (Some number) [] = Some (before ++ number ∷ [])

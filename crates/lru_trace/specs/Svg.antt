@@ -1,5 +1,6 @@
--- The picture of the curves. Coordinates are tenths of a pixel. The sizes 1 to 2 ^ octaves are at 900 to 7300 from the
--- left. The point of a size is at 3900 from the top if no reference misses, and at 700 if all references miss.
+-- The picture of the curves. Coordinates are tenths of a pixel. From the left, the size 1 is at 900, and the size
+-- 2 ^ octaves is at 7300. The point of a size is at 3900 from the top if no reference misses, and at 700 if all
+-- references miss.
 use Rattle.std.specs.Prelude.{ℕ, zero, suc, ◌+◌, ◌-◌, ◌*◌, ◌/◌, ◌%◌, ◌^◌, max, nat_le, ◌==◌, if◌then◌else◌}
 use Rattle.std.specs.Prelude.{List, [], ◌++◌, length, flat_map, decimal, codes, Bool, Option, Some, None}
 use Rattle.lru_trace.specs.declared.svg.TheConstants.{START, PLACES, BYTES, LRU, MIN, BYPASS}

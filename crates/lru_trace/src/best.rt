@@ -47,9 +47,9 @@ impl Best {
         self.nexts[now]
     }
 
-    /// Returns the number of misses of MIN in a cache of `places` places that begins with no keys. A policy with
-    /// `places` places misses at least as often if it begins with no keys, stores each referenced key, and loads keys
-    /// only on demand.
+    /// Returns the number of misses of MIN in a cache of `places` places that begins with no keys. If a policy with
+    /// `places` places begins with no keys, stores each referenced key, and loads keys only on demand, it misses at
+    /// least as often.
     ///
     /// Cost: for n places, `O(log n)` for each reference. The memory is in proportion to the smaller of n and the
     /// number of keys.
@@ -75,8 +75,8 @@ impl Best {
         Ok(misses)
     }
 
-    /// Returns the number of misses of MIN with bypass in a cache of `places` places that begins with no keys. A policy
-    /// with `places` places misses at least as often if it begins with no keys and loads keys only on demand.
+    /// Returns the number of misses of MIN with bypass in a cache of `places` places that begins with no keys. If a
+    /// policy with `places` places begins with no keys and loads keys only on demand, it misses at least as often.
     ///
     /// Cost: as `min_misses`.
     ///

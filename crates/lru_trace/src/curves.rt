@@ -13,7 +13,7 @@ use crate::delete_curve::DeleteCurve;
 use crate::options::Measure;
 use std::alloc::AllocError;
 
-/// A curve for sizes in entries, without or with deletes, or for sizes in bytes.
+/// A curve for sizes in bytes, or for sizes in entries, with or without deletes.
 #[derive(Drop)]
 pub enum AnyCurve {
     Places(Curve),

@@ -37,7 +37,7 @@ pub enum Policies {
     Lru { warm_up: u64 },
     /// As `Lru`. A line that begins with a minus and a space deletes its key.
     Deletes { warm_up: u64 },
-    /// LRU and the best possible policies, which all begin with no keys.
+    /// LRU and the best possible policies. All caches begin with no keys.
     Best,
     /// LRU with limits of bytes, after a warm-up. The column `size` says how many bytes an entry takes.
     Sized { warm_up: u64, size: Column },

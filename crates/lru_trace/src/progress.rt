@@ -14,7 +14,7 @@ impl<P: Write> Progress<P> {
         Progress { alloc, writer }
     }
 
-    /// After each million lines, writes their number. Ignores a failed write, and running out of memory.
+    /// After each million lines, writes the number of lines. Ignores a failed write or allocation.
     pub fn note(&mut self, lines: u64) {
         if lines == 0 || lines % STEP != 0 {
             return;

@@ -1,4 +1,4 @@
-//! Tests of `lru_trace`, for what no clause says.
+//! Tests what no clause of `lru_trace` says.
 #![tactic(auto)]
 
 #[cfg(test)]

@@ -3,8 +3,8 @@ ghost use Rattle.std.specs.Prelude.{◌≡◌, ◌+◌, ◌*◌, ◌%◌, ◌^�
 
 use std::hash::{BuildHasher, Hasher};
 
-/// The hash is a polynomial in the factor, with the bytes as coefficients. With factor 0 the hash is the last byte, and
-/// with factor 1 the sum of the bytes.
+/// The hash is a polynomial in the factor, with the bytes as coefficients. With factor 0 the hash is the last byte.
+/// With factor 1 it is the sum of the bytes.
 #[derive(Clone, Copy)]
 pub struct Polynomial {
     pub factor: u64,

@@ -35,7 +35,7 @@ pub fn first_fault(alloc: Global, row: &Row) -> Option<(&'static str, usize)> {
         return Some(("single bytes, or by its status", 0));
     }
     let longest = row.input.len().max(row.text.len());
-    // Read number `input.len()` is the last read, at the end of the input.
+    // The last read, at the end of the input, has the number `input.len()`.
     let tried = if row.input.len() > LONGEST_CUT {
         2
     } else {
@@ -75,8 +75,8 @@ fn with_failing_flush(alloc: Global, row: &Row, at: usize) -> bool {
     end == Err(ReplayError::Write) && writer.has(row.text.as_slice(), 1)
 }
 
-/// Returns whether the replay ends correctly if read number `at` fails. If the first line names no limiter, the replay
-/// reads no other line.
+/// Returns whether the replay ends correctly if the read with number `at` fails. If the first line names no limiter,
+/// the replay reads no other line.
 fn with_failing_read(alloc: Global, row: &Row, at: usize) -> bool {
     let input = row.input.as_slice();
     let slow = Slow::new(input, 1).failing(at, error_at(at));

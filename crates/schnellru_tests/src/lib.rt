@@ -1,4 +1,4 @@
-//! Tests of `schnellru` through its public calls, for what no contract says.
+//! Tests, through public calls, what no contract of `schnellru` says.
 //!
 //! `examples` includes the examples of `lru_model` and `ordered_table`.
 #![tactic(auto)]

@@ -6,7 +6,7 @@ ghost use Rattle.lru_limits.specs.Stores.{answers};
 use lru_limits::{Limiter, LinkType};
 use std::marker::PhantomData;
 
-/// Limits nothing, with links of this type.
+/// Limits nothing. The map has links of this type.
 #[derive(Clone, Copy, Debug)]
 pub struct LinkedBy<N>(pub PhantomData<N>);
 
@@ -91,7 +91,7 @@ impl Limiter<u64, u64> for Alternating {
 }
 
 /// Limits nothing. Writes 0 into the value of each removed entry. If `keys` is set, also writes 0 into the key. Keeps
-/// the last removed entry without these zeros.
+/// the last removed entry as it was before.
 #[derive(Clone, Copy, Debug, Default)]
 pub struct Blanking {
     pub keys: bool,

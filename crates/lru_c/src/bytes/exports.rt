@@ -1,4 +1,5 @@
-//! The functions that C calls on a map of byte strings. `bindings/c/lru.h` documents each function, without `alloc`.
+//! The functions that C calls on a map of byte strings. `bindings/c/lru.h` documents each function. C does not pass
+//! `alloc`.
 //!
 //! If a handle has no map, every call except `lru_bytes_new` and `lru_bytes_clone` changes nothing and finds nothing.
 //! Without a map, a put returns `NO_MAP`.

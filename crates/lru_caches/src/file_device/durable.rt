@@ -2,8 +2,9 @@ use std::fs::File;
 use std::io;
 use std::io::Cursor;
 
-/// A file that can make its bytes survive a crash. A file device calls `make_durable` when it syncs, and assumes that
-/// the bytes survive a crash after an `Ok`. After an error, the device makes no more calls.
+/// A file that can make its bytes survive a crash. A file device calls `make_durable` when it syncs. If the call
+/// returns `Ok`, the device assumes that the bytes survive a crash. After an error, the device makes no more calls on
+/// the file.
 ///
 /// ```
 /// assert!(rt; Cursor::new([0u8; 4]).make_durable().is_ok());

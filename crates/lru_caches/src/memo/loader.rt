@@ -136,13 +136,13 @@ impl<
 > Loader<K, V, F, L, S> {
     /// Returns the value of a key. If no value is stored, calls the function, and stores its value.
     ///
-    /// If memory runs out, or a limit prevents storing the value, still returns the value.
+    /// Returns the value even if memory runs out or a limit prevents storing it.
     ///
     /// ```
     /// assert_eq!(rt; (blocks.load(1), blocks.len()), (Ok(11), 1));
     /// ```
     ///
-    /// Cost: a get. If no value is stored, also a call of the function and an insert.
+    /// Cost: a get and, if no value is stored, a call of the function and an insert.
     ///
     /// # Errors
     ///
@@ -172,8 +172,7 @@ impl<
     L: Insertion<K, V, K>,
     S: KeyHasher<K>,
 > Loader<K, V, F, L, S> {
-    /// Does what `load` does, but lends the value to a closure, and returns what the closure returns. The values need
-    /// not be `Copy`.
+    /// Does what `load` does, but lends the value to a closure, and returns what the closure returns.
     ///
     /// ```
     /// let mut texts = Loader::new(alloc, ByLength::new(9), |n: &usize| vec![in alloc; 7u8; *n].map_err(|_| *n));

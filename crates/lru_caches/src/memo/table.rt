@@ -140,7 +140,7 @@ impl<
     L: Insertion<K, V, K>,
     S: KeyHasher<K>,
 > MemoTable<K, V, Q, L, S> {
-    /// Returns the stored answer for a key or an equal key, and makes the answer the newest.
+    /// Returns the stored answer for `key`, or for a key that equals `key`, and makes this answer the newest.
     ///
     /// ```
     /// assert_eq!(rt; (squares.get(&3), squares.get(&4), squares.len()), (Some(9), None, 1));
@@ -157,8 +157,7 @@ impl<
         self.get_with(key, |value| *value)
     }
 
-    /// Does what `get` does, but lends the answer to a closure, and returns the closure's result. The answers need not
-    /// be `Copy`.
+    /// Does what `get` does, but lends the answer to a closure, and returns the closure's result.
     ///
     /// ```
     /// assert_eq!(rt; squares.get_with(&3, |square| square.wrapping_add(1)), Some(10));

@@ -15,8 +15,8 @@ use std::hash::Hash;
 
 /// Carries out the calls on the map like `run_calls`, but makes no call that would make the limiter's total wrong.
 ///
-/// If a write would change the cost of its entry, or if a call would set a limiter with another total, the answer is
-/// `CostDiffers`, and nothing changes.
+/// If a `Write` would change the cost of its entry, or a `SetLimiter` has another total, the answer is `CostDiffers`,
+/// and nothing changes.
 ///
 /// ```
 /// let mut costs: LruMap<u64, u64, ByCost> = LruMap::new(alloc, ByCost::new(10), [1, 2, 3, 4], 16);

@@ -1,4 +1,4 @@
-//! Replays: the lines of a reader, and the answer lines that a writer gets.
+//! Replays, which read lines and write answer lines.
 ghost use Rattle.std.specs.Prelude.{ℕ, List, nat_eq};
 ghost use Rattle.lru_model.specs.State.{IsMap};
 ghost use Rattle.lru_replay.specs.Maps.{empty};

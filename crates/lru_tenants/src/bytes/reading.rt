@@ -1,4 +1,4 @@
-//! Calls that keep the tenants and their entries.
+//! Calls that remove no tenant and no entry.
 ghost use Rattle.std.specs.Prelude.{◌≡◌, ◌+◌, length};
 ghost use Rattle.std.specs.Borrow.{sem};
 ghost use Rattle.std.specs.List.{All, IsDistinct};

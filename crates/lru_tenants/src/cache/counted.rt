@@ -178,7 +178,8 @@ impl<
         put_answer(insert_counted(own, key, value))
     }
 
-    /// Does what `get_or_put` does. Counts a hit, or a miss and a put (see `put_counted`).
+    /// Does what `get_or_put` does. If the key is there, counts a hit. Otherwise counts a miss, and the put (see
+    /// `put_counted`).
     ///
     /// ```
     /// assert_eq!(rt; counted.get_or_put_counted(&1, 7, || 3), Ok(Some(&2)));
@@ -187,7 +188,7 @@ impl<
     /// assert_eq!(rt; (counts.hits, counts.misses, counts.insertions, counts.evictions), (1, 1, 2, 1));
     /// ```
     ///
-    /// Cost: as `get` if the key is there, else as `put`, plus a search.
+    /// Cost: as `get` if the key is there, else as `put_counted`.
     ///
     /// # Errors
     ///

@@ -64,7 +64,7 @@ impl<
     /// the tenant as it is, passes nothing to the callback, and drops the key.
     ///
     /// If the key was there and is not kept, the callback got the key's entry. This entry has the old value if the
-    /// limiter rejected the new value, and otherwise the new value.
+    /// limiter rejected the new value. Otherwise it has the new value.
     ///
     /// ```
     /// let replaced = cache.put_full(&1, 7, 3, &mut |_, _| {})?;

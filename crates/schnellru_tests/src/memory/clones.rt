@@ -7,7 +7,7 @@ use schnellru::{Limiter, LruMap, Storing};
 use std::hash::BuildHasher;
 use test_helpers::{LastByte, check};
 
-/// Limits nothing. When it is notified of a clear, writes into `clones` how many keys are alive.
+/// Limits nothing. After a clear, writes into `clones` the number of keys that are alive.
 impl<K, V> Limiter<K, V> for Live<'_> {
     type LinkType = u32;
 
@@ -28,7 +28,6 @@ impl<K, V> Limiter<K, V> for Live<'_> {
     }
 }
 
-/// Each number below 2^56 has the hash 0.
 impl BuildHasher for Live<'_> {
     type Hasher = LastByte;
 

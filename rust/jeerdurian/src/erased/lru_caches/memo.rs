@@ -49,12 +49,12 @@ impl<K: Eq + Hash, V, F: Fn(&K) -> V, L: Insertion<K, V, K>, S: KeyHasher<K>> Me
 }
 
 impl<K: Eq + Hash, V: Copy, F: Fn(&K) -> V, L: Insertion<K, V, K>, S: KeyHasher<K>> Memo<K, V, F, L, S> {
-    /// Returns a result of the function for a key or an equal key. If no result is stored, calls the function and
-    /// stores the result.
+    /// Returns a result of the function for `key`, or for a key that equals `key`. If no result is stored, calls the
+    /// function and stores the result.
     ///
-    /// If memory runs out, or a limit prevents storing the result, still returns the result.
+    /// Returns the result even if memory runs out or a limit prevents storing it.
     ///
-    /// Cost: a get. If no result is stored, also a call of the function and an insert.
+    /// Cost: a get and, if no result is stored, a call of the function and an insert.
     pub fn answer(&mut self, key: K) -> V {
         self.answer_full(key).0
     }
@@ -99,8 +99,7 @@ impl<K: Eq + Hash, V, F: Fn(&K) -> V, L: Insertion<K, V, K>, S: KeyHasher<K>> Me
         self.get_with(key, |value| *value)
     }
 
-    /// Does what `get` does, but lends the result to a closure, and returns what the closure returns. The results need
-    /// not be `Copy`.
+    /// Does what `get` does, but lends the result to a closure, and returns what the closure returns.
     ///
     /// Cost: as `get`, plus a call of the closure.
     pub fn get_with<Q: LookupKey<K>, R, U: FnOnce(&V) -> R>(&mut self, key: &Q, read: U) -> Option<R> {
@@ -108,7 +107,7 @@ impl<K: Eq + Hash, V, F: Fn(&K) -> V, L: Insertion<K, V, K>, S: KeyHasher<K>> Me
         Some(read(&*value))
     }
 
-    /// Sets another limiter, and drops the oldest results while the new limiter is over its limit. Returns the old
+    /// Sets another limiter, and drops the oldest results while the memo is over the new limit. Returns the old
     /// limiter. `LruMap::set_limiter` says which running total the new limiter must have.
     ///
     /// Cost: as `LruMap::set_limiter`.

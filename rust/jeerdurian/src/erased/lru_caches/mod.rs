@@ -4,7 +4,7 @@
 //! [`PageCache`] is a write-back cache of a [`BlockDevice`]. [`FileDevice`] and [`HashedFileDevice`] are devices over a
 //! [`Durable`] file. [`Memo`] stores the newest results of a function. [`Loader`] does the same for a function that may
 //! fail, and [`MemoTable`] for a function that calls itself. [`OrderedMap`] is a hash map whose entries are in the
-//! order of insertion, and [`CountedMap`] is a map that counts hits, misses and evictions.
+//! order of insertion. [`CountedMap`] is a map that counts hits, misses and evictions.
 
 #[allow(unused_imports)]
 use crate::rattle_std::prelude::*;

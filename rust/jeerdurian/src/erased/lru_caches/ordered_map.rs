@@ -169,7 +169,7 @@ impl<K: Eq + Hash, V, S: KeyHasher<K>> OrderedMap<K, V, S> {
     ///
     /// # Errors
     ///
-    /// The key is new, and memory ran out or there is no larger table. Nothing has changed.
+    /// The key is new and cannot be stored: memory ran out, or there is no larger table. Nothing has changed.
     pub fn insert(&mut self, key: K, value: V) -> Result<Option<V>, AllocError> {
         distinct(&self.map);
         let Err((key, value)) = self.map.try_insert(key, value) else {

@@ -1,5 +1,5 @@
 // Erased from crates/lru_tenants/src/tenant.rt: do not edit.
-//! What calls do to the map of a tenant. Each call keeps `IsTenant`.
+//! What calls do to the map of a tenant.
 
 #[allow(unused_imports)]
 use crate::rattle_std::prelude::*;

@@ -33,10 +33,10 @@ impl From<AllocError> for SizeError {
 
 /// The misses of a trace in LRU caches with limits of bytes, counted in one pass.
 ///
-/// The bytes that a reference needs are the size of its key, plus the sizes of the other keys that were referenced
-/// since the last reference to this key. A reference misses if it is the first reference to its key, or if it needs
-/// more bytes than the limit. The first reference to a key gives the size of the key. The memory is in proportion to
-/// the number of keys and of limits.
+/// The need of a reference is the size of its key, plus the sizes of the other keys that were referenced since the last
+/// reference to this key. A reference misses if it is the first reference to its key, or if its need is above the
+/// limit. The first reference to a key gives the size of the key. The memory is in proportion to the number of keys and
+/// of limits.
 
 pub struct ByteCurve {
     numbers: HashMap<String, usize>,

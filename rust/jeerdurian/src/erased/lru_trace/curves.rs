@@ -11,7 +11,7 @@ use crate::erased::lru_trace::delete_curve::DeleteCurve;
 use crate::erased::lru_trace::options::Measure;
 use crate::rattle_std::alloc::AllocError;
 
-/// A curve for sizes in entries, without or with deletes, or for sizes in bytes.
+/// A curve for sizes in bytes, or for sizes in entries, with or without deletes.
 
 pub enum AnyCurve {
     Places(Curve),

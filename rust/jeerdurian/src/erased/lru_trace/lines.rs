@@ -26,7 +26,7 @@ pub enum Ending {
 
 #[derive(Clone, Copy, Debug, PartialEq, Eq)]
 pub struct Others {
-    /// The number of lines that spell no key, or no size for `Policies::Sized`.
+    /// The number of lines that spell no key or, with `Policies::Sized`, no size.
     pub malformed: u64,
     /// The number of references to keys outside the sample, after the warm-up.
     pub skipped: u64,

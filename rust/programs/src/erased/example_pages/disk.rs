@@ -47,7 +47,7 @@ impl<'a> CrashFile<'a> {
         Ok(CrashFile { now: vec![in alloc; 0; len]?, durable: vec![in alloc; 0; len]?, at: 0, power })
     }
 
-    /// Leaves each sector at random as it was last made durable, or as it was last written.
+    /// Leaves in each sector, at random, its last durable bytes or its last written bytes.
     pub fn crash(&mut self, random: &mut Random) {
         let sectors = self.now.chunks_mut(SECTOR).zip(self.durable.chunks_mut(SECTOR));
         for (now, durable) in sectors {

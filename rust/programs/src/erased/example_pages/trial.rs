@@ -12,7 +12,7 @@ use crate::rattle_std::alloc::Global;
 /// Sizes so small that the cache evicts, and that the log is full after a few transactions.
 const SIZES: Sizes = Sizes { pages: 4, log: 8, cache: 2 };
 
-/// How many records the trial changes: three of each page, including one that lies across two sectors.
+/// The number of records that the trial changes: three in each page. One of the three lies across two sectors.
 const USED: u64 = 12;
 
 fn id_of(n: u64) -> u64 {
@@ -111,8 +111,8 @@ fn crash<'a>(store: Store<'a>, random: &mut Random) -> Files<'a> {
     (pages, log)
 }
 
-/// Recovers the store. Compares its records with the committed records, first without the interrupted transaction, and
-/// then with it.
+/// Recovers the store. Compares its records with the committed records. If they differ, adds the interrupted
+/// transaction to the committed records, and compares again.
 fn check(store: &mut Store, model: &mut Model, counts: &mut Counts) {
     match store.recover() {
         Ok(recovered) => counts.torn = counts.torn.saturating_add(recovered.torn),

@@ -130,8 +130,8 @@ impl ResponseCache {
         (stored, evicted)
     }
 
-    /// If the path's response is fresh, returns a copy and counts a hit. Otherwise counts a miss, and removes a stale
-    /// response.
+    /// If the path's response is fresh, returns a copy and counts a hit. Otherwise counts a miss. If a stale response
+    /// is stored, removes it.
     pub fn get(&mut self, host: &str, path: &str, now: u64) -> Result<Option<Response>, TenantError> {
         drop_stale(&mut self.entries, host, path, now)?;
         match self.entries.get_counted(&host, &path)? {
@@ -144,7 +144,7 @@ impl ResponseCache {
         Ok(self.entries.remove(&host, &path)?.is_some())
     }
 
-    /// Removes the responses of a host for the paths that begin with the prefix.
+    /// Removes a host's responses for the paths that begin with the prefix.
     pub fn purge_below(&mut self, host: &str, prefix: &str) -> Result<(), TenantError> {
         self.entries.retain(&host, |path, _| !is_below(path, prefix))
     }

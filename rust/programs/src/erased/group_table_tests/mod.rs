@@ -1,5 +1,5 @@
 // Erased from crates/group_table_tests/src/lib.rt: do not edit.
-//! Tests of `group_table` through its public calls, for what no clause says.
+//! Tests, through public calls, what no clause of `group_table` says.
 
 #[allow(unused_imports)]
 use crate::rattle_std::prelude::*;

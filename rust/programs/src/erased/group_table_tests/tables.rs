@@ -1,5 +1,5 @@
 // Erased from crates/group_table_tests/src/tables.rt: do not edit.
-//! Tables for tests, and a list with the key of each bucket, which follows the rules of docs/TABLE.md.
+//! Tables for tests, and lists of the keys in their buckets. `keys_after` follows the rules of docs/TABLE.md.
 #[allow(unused_imports)]
 use crate::rattle_std::prelude::*;
 

@@ -24,8 +24,8 @@ fn writes<D: BlockDevice<[u8; 16], Error = FileError>>(device: &mut D, n: u64, b
     device.has(n) && device.is_usable() && device.write(n, block).is_ok()
 }
 
-// Returns how many writes and reads agree with a list of blocks, or 0 if the plain file does not contain these blocks
-// in the end. A block of the hashed device differs from the list only in its checksum.
+// Returns how many writes and reads agree with a list of blocks, or 0 if the plain file differs from the list in the
+// end. A block of the hashed device differs from the list only in its checksum.
 fn calls_that_agree(alloc: Global) -> u64 {
     let mut plain: FileDevice<_, 16> = FileDevice::new(file(alloc), BLOCKS);
     let mut hashed: HashedFileDevice<_, 16> = HashedFileDevice::new(file(alloc), BLOCKS);

@@ -16,7 +16,7 @@ pub const TORN: u64 = 99;
 /// A disk of four blocks. A written block stays in a volatile cache until a sync.
 ///
 /// After `calls_left` calls, the next call fails. A failed write leaves its block torn. A crash or a failed `sync`
-/// undoes the writes since the last sync to the blocks of `dropped`, and keeps all other writes.
+/// undoes the writes to the blocks of `dropped` since the last sync, and keeps all other writes.
 
 pub struct Disk<'a> {
     pub blocks: [u64; 4],

@@ -1,5 +1,5 @@
 // Erased from crates/lru_caches_tests/src/lib.rt: do not edit.
-//! Tests of `lru_caches` through its public calls, for what no clause says.
+//! Tests, through public calls, what no clause of `lru_caches` says.
 
 #[allow(unused_imports)]
 use crate::rattle_std::prelude::*;

@@ -1,5 +1,5 @@
 // Erased from crates/lru_limits_tests/src/by_text_length.rt: do not edit.
-//! A limiter of your own with a running total: the sum of the lengths of the values, which are texts.
+//! A limiter of your own. Its running total is the sum of the lengths of the values, which are texts.
 //! `docs/LIMITERS.md` explains it.
 
 #[allow(unused_imports)]

@@ -1,5 +1,5 @@
 // Erased from crates/lru_replay/src/lib.rt: do not edit.
-//! Runs of calls on an LRU map: as lists of calls, and as lines from a reader to a writer.
+//! Runs of calls on an LRU map. The calls are a list, or lines that a reader gives.
 //!
 //! [`run_calls`] carries out a list of calls on any map. [`run_summing`] is for a limiter with a running total, and
 //! makes no call that would make the total wrong. [`replay`] reads lines that spell [`Call`]s (`docs/REPLAY.md`), and

@@ -19,13 +19,13 @@ pub fn gets_that_insert_make_references<K: Eq + Hash, V, F: FnOnce() -> V, S: Ke
 /// If the fallible form of `ensure_newest` or `get_or_insert` returns `Ok`, the call makes a reference.
 pub fn gets_that_insert_if_made_make_references<K: Eq + Hash, V, E, F: FnOnce() -> Result<V, E>, S: KeyHasher<K>>() {}
 
-/// Says what other calls do to the keys. `promotes` covers gets and promotions, even if the key is not in the map, and
+/// Says what other calls do to the keys. `promotes` covers gets and promotions, even if the key is not in the map.
 /// `looks` covers each call that changes nothing.
 pub fn calls_change_the_keys<K: Eq + Hash, V, S: KeyHasher<K>>() {}
 
-/// A program that makes one more reference after a trace has made the references of the longer trace. The number of
-/// misses stays if the last reference hits (`hits`), and rises by one if the last reference misses (`misses`). The map
-/// still keeps to its length (`keeps`).
+/// If a program made the references of a trace, and then makes one more reference, it made the references of the longer
+/// trace. The number of misses stays if the last reference hits (`hits`), and rises by one if the last reference misses
+/// (`misses`). The map still keeps to its length (`keeps`).
 pub fn programs_make_references<K: Eq + Hash, V, S: KeyHasher<K>>() {}
 
 /// After the references of a trace, the map contains the `max_length` keys that were referenced last (`keys`). A
@@ -34,10 +34,10 @@ pub fn programs_make_references<K: Eq + Hash, V, S: KeyHasher<K>>() {}
 /// `max_length` is not 0, the map counts the misses in `placed`, up to `u64::MAX` (`stored`).
 pub fn references_keep_the_newest<K: Eq + Hash, V, S: KeyHasher<K>>() {}
 
-/// Suppose that the references of one trace are made on two maps, by any calls. If the smaller map has the newest keys
-/// of the larger map before the trace, the same holds after the trace (`front`). If the keys of the smaller map are
-/// included in the keys of the larger map before the trace (`IsIncluded`), the smaller map misses at least as often as
-/// the larger map (`misses`).
+/// Suppose that the references of one trace are made on two maps, by any calls. If a smaller map of n places has
+/// exactly the n newest keys of the larger map before the trace, this is still so after the trace (`front`). If the
+/// keys of the smaller map are included in the keys of the larger map before the trace (`IsIncluded`), the smaller map
+/// misses at least as often as the larger map (`misses`).
 pub fn more_capacity_never_misses_more<K: Eq + Hash, V, S: KeyHasher<K>>() {}
 
 /// If the keys of a smaller map are included in the keys of a larger map, they are included after the same calls, too

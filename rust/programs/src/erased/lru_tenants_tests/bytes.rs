@@ -1,5 +1,5 @@
 // Erased from crates/lru_tenants_tests/src/bytes.rt: do not edit.
-//! A cache of pages for many hosts. The whole cache takes at most its limit.
+//! A cache of pages for many hosts.
 
 #[allow(unused_imports)]
 use crate::rattle_std::prelude::*;
@@ -11,7 +11,7 @@ use crate::rattle_std::test::Fail;
 
 type Pages = ByteTenants<String, String, String>;
 
-/// Returns how many pages were there.
+/// Returns how many pages were cached already.
 fn serve(pages: &mut Pages, host: &str, paths: Vec<String>) -> Result<u64, TenantError> {
     let mut hits = 0u64;
     for path in paths {
@@ -25,8 +25,8 @@ fn serve(pages: &mut Pages, host: &str, paths: Vec<String>) -> Result<u64, Tenan
     Ok(hits)
 }
 
-/// Serves a host. Whatever `serve` returns, the cache takes at most its limit: the table of hosts, and each host's
-/// name, table, paths and pages.
+/// Serves a host. Whatever `serve` returns, the cache takes at most its limit. This covers the table of hosts, and each
+/// host's name, table, paths and pages.
 fn serve_within(pages: &mut Pages, host: &str, paths: Vec<String>) -> Result<u64, TenantError> {
     let served = serve(pages, host, paths);
     // Shows the prover the clause `within` of `len`.

@@ -20,7 +20,7 @@ pub fn page_of(path: &String) -> Result<String, TenantError> {
     }
 }
 
-/// Returns how many pages were there.
+/// Returns how many pages were cached already.
 fn serve(pool: &mut TenantPool<String, String, String>, host: &str, paths: Vec<String>) -> Result<u64, TenantError> {
     calls_spare_other_tenants::<String, String, String, ByCost, RandomState>();
     let mut hits = 0u64;

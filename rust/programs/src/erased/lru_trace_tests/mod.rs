@@ -1,5 +1,5 @@
 // Erased from crates/lru_trace_tests/src/lib.rt: do not edit.
-//! Tests of `lru_trace`, for what no clause says.
+//! Tests what no clause of `lru_trace` says.
 
 #[allow(unused_imports)]
 use crate::rattle_std::prelude::*;

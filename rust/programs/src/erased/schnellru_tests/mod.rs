@@ -1,5 +1,5 @@
 // Erased from crates/schnellru_tests/src/lib.rt: do not edit.
-//! Tests of `schnellru` through its public calls, for what no contract says.
+//! Tests, through public calls, what no contract of `schnellru` says.
 //!
 //! `examples` includes the examples of `lru_model` and `ordered_table`.
 

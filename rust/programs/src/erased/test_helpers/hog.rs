@@ -7,8 +7,8 @@ use crate::rattle_std::prelude::*;
 
 use crate::rattle_std::alloc::{AllocError, Global};
 
-// The first request has the size `LARGEST`. After each failed request, the size is halved down to `SMALL`, and then
-// falls by `STEP`.
+// The first request has the size `LARGEST`. A failed request halves the size if it is above `SMALL`, and otherwise
+// lowers it by `STEP`.
 const LARGEST: usize = 1 << 46;
 
 const SMALL: usize = 2048;

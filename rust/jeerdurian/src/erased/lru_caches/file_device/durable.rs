@@ -6,8 +6,9 @@ use crate::rattle_std::fs::File;
 use crate::rattle_std::io;
 use crate::rattle_std::io::Cursor;
 
-/// A file that can make its bytes survive a crash. A file device calls `make_durable` when it syncs, and assumes that
-/// the bytes survive a crash after an `Ok`. After an error, the device makes no more calls.
+/// A file that can make its bytes survive a crash. A file device calls `make_durable` when it syncs. If the call
+/// returns `Ok`, the device assumes that the bytes survive a crash. After an error, the device makes no more calls on
+/// the file.
 pub trait Durable {
     /// Makes all bytes that were written and flushed before this call survive a crash.
     ///

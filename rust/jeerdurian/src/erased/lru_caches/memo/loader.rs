@@ -50,9 +50,9 @@ impl<K: Eq + Hash, V: Copy, E, F: Fn(&K) -> Result<V, E>, L: Insertion<K, V, K>,
 {
     /// Returns the value of a key. If no value is stored, calls the function, and stores its value.
     ///
-    /// If memory runs out, or a limit prevents storing the value, still returns the value.
+    /// Returns the value even if memory runs out or a limit prevents storing it.
     ///
-    /// Cost: a get. If no value is stored, also a call of the function and an insert.
+    /// Cost: a get and, if no value is stored, a call of the function and an insert.
     ///
     /// # Errors
     ///
@@ -63,8 +63,7 @@ impl<K: Eq + Hash, V: Copy, E, F: Fn(&K) -> Result<V, E>, L: Insertion<K, V, K>,
 }
 
 impl<K: Eq + Hash, V, E, F: Fn(&K) -> Result<V, E>, L: Insertion<K, V, K>, S: KeyHasher<K>> Loader<K, V, F, L, S> {
-    /// Does what `load` does, but lends the value to a closure, and returns what the closure returns. The values need
-    /// not be `Copy`.
+    /// Does what `load` does, but lends the value to a closure, and returns what the closure returns.
     ///
     /// Cost: as `load`, plus a call of the closure.
     ///

@@ -53,7 +53,7 @@ impl<K: Eq + Hash, V, Q: Question<K, V>, L: Insertion<K, V, K>, S: KeyHasher<K>>
 }
 
 impl<K: Eq + Hash, V, Q: Question<K, V>, L: Insertion<K, V, K>, S: KeyHasher<K>> MemoTable<K, V, Q, L, S> {
-    /// Returns the stored answer for a key or an equal key, and makes the answer the newest.
+    /// Returns the stored answer for `key`, or for a key that equals `key`, and makes this answer the newest.
     ///
     /// Cost: `O(1)` expected.
     pub fn get(&mut self, key: &K) -> Option<V>
@@ -63,8 +63,7 @@ impl<K: Eq + Hash, V, Q: Question<K, V>, L: Insertion<K, V, K>, S: KeyHasher<K>>
         self.get_with(key, |value| *value)
     }
 
-    /// Does what `get` does, but lends the answer to a closure, and returns the closure's result. The answers need not
-    /// be `Copy`.
+    /// Does what `get` does, but lends the answer to a closure, and returns the closure's result.
     ///
     /// Cost: as `get`, plus a call of the closure.
     pub fn get_with<R, U: FnOnce(&V) -> R>(&mut self, key: &K, read: U) -> Option<R> {

@@ -87,8 +87,8 @@ impl<B: Copy, D: BlockDevice<B>, S: KeyHasher<u64>> PageCache<B, D, S> {
         replace(&mut self.map, &mut self.device, &mut self.counts, gone, hash, n, page)
     }
 
-    /// Lends a block to a closure, which may write it in place, and returns what the closure returns. The page becomes
-    /// dirty and the newest.
+    /// Lends a block to a closure, and returns what the closure returns. The closure may write the block in place. The
+    /// page becomes dirty and the newest.
     ///
     /// If the page is not cached, reads the block first. A pinned page stays pinned.
     ///

@@ -1,5 +1,5 @@
 // Erased from crates/lru_tenants/src/bytes/reading.rt: do not edit.
-//! Calls that keep the tenants and their entries.
+//! Calls that remove no tenant and no entry.
 
 #[allow(unused_imports)]
 use crate::rattle_std::prelude::*;

@@ -100,9 +100,10 @@ impl<N: Eq + Hash, K: Eq + Hash, V, L: Budgeted<K, V>, S: KeyHasher<K> + Copy> T
         put_answer(insert_counted(own, key, value))
     }
 
-    /// Does what `get_or_put` does. Counts a hit, or a miss and a put (see `put_counted`).
+    /// Does what `get_or_put` does. If the key is there, counts a hit. Otherwise counts a miss, and the put (see
+    /// `put_counted`).
     ///
-    /// Cost: as `get` if the key is there, else as `put`, plus a search.
+    /// Cost: as `get` if the key is there, else as `put_counted`.
     ///
     /// # Errors
     ///

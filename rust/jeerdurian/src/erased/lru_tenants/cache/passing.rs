@@ -37,7 +37,7 @@ impl<N: Eq + Hash, K: Eq + Hash, V, L: Budgeted<K, V>, S: KeyHasher<K> + Copy> T
     /// the tenant as it is, passes nothing to the callback, and drops the key.
     ///
     /// If the key was there and is not kept, the callback got the key's entry. This entry has the old value if the
-    /// limiter rejected the new value, and otherwise the new value.
+    /// limiter rejected the new value. Otherwise it has the new value.
     ///
     /// Cost: as `put_with`.
     ///

@@ -1,5 +1,5 @@
 // Erased from crates/lru_caches_tests/src/trials/pages.rt: do not edit.
-//! A page cache whose disk fails at each of its calls in turn, compared with an array of blocks.
+//! A page cache, compared with an array of blocks. The disk fails at each of its calls in turn.
 #[allow(unused_imports)]
 use crate::rattle_std::prelude::*;
 
@@ -57,8 +57,8 @@ fn shows(cache: &mut Cache, model: &Blocks) -> bool {
     right
 }
 
-// Makes `LENGTH` random calls, or stops at a failed sync. Returns whether the disk failed. Also returns whether all
-// results were right, and a crash after a successful close lost no write.
+// Makes `LENGTH` random calls, or stops at a failed sync. The first result says whether the disk failed. The second
+// result says whether all results were right and, if the close succeeded, the crash lost no write.
 fn run(alloc: Global, capacity: usize, k: u64, stays_broken: bool) -> (bool, bool) {
     let (calls_left, mut model) = (Cell::new(k), [10, 11, 12, 13]);
     let dropped = [k % 2 == 0, k % 3 == 0, k % 5 == 0, true];

@@ -11,8 +11,8 @@ use crate::rattle_std::hash::Hash;
 
 /// Carries out the calls on the map like `run_calls`, but makes no call that would make the limiter's total wrong.
 ///
-/// If a write would change the cost of its entry, or if a call would set a limiter with another total, the answer is
-/// `CostDiffers`, and nothing changes.
+/// If a `Write` would change the cost of its entry, or a `SetLimiter` has another total, the answer is `CostDiffers`,
+/// and nothing changes.
 ///
 /// Cost: as `run_calls`, plus one more look-up for each `Write`.
 ///

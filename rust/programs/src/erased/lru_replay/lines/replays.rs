@@ -1,5 +1,5 @@
 // Erased from crates/lru_replay/src/lines/replays.rt: do not edit.
-//! Replays: the lines of a reader, and the answer lines that a writer gets.
+//! Replays, which read lines and write answer lines.
 
 #[allow(unused_imports)]
 use crate::rattle_std::prelude::*;

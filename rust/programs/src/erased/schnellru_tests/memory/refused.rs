@@ -10,7 +10,7 @@ use crate::rattle_std::alloc::Global;
 /// The limiter allocates each key, and allocates it again after each growth that fails.
 fn texts_are_refused(alloc: Global, map: &mut LruMap<String, u32, Counting>) -> Option<bool> {
     let mut right = true;
-    // A clone requests memory for entries, for control bytes, and a byte for each text.
+    // A clone requests memory for entries, for control bytes, and for each text (one byte).
     let mut hog = Hog::new(alloc, &[160, 20, 1, 1, 1]).ok()?;
     for n in 0..6u32 {
         right = (map.try_clone().is_err() == (n < 5)) & right;
