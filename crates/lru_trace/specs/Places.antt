@@ -18,7 +18,7 @@ free_at free time = lookup (is_at (nat_cmp time)) free
 abbrev pub is_free : List (ℕ × ℕ) → List ℕ → ℕ → Bool
 is_free free times id = is_some (free_at free (time_in times id))
 
--- `None` if the place with this number is free, and otherwise the number, which is the key in the place
+-- `None` if the place with this number is free. Otherwise the key in the place, which has the same number.
 abbrev pub mark : (ℕ → Bool) → ℕ → Option ℕ
 mark is_free id = if is_free id then None else Some id
 

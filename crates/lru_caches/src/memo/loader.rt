@@ -45,7 +45,7 @@ impl<K: Eq + Hash, V, E, F: Fn(&K) -> Result<V, E>, L: Insertion<K, V, K>> Loade
     L,
     RandomState,
 > {
-    /// Makes a loader of a function, with no values yet.
+    /// Makes an empty loader for a function.
     ///
     /// If strangers choose the keys, call `with_hasher`. Cost: `O(1)`, and no memory.
     ///
@@ -74,7 +74,7 @@ impl<K: Eq + Hash, V, E, F: Fn(&K) -> Result<V, E>, L: Insertion<K, V, K>, S: Ke
     L,
     S,
 > {
-    /// Makes a loader of a function, with a hasher of keys.
+    /// Makes an empty loader for a function, with a hasher of keys.
     ///
     /// ```
     /// let seeded = RandomState::with_seeds([5, 6, 7, 8]);

@@ -74,9 +74,9 @@ fn read_trace<R: BufRead, P: Write>(
 
 /// Reads a trace, and writes how often LRU caches of each size miss. `docs/TRACE.md` describes the output.
 ///
-/// The first line names sizes. A later line spells a key if its key column, or the whole line if no column is named, is
-/// text of 1 to 64 bytes. With `Policies::Sized` the line must also spell a size. Any other line counts as malformed.
-/// `Policies::Best` also writes the misses of the best possible policies.
+/// The first line lists cache sizes. A later line spells a key if its key column, or the whole line if no column is
+/// named, is text of 1 to 64 bytes. With `Policies::Sized` the line must also spell a size. Any other line counts as
+/// malformed. `Policies::Best` also writes the misses of the best possible policies.
 ///
 /// Cost: for n keys, `O(log n)` expected for each line. The memory is in proportion to the number of keys and the
 /// longest line. With `Policies::Best`, the memory is also in proportion to the number of lines, and each line costs

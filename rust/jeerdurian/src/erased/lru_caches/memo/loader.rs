@@ -14,7 +14,7 @@ pub struct Loader<K: Eq + Hash, V, F, L: Insertion<K, V, K>, S: KeyHasher<K> = R
 }
 
 impl<K: Eq + Hash, V, E, F: Fn(&K) -> Result<V, E>, L: Insertion<K, V, K>> Loader<K, V, F, L, RandomState> {
-    /// Makes a loader of a function, with no values yet.
+    /// Makes an empty loader for a function.
     ///
     /// If strangers choose the keys, call `with_hasher`. Cost: `O(1)`, and no memory.
     pub fn new(alloc: Global, limiter: L, function: F) -> Self {
@@ -23,7 +23,7 @@ impl<K: Eq + Hash, V, E, F: Fn(&K) -> Result<V, E>, L: Insertion<K, V, K>> Loade
 }
 
 impl<K: Eq + Hash, V, E, F: Fn(&K) -> Result<V, E>, L: Insertion<K, V, K>, S: KeyHasher<K>> Loader<K, V, F, L, S> {
-    /// Makes a loader of a function, with a hasher of keys.
+    /// Makes an empty loader for a function, with a hasher of keys.
     ///
     /// Cost: `O(1)`, and no memory.
     pub fn with_hasher(alloc: Global, limiter: L, hasher: S, function: F) -> Self {
