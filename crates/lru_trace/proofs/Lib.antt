@@ -1,5 +1,5 @@
 pub mod Logs
-pub mod NodeSums
+pub mod Blocks
 pub mod Numbered
 pub mod CurveSteps
 pub mod AnyCurves

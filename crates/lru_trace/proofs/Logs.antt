@@ -135,8 +135,8 @@ newest_few (x ∷ xs) = omega (arith, newest_few xs, length-append (newest xs) (
     go None = omega arith
     go (Some k) = omega arith
 
-module _ {Z : Type 0} {levels : ℕ} {log : Vec (Option ℕ) Z} {slots : List (Option ℕ)}
-    {weights tree : List ℕ} {used : ℕ} (is : IsLog levels log slots weights tree used) where
+module _ {Z : Type 0} {log : Vec (Option ℕ) Z} {slots : List (Option ℕ)}
+    {weights tree : List ℕ} {used : ℕ} (is : IsLog log slots weights tree used) where
   abbrev pub weight : ℕ → ℕ
   weight = weight_in weights
 
@@ -340,5 +340,7 @@ newest_more xs i o h e =
     ap newest (take_more xs i None h ∙ ap (λ x. take i xs ++ x ∷ []) e)
     ∙ newest_append (take i xs) (o ∷ [])
 
-pub newest_taken : (xs : List (Option ℕ)) (i : ℕ) → length (newest (take i xs)) ≤ i
-newest_taken xs i = omega (arith, newest_few (take i xs), length-take i xs)
+pub newest_taken : (xs : List (Option ℕ)) (i : ℕ) → length (newest (take i xs)) ≤ length (newest xs)
+newest_taken xs i =
+    let parts = ap newest (sym (take-append-drop i xs)) ∙ newest_append (take i xs) (drop i xs) in
+    omega (arith, ap length parts, length-append (newest (drop i xs)) (newest (take i xs)))

@@ -30,10 +30,8 @@ abbrev pub newest : List (Option ℕ) → List ℕ
 newest [] = []
 newest (slot ∷ slots) = newest slots ++ option_to_list slot
 
-pub record IsLog {Z : Type 0} (levels : ℕ) (log : Vec (Option ℕ) Z) (slots : List (Option ℕ)) (weights tree : List ℕ)
+pub record IsLog {Z : Type 0} (log : Vec (Option ℕ) Z) (slots : List (Option ℕ)) (weights tree : List ℕ)
     (used : ℕ) : Type 0 where
-  pub size : length tree ≡ 2 ^ levels
-  pub small : levels < 60
   pub room : length tree ≤ vec_capacity log
   pub few : vec_len log ≤ length tree
   pub found : (key slot : ℕ) → get_or slots key None ≡ Some slot → get_or log.items slot None ≡ Some key

@@ -9,10 +9,7 @@ use crate::tree::Tree;
 use std::alloc::{AllocError, Global};
 use std::marker::Model;
 
-const FIRST_LEVELS: u32 = 3;
-
-/// No memory holds more than 2 ^ `MOST_LEVELS` slots.
-const MOST_LEVELS: u32 = 59;
+const SPARE: usize = 8;
 
 /// The keys of a trace, by the time of their last reference.
 ///
@@ -20,8 +17,7 @@ const MOST_LEVELS: u32 = 59;
 /// `add_weighed_key` got.
 ///
 /// Each reference takes the next slot of a log, and the slot that its key had before becomes free. If the log is full,
-/// the keys move to the front of a new log. If at least about half of the slots contain keys, the new log has twice as
-/// many slots. The memory is in proportion to the number of keys.
+/// the keys move to the front of a new log, which is about half full. The memory is in proportion to the number of keys.
 #[derive(Drop)]
 pub struct Distances {
     log: Vec<Option<usize>>,
@@ -29,7 +25,6 @@ pub struct Distances {
     weights: Vec<u64>,
     tree: Tree,
     used: usize,
-    levels: u32,
     alloc: Global,
 }
 
@@ -46,7 +41,7 @@ impl Model for Distances {
       room = length d.tree - vec_len d.log;
     } };
 
-    ghost invariant = { λ d. IsLog d.levels d.log d.slots.items d.weights.items d.tree d.used };
+    ghost invariant = { λ d. IsLog d.log d.slots.items d.weights.items d.tree d.used };
 }
 
 impl Distances {
@@ -55,25 +50,24 @@ impl Distances {
         ensures keys { IfOk result (λ trace. trace.keys ≡ 0) }
         ensures weights { IfOk result (λ trace. trace.weights ≡ []) }
     {
-        Distances::with_levels(alloc, 0, Vec::new(alloc), FIRST_LEVELS)
+        Distances::with_room(alloc, 0, Vec::new(alloc), SPARE)
     }
 
-    fn with_levels(
+    fn with_room(
         alloc: Global,
         keys: usize,
         weights: Vec<u64>,
-        levels: u32,
+        room: usize,
     ) -> Result<Self, AllocError>
-        requires { levels < 60 }
         ensures { IfOk result (λ trace. trace ≡ record {
           recency = [];
           keys = keys;
           weights = weights.items;
-          room = 2 ^ levels;
+          room = room;
         }) }
     {
-        let tree = Tree::new(alloc, levels)?;
-        let log = Vec::with_capacity(alloc, tree.len())?;
+        let tree = Tree::new(alloc, room)?;
+        let log = Vec::with_capacity(alloc, room)?;
         let slots = vec![in alloc; None; keys]?;
         Ok(Distances {
             log,
@@ -81,7 +75,6 @@ impl Distances {
             weights,
             tree,
             used: 0,
-            levels,
             alloc,
         })
     }
@@ -154,7 +147,7 @@ impl Distances {
         };
         let weight = self.weight(key);
         let behind = self.tree.weight_behind(slot);
-        self.tree.clear(slot, weight);
+        self.tree.subtract(slot, weight);
         self.log[slot] = None;
         self.slots[key] = None;
         self.used -= 1;
@@ -175,7 +168,7 @@ impl Distances {
         let weight = self.weight(key);
         self.log.push_reserved(Some(key));
         self.slots[key] = Some(slot);
-        self.tree.put(slot, weight);
+        self.tree.add(slot, weight);
         self.used += 1;
     }
 
@@ -186,15 +179,9 @@ impl Distances {
         ensures weights { self.new.weights ≡ self.old.weights }
         ensures room { OnOk result (0 < self.new.room) }
     {
-        let mut levels = self.levels;
-        if self.tree.len() / 2 <= self.used {
-            levels += 1;
-        }
-        if levels > MOST_LEVELS {
-            return Err(AllocError);
-        }
         let weights = Vec::from_slice(self.alloc, &self.weights)?;
-        let mut packed = Distances::with_levels(self.alloc, self.slots.len(), weights, levels)?;
+        let room = 2 * self.used + SPARE;
+        let mut packed = Distances::with_room(self.alloc, self.slots.len(), weights, room)?;
         for slot in &self.log {
             if let Some(key) = *slot {
                 packed.append(key);

@@ -7,10 +7,7 @@ use crate::rattle_std::prelude::*;
 use crate::erased::lru_trace::tree::Tree;
 use crate::rattle_std::alloc::{AllocError, Global};
 
-const FIRST_LEVELS: u32 = 3;
-
-/// No memory holds more than 2 ^ `MOST_LEVELS` slots.
-const MOST_LEVELS: u32 = 59;
+const SPARE: usize = 8;
 
 /// The keys of a trace, by the time of their last reference.
 ///
@@ -18,8 +15,7 @@ const MOST_LEVELS: u32 = 59;
 /// `add_weighed_key` got.
 ///
 /// Each reference takes the next slot of a log, and the slot that its key had before becomes free. If the log is full,
-/// the keys move to the front of a new log. If at least about half of the slots contain keys, the new log has twice as
-/// many slots. The memory is in proportion to the number of keys.
+/// the keys move to the front of a new log, which is about half full. The memory is in proportion to the number of keys.
 
 pub struct Distances {
     log: Vec<Option<usize>>,
@@ -27,20 +23,19 @@ pub struct Distances {
     weights: Vec<u64>,
     tree: Tree,
     used: usize,
-    levels: u32,
     alloc: Global,
 }
 
 impl Distances {
     pub fn new(alloc: Global) -> Result<Self, AllocError> {
-        Distances::with_levels(alloc, 0, Vec::new(alloc), FIRST_LEVELS)
+        Distances::with_room(alloc, 0, Vec::new(alloc), SPARE)
     }
 
-    fn with_levels(alloc: Global, keys: usize, weights: Vec<u64>, levels: u32) -> Result<Self, AllocError> {
-        let tree = Tree::new(alloc, levels)?;
-        let log = Vec::with_capacity(alloc, tree.len())?;
+    fn with_room(alloc: Global, keys: usize, weights: Vec<u64>, room: usize) -> Result<Self, AllocError> {
+        let tree = Tree::new(alloc, room)?;
+        let log = Vec::with_capacity(alloc, room)?;
         let slots = vec![in alloc; None; keys]?;
-        Ok(Distances { log, slots, weights, tree, used: 0, levels, alloc })
+        Ok(Distances { log, slots, weights, tree, used: 0, alloc })
     }
 
     pub fn add_key(&mut self) -> Result<usize, AllocError> {
@@ -84,7 +79,7 @@ impl Distances {
         };
         let weight = self.weight(key);
         let behind = self.tree.weight_behind(slot);
-        self.tree.clear(slot, weight);
+        self.tree.subtract(slot, weight);
         (*at_mut!(self.log, slot)) = None;
         (*at_mut!(self.slots, key)) = None;
         self.used -= 1;
@@ -96,20 +91,14 @@ impl Distances {
         let weight = self.weight(key);
         self.log.push_reserved(Some(key));
         (*at_mut!(self.slots, key)) = Some(slot);
-        self.tree.put(slot, weight);
+        self.tree.add(slot, weight);
         self.used += 1;
     }
 
     fn make_room(&mut self) -> Result<(), AllocError> {
-        let mut levels = self.levels;
-        if self.tree.len() / 2 <= self.used {
-            levels += 1;
-        }
-        if levels > MOST_LEVELS {
-            return Err(AllocError);
-        }
         let weights = Vec::from_slice(self.alloc, &self.weights)?;
-        let mut packed = Distances::with_levels(self.alloc, self.slots.len(), weights, levels)?;
+        let room = 2 * self.used + SPARE;
+        let mut packed = Distances::with_room(self.alloc, self.slots.len(), weights, room)?;
         for slot in &self.log {
             if let Some(key) = *slot {
                 packed.append(key);

@@ -6,8 +6,6 @@ pub invariant_of-self-2 : goal.invariant_of-self-2
 invariant_of-self-2 c =
     let is = c.self.invariant in
     rw c.in_ok-push.ensures.items (record {
-      size = is.size;
-      small = is.small;
       room = is.room;
       few = is.few;
       found = λ key slot e. is.found key slot (sym (free_more c.self.inside.slots.items key) ∙ e);

@@ -13,8 +13,6 @@ invariant_of-self-2 c =
       c.self.inside.slots.ok.0,
     ) in
     rw (c.in_ok-push.ensures.items, c.push_reserved.ensures.items, c.in_ok-reserve.ensures.items) (record {
-      size = is.size;
-      small = is.small;
       room = is.room;
       few = is.few;
       found = λ key slot e. is.found key slot (sym (free_more c.self.inside.slots.items key) ∙ e);

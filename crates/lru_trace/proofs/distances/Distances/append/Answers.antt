@@ -6,16 +6,17 @@ use Rattle.lru_theory.specs.Traces.{is_in}
 use Rattle.lru_trace.specs.Slots.{newest, weight_in}
 use Rattle.lru_trace.proofs.Logs.{added_found, added_back, added_weighed, added_fits, all_weights}
 use Rattle.lru_trace.proofs.Logs.{is_free, newest_few, newest_push}
+use Rattle.lru_trace.proofs.distances.Distances.append.Goals.{After-add}
 use Rattle.lru_trace.proofs.distances.Distances.append.Goals as goal
 
-pub put-requires-clause-within : goal.put-requires-clause-within
-put-requires-clause-within c =
+pub add-requires-clause-within : goal.add-requires-clause-within
+add-requires-clause-within c =
     let room : vec_len c.self.inside.log < length c.self.inside.tree =
     omega (arith, ap (λ r. r.room) c.self.view_is, c.requires.room) in
     omega (arith, room, c.len-slot.ensures)
 
-pub put-requires-clause-fits : goal.put-requires-clause-fits
-put-requires-clause-fits c =
+pub add-requires-clause-fits : goal.add-requires-clause-fits
+add-requires-clause-fits c =
     let one = sum_by-cons (weight_in c.self.inside.weights.items) c.args.key (newest c.self.inside.log.items) in
     omega (
       arith,
@@ -27,8 +28,8 @@ put-requires-clause-fits c =
       ap (λ r. weight_in r.weights c.args.key) c.self.view_is,
     )
 
-pub put-requires-clause-free : goal.put-requires-clause-free
-put-requires-clause-free c =
+free : (c : After-add) → get_or c.self.inside.tree c.len-slot.result 0 ≡ 0
+free c =
     let slot_is : c.len-slot.result ≡ length c.self.inside.log.items =
     omega (arith, c.len-slot.ensures, c.self.inside.log.ok.0) in
     let within : c.args.key < length c.self.inside.slots.items =
@@ -58,9 +59,12 @@ invariant_of-self c =
     let weight : c.weight-weight.result ≡ weight_in c.self.inside.weights.items key =
     c.weight-weight.ensures ∙ ap (λ r. weight_in r.weights key) (sym c.self.view_is) in
     let len = length-set c.self.inside.tree (length c.self.inside.log.items) (weight_in c.self.inside.weights.items key) in
-    let tree : c.put.new.self
+    let none = free (goal.at.invariant_of-self c).After-add in
+    let now : get_or c.self.inside.tree c.len-slot.result 0 + c.weight-weight.result
+    ≡ weight_in c.self.inside.weights.items key = omega (arith, none, weight) in
+    let tree : c.add.new.self
     ≡ set c.self.inside.tree (length c.self.inside.log.items) (weight_in c.self.inside.weights.items key) =
-    c.put.ensures ∙ (λ i. set c.self.inside.tree (slot_is i) (weight i)) in
+    c.add.ensures ∙ (λ i. set c.self.inside.tree (slot_is i) (now i)) in
     let one = sum_by-cons (weight_in c.self.inside.weights.items) key (newest c.self.inside.log.items) in
     let few : weight_in c.self.inside.weights.items key + sum_by (weight_in c.self.inside.weights.items)
     (newest c.self.inside.log.items) < 2 ^ 64 = omega (
@@ -71,8 +75,6 @@ invariant_of-self c =
     ) in
     let pushed = c.push_reserved.ensures.items in
     rw (tree, slot_is) (record {
-      size = len ∙ is.size;
-      small = is.small;
       room = omega (arith, len, is.room, c.push_reserved.ensures.capacity);
       few = omega (arith, len, room, c.push_reserved.ensures.len);
       found = rw pushed (added_found is key within absent);

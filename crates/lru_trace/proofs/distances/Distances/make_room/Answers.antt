@@ -1,16 +1,22 @@
-use Rattle.std.proofs.Common.{◌≡◌, suc, ◌+◌, ◌*◌, ◌^◌, ◌≤◌, ◌<◌, Some, None, ◌∷◌, length, take, get_or}
+use Rattle.std.proofs.Common.{◌≡◌, ◌+◌, ◌^◌, ◌<◌, Some, None, ◌∷◌, length, take, get_or}
 use Rattle.std.proofs.Common.{sym, ap, subst, ◌∙◌, arith, nat_eq}
-use Rattle.std.proofs.Math.Pow.{pow_mono}
-use Rattle.std.proofs.Math.Nat.{pow-suc}
-use Rattle.std.proofs.lemmas.Nat.{pow_pos}
 use Rattle.std.proofs.lemmas.List.{take_all}
 use Rattle.lru_theory.specs.Traces.{is_in}
 use Rattle.std.specs.Prelude.{sum_by}
 use Rattle.lru_trace.specs.Slots.{newest, weight_in}
 use Rattle.lru_trace.proofs.Logs.{key_within, absent_before, newest_more, newest_taken, newest_few, first_fit}
-use Rattle.lru_trace.proofs.distances.Distances.make_room.Goals.{then-len-self, else-len-self}
 use Rattle.lru_trace.proofs.distances.Distances.make_room.Goals.{in-Some, in_default}
 use Rattle.lru_trace.proofs.distances.Distances.make_room.Goals as goal
+
+pub overflow_mul-room : goal.overflow_mul-room
+overflow_mul-room c =
+    let log = c.self.inside.log in
+    omega (arith, c.self.invariant.counted, newest_few log.items, log.ok.0, log.small)
+
+pub overflow_add-room : goal.overflow_add-room
+overflow_add-room c =
+    let log = c.self.inside.log in
+    omega (arith, c.self.invariant.counted, newest_few log.items, log.ok.0, log.small)
 
 pub append-requires-clause-key : goal.append-requires-clause-key
 append-requires-clause-key c =
@@ -47,13 +53,13 @@ pub append-requires-clause-room : goal.append-requires-clause-room
 append-requires-clause-room c =
     let i = c.loop-slot.slot-index in
     let taken = newest_taken c.deref-slot-items.result.now i in
-    let more : c.self.inside.levels ≤ c.if-len-self.levels = elim c.if-len-self.branch [
-      | then-len-self w ↦ omega (arith, w.levels-is)
-      | else-len-self w ↦ omega (arith, w.levels-is)
-    ] in
-    let wide : 2 ^ c.self.inside.levels ≤ 2 ^ c.if-len-self.levels = pow_mono more in
-    let is = c.self.invariant in
-    omega (arith, taken, wide, is.few, is.size, c.loop-slot.invariant.3, c.deref-slot-items.ensures.len)
+    omega (
+      arith,
+      taken,
+      ap (λ xs. length (newest xs)) c.deref-slot-items.ensures.value,
+      c.self.invariant.counted,
+      c.loop-slot.invariant.3,
+    )
 
 pub loop-slot-preserved : goal.loop-slot-preserved
 loop-slot-preserved c =
@@ -82,20 +88,5 @@ returns-clause-room c =
     let is = c.self.invariant in
     let all : newest (take i items) ≡ newest c.self.inside.log.items =
     ap newest (take_all i items (omega arith) ∙ c.deref-slot-items.ensures.value) in
-    let some = pow_pos c.self.inside.levels in
-    let used = newest_few c.self.inside.log.items in
     let room = ap (λ r. r.room) c.drop.view_is in
-    let left : length (newest c.self.inside.log.items) < 2 ^ c.if-len-self.levels =
-    elim c.if-len-self.branch [
-      | then-len-self w ↦
-          let twice : 2 ^ c.if-len-self.levels ≡ 2 * 2 ^ c.self.inside.levels =
-          ap (λ n. 2 ^ n) (let e : c.if-len-self.levels ≡ suc c.self.inside.levels = omega
-          (arith, w.levels-is) in e)
-          ∙ omega (arith, pow-suc 2 c.self.inside.levels) in
-          omega (arith, twice, some, used, is.few, is.size, c.self.inside.log.ok.0)
-      | else-len-self w ↦
-          let same : 2 ^ c.if-len-self.levels ≡ 2 ^ c.self.inside.levels = ap (λ n. 2 ^ n) w.levels-is in
-          omega (arith, same, is.counted, c.len.ensures, is.size, w.if-len-self.false)
-    ] in
-    let whole = ap length all in
-    omega (arith, room, inv.3, left, whole)
+    omega (arith, room, inv.3, is.counted, ap length all)

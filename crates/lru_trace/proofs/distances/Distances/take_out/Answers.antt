@@ -1,4 +1,4 @@
-use Rattle.std.proofs.Common.{◌≡◌, ◌-◌, ◌<◌, false, Some, None, length, get_or, refl, sym, ap, ◌∙◌, arith, nat_eq}
+use Rattle.std.proofs.Common.{◌≡◌, ◌-◌, ◌<◌, false, Some, None, length, get_or, set, refl, sym, ap, ◌∙◌, arith, nat_eq}
 use Rattle.std.specs.Prelude.{vec_len}
 use Rattle.std.proofs.lemmas.Cmp.{nat_eq_equiv}
 use Rattle.std.proofs.lemmas.List.{length-set, get_or_read}
@@ -8,7 +8,7 @@ use Rattle.lru_theory.proofs.Nexts.{without_absent}
 use Rattle.lru_trace.specs.Slots.{position, newest, weight_in}
 use Rattle.lru_trace.proofs.Logs.{unreferenced, slot_in, position_is, taken_out, freed_found, freed_back}
 use Rattle.lru_trace.proofs.Logs.{freed_weighed, freed_fits, freed_counted, freed_absent, is_weighed}
-use Rattle.lru_trace.proofs.distances.Distances.take_out.Goals.{After-index, In_default, In-Some}
+use Rattle.lru_trace.proofs.distances.Distances.take_out.Goals.{After-index, In_default, In-Some, After-weight-weight, After-subtract}
 use Rattle.lru_trace.proofs.distances.Distances.take_out.Goals as goal
 
 read : (c : After-index) → c.index.result.now ≡ get_or c.self.inside.slots.items c.args.key None
@@ -54,14 +54,21 @@ weight_behind-behind-requires c =
       c.self.inside.log.ok.0,
     )
 
-pub clear-requires-clause-within : goal.clear-requires-clause-within
-clear-requires-clause-within c =
-    omega (arith, within (goal.at.clear-requires-clause-within c).In-Some, c.self.invariant.few, c.self.inside.log.ok.0)
+pub subtract-requires-clause-within : goal.subtract-requires-clause-within
+subtract-requires-clause-within c =
+    omega (arith, within (goal.at.subtract-requires-clause-within c).In-Some, c.self.invariant.few, c.self.inside.log.ok.0)
 
-pub clear-requires-clause-weight : goal.clear-requires-clause-weight
-clear-requires-clause-weight c =
-    is_weighed c.self.invariant c.args.key c.in-Some.slot (at_slot (goal.at.clear-requires-clause-weight c).In-Some)
+weighed : (c : After-weight-weight) → get_or c.self.inside.tree c.in-Some.slot 0 ≡ c.weight-weight.result
+weighed c =
+    is_weighed c.self.invariant c.args.key c.in-Some.slot (at_slot (goal.at.After-weight-weight c).In-Some)
     ∙ ap (λ r. weight_in r.weights c.args.key) c.self.view_is ∙ sym c.weight-weight.ensures
+
+pub subtract-requires-clause-enough : goal.subtract-requires-clause-enough
+subtract-requires-clause-enough c = omega (arith, weighed (goal.at.subtract-requires-clause-enough c).After-weight-weight)
+
+emptied : (c : After-subtract) → c.subtract.new.self ≡ set c.self.inside.tree c.in-Some.slot 0
+emptied c = c.subtract.ensures
+    ∙ ap (set c.self.inside.tree c.in-Some.slot) (omega (arith, weighed (goal.at.After-subtract c).After-weight-weight))
 
 pub index_mut-requires : goal.index_mut-requires
 index_mut-requires c = omega (arith, within (goal.at.index_mut-requires c).In-Some, c.self.inside.log.ok.0)
@@ -81,9 +88,7 @@ invariant_of-self c =
     let key = c.args.key in
     let slot = c.in-Some.slot in
     let len = length-set c.self.inside.tree slot 0 in
-    rw (c.clear.ensures) (record {
-      size = len ∙ is.size;
-      small = is.small;
+    rw (emptied (goal.at.invariant_of-self c).After-subtract) (record {
       room = omega (arith, len, is.room);
       few = omega (arith, len, is.few);
       found = freed_found is key slot at;
@@ -104,8 +109,8 @@ returns-clause-after c =
     let inside = c.self.inside in
     let out = taken_out c.self.invariant c.args.key c.in-Some.slot (at_slot (goal.at.returns-clause-after c).In-Some)
     ∙ ap (λ r. remove_key (nat_eq c.args.key) r.recency) c.self.view_is in
-    let len : length c.clear.new.self ≡ length inside.tree = ap length c.clear.ensures ∙ length-set inside.tree
-    c.in-Some.slot 0 in
+    let len : length c.subtract.new.self ≡ length inside.tree =
+    ap length (emptied (goal.at.returns-clause-after c).After-subtract) ∙ length-set inside.tree c.in-Some.slot 0 in
     λ i. record {
       recency = out i;
       keys = ap (λ r. r.keys) c.self.view_is i;
