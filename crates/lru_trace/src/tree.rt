@@ -2,6 +2,7 @@
 ghost use Rattle.std.specs.Prelude.{◌≡◌, ◌+◌, ◌-◌, ◌^◌, ◌<◌, ◌≤◌, IfOk, length, get_or, set, drop, replicate, sum};
 
 use std::alloc::{AllocError, Global};
+use std::boxed::Box;
 use std::marker::Model;
 
 const BLOCK: usize = 16;

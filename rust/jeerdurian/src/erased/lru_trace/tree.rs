@@ -5,6 +5,7 @@
 use crate::rattle_std::prelude::*;
 
 use crate::rattle_std::alloc::{AllocError, Global};
+use crate::rattle_std::boxed::Box;
 
 const BLOCK: usize = 16;
 
