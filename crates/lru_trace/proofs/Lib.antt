@@ -1,3 +1,4 @@
+pub mod Newest
 pub mod Logs
 pub mod Blocks
 pub mod Numbered

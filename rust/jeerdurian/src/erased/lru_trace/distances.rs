@@ -9,17 +9,21 @@ use crate::rattle_std::alloc::{AllocError, Global};
 
 const SPARE: usize = 8;
 
+/// The slot of a key that was not referenced.
+const NO_SLOT: usize = usize::MAX;
+
 /// The keys of a trace, by the time of their last reference.
 ///
 /// A key is a number that `add_key` or `add_weighed_key` returned. Its weight is 1, or the weight that
 /// `add_weighed_key` got.
 ///
-/// Each reference takes the next slot of a log, and the slot that its key had before becomes free. If the log is full,
-/// the keys move to the front of a new log, which is about half full. The memory is in proportion to the number of keys.
+/// Each reference takes the next slot of a log. The slot that its key had before becomes free: the log still contains
+/// the key there, but `slots` contains the new slot. If the log is full, the keys move to the front of a new log, which is
+/// about half full. The memory is in proportion to the number of keys.
 
 pub struct Distances {
-    log: Vec<Option<usize>>,
-    slots: Vec<Option<usize>>,
+    log: Vec<usize>,
+    slots: Vec<usize>,
     weights: Vec<u64>,
     tree: Tree,
     used: usize,
@@ -34,20 +38,20 @@ impl Distances {
     fn with_room(alloc: Global, keys: usize, weights: Vec<u64>, room: usize) -> Result<Self, AllocError> {
         let tree = Tree::new(alloc, room)?;
         let log = Vec::with_capacity(alloc, room)?;
-        let slots = vec![in alloc; None; keys]?;
+        let slots = vec![in alloc; NO_SLOT; keys]?;
         Ok(Distances { log, slots, weights, tree, used: 0, alloc })
     }
 
     pub fn add_key(&mut self) -> Result<usize, AllocError> {
         let key = self.slots.len();
-        self.slots.push(None)?;
+        self.slots.push(NO_SLOT)?;
         Ok(key)
     }
 
     pub fn add_weighed_key(&mut self, weight: u64) -> Result<usize, AllocError> {
         let key = self.slots.len();
         self.weights.reserve(1)?;
-        self.slots.push(None)?;
+        self.slots.push(NO_SLOT)?;
         self.weights.push_reserved(weight);
         Ok(key)
     }
@@ -67,21 +71,22 @@ impl Distances {
 
     /// Returns the sum of the weights of the keys that were referenced after the last reference to this key.
     pub fn position(&self, key: usize) -> Option<u64> {
-        let Some(slot) = (*at!(self.slots, key)) else {
+        let slot = (*at!(self.slots, key));
+        if slot == NO_SLOT {
             return None;
-        };
+        }
         Some(self.tree.weight_behind(slot))
     }
 
     fn take_out(&mut self, key: usize) -> Option<u64> {
-        let Some(slot) = (*at!(self.slots, key)) else {
+        let slot = (*at!(self.slots, key));
+        if slot == NO_SLOT {
             return None;
-        };
+        }
         let weight = self.weight(key);
         let behind = self.tree.weight_behind(slot);
         self.tree.subtract(slot, weight);
-        (*at_mut!(self.log, slot)) = None;
-        (*at_mut!(self.slots, key)) = None;
+        (*at_mut!(self.slots, key)) = NO_SLOT;
         self.used -= 1;
         Some(behind)
     }
@@ -89,8 +94,8 @@ impl Distances {
     fn append(&mut self, key: usize) {
         let slot = self.log.len();
         let weight = self.weight(key);
-        self.log.push_reserved(Some(key));
-        (*at_mut!(self.slots, key)) = Some(slot);
+        self.log.push_reserved(key);
+        (*at_mut!(self.slots, key)) = slot;
         self.tree.add(slot, weight);
         self.used += 1;
     }
@@ -99,9 +104,10 @@ impl Distances {
         let weights = Vec::from_slice(self.alloc, &self.weights)?;
         let room = 2 * self.used + SPARE;
         let mut packed = Distances::with_room(self.alloc, self.slots.len(), weights, room)?;
-        for slot in &self.log {
-            if let Some(key) = *slot {
-                packed.append(key);
+        let slots = &self.slots;
+        for (slot, key) in self.log.iter().enumerate() {
+            if (*at!(slots, *key)) == slot {
+                packed.append(*key);
             }
         }
         *self = packed;
