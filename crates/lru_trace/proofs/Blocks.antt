@@ -1,4 +1,5 @@
-use Rattle.std.proofs.Common.{◌≡◌, ℕ, ◌+◌, ◌-◌, ◌*◌, ◌/◌, ◌≤◌, ◌<◌, List, length, get_or, set, take, drop, sum, replicate}
+use Rattle.std.proofs.Common.{◌≡◌, ℕ, ◌+◌, ◌-◌, ◌*◌, ◌/◌, ◌≤◌, ◌<◌, List, length, get_or, set, take, drop, sum}
+use Rattle.std.proofs.Common.{replicate}
 use Rattle.std.proofs.Common.{sym, ap, ◌∙◌, arith, min, inl, inr}
 use Rattle.std.proofs.lemmas.Bool.{cases_lt}
 use Rattle.std.proofs.lemmas.List.{length-set, length-drop, get_or-drop, drop-drop, drop-set-lt, drop-set-add, drop_min}

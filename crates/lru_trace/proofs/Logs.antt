@@ -12,8 +12,10 @@ use Rattle.std.proofs.lemmas.Map.Made.{length-remove_key}
 use Rattle.std.proofs.lemmas.Option.{none-some, same_Some}
 use Rattle.lru_theory.specs.Traces.{is_in}
 use Rattle.lru_trace.specs.Slots.{position, newest, live, holder, HasSlot, IsLog, weight_in, weight_of}
-use Rattle.lru_trace.proofs.Newest.{newest_append, newest_absent, newest_split, newest_freed, is_in_middle, since_middle}
-use Rattle.lru_trace.proofs.Newest.{without_middle, count_weights, erased, erased_mark, taken_within, live_length, live_at}
+use Rattle.lru_trace.proofs.Newest.{newest_append, newest_absent, newest_split, newest_freed, is_in_middle}
+use Rattle.lru_trace.proofs.Newest.{since_middle}
+use Rattle.lru_trace.proofs.Newest.{without_middle, count_weights, erased, erased_mark, taken_within, live_length}
+use Rattle.lru_trace.proofs.Newest.{live_at}
 use Rattle.lru_trace.proofs.Newest.{holds, holds_not, same_holder}
 
 module _ {Z : Type 0} {log : Vec ℕ Z} {slots weights tree : List ℕ} {used : ℕ}
@@ -96,13 +98,15 @@ module _ {Z : Type 0} {log : Vec ℕ Z} {slots weights tree : List ℕ} {used : 
 
     pub freed : live left 0 log.items ≡ set xs slot None
     freed = ext_get_or None (live left 0 log.items) (set xs slot None)
-        (live_length left 0 log.items ∙ sym (length-set xs slot None ∙ long)) (λ i h. go i (omega (arith, h, live_length left 0 log.items)))
+        (live_length left 0 log.items ∙ sym (length-set xs slot None
+        ∙ long)) (λ i h. go i (omega (arith, h, live_length left 0 log.items)))
       where
         go : (i : ℕ) → i < length log.items → get_or (live left 0 log.items) i None ≡ get_or (set xs slot None) i None
         go i h = live_at left log.items i h ∙ elim (cases_eq i slot) [
           | inl here ↦ ap (λ j. holder left (get_or log.items j 0) i) here ∙ ap (λ k. holder left k i) there
               ∙ holds_not left key i (λ e. no_slot_here i h (sym gone ∙ e)) ∙ sym (erased xs slot i here)
-          | inr away ↦ same_at i h away ∙ sym (live_at slots log.items i h) ∙ sym (get_or-set_other xs slot i None None away)
+          | inr away ↦ same_at i h away ∙ sym (live_at slots log.items i h)
+              ∙ sym (get_or-set_other xs slot i None None away)
         ]
           where
             same_at : (i : ℕ) → i < length log.items → (i ≡ slot → ⊥)
@@ -110,7 +114,8 @@ module _ {Z : Type 0} {log : Vec ℕ Z} {slots weights tree : List ℕ} {used : 
             same_at i h away = elim (cases_eq (get_or log.items i 0) key) [
               | inl same ↦ rw same (holds_not left key i (λ e. no_slot_here i h (sym gone ∙ e))
                   ∙ sym (holds_not slots key i (λ e. away (sym e ∙ at.is))))
-              | inr other ↦ same_holder left slots (get_or log.items i 0) i (get_or-set_other slots key (get_or log.items i 0) (2 ^ 64 - 1) 0 other)
+              | inr other ↦ same_holder left slots (get_or log.items i 0) i (get_or-set_other slots key
+                  (get_or log.items i 0) (2 ^ 64 - 1) 0 other)
             ]
 
     pub taken_out : newest (live left 0 log.items) ≡ remove_key (nat_eq key) (newest xs)
@@ -142,7 +147,12 @@ module _ {Z : Type 0} {log : Vec ℕ Z} {slots weights tree : List ℕ} {used : 
     freed_fits = omega (arith, sum_by-set (λ x. x) tree slot 0 0 (omega (arith, slot_in, is.few, log.ok.0)), is.fits)
 
     pub freed_counted : used ≡ length (newest (live left 0 log.items)) + 1
-    freed_counted = omega (arith, is.counted, ap length taken_out, length-remove_key (nat_eq key) (newest xs) referenced)
+    freed_counted = omega (
+      arith,
+      is.counted,
+      ap length taken_out,
+      length-remove_key (nat_eq key) (newest xs) referenced,
+    )
 
     pub freed_absent : is_in nat_eq key (newest (live left 0 log.items)) ≡ false
     freed_absent = ap (λ ys. is_in nat_eq key (newest ys)) freed ∙ newest_absent key (set xs slot None) (λ i e.
@@ -179,7 +189,8 @@ module _ {Z : Type 0} {log : Vec ℕ Z} {slots weights tree : List ℕ} {used : 
         (omega (arith, live_length placed 0 more, longer, length_push xs (Some key), long))
         (λ i h. go i (omega (arith, h, live_length placed 0 more, longer)))
       where
-        before : (i : ℕ) → i < length log.items → holder placed (get_or log.items i 0) i ≡ holder slots (get_or log.items i 0) i
+        before : (i : ℕ) → i < length log.items
+            → holder placed (get_or log.items i 0) i ≡ holder slots (get_or log.items i 0) i
         before i h = elim (cases_eq (get_or log.items i 0) key) [
           | inl same ↦ rw same (holds_not placed key i (λ e. omega (arith, h, sym own ∙ e))
               ∙ sym (holds_not slots key i (λ e. no_slot_here i h (sym no_slot ∙ e))))
@@ -187,7 +198,8 @@ module _ {Z : Type 0} {log : Vec ℕ Z} {slots weights tree : List ℕ} {used : 
               (get_or-set_other slots key (get_or log.items i 0) (length log.items) 0 other)
         ]
 
-        go : (i : ℕ) → i < length log.items + 1 → get_or (live placed 0 more) i None ≡ get_or (xs ++ Some key ∷ []) i None
+        go : (i : ℕ) → i < length log.items + 1
+            → get_or (live placed 0 more) i None ≡ get_or (xs ++ Some key ∷ []) i None
         go i h = live_at placed more i (omega (arith, h, longer)) ∙ elim (cases_lt i (length log.items)) [
           | inl low ↦ ap (λ k. holder placed k i) (get_or_append_left log.items (key ∷ []) 0 i low) ∙ before i low
               ∙ sym (live_at slots log.items i low)
@@ -271,10 +283,12 @@ module _ {Z : Type 0} {log : Vec ℕ Z} {slots weights tree : List ℕ} {used : 
   same_live = ext_get_or None (live wider 0 log.items) xs (live_length wider 0 log.items ∙ sym long) (λ i h.
       let low : i < length log.items = omega (arith, h, live_length wider 0 log.items) in
       live_at wider log.items i low
-      ∙ same_holder wider slots (get_or log.items i 0) i (get_or_append_left slots _ 0 (get_or log.items i 0) (is.keys i low))
+      ∙ same_holder wider slots (get_or log.items i 0) i (get_or_append_left slots _ 0 (get_or log.items i 0)
+      (is.keys i low))
       ∙ sym (live_at slots log.items i low))
 
-  pub wider_found : (key slot : ℕ) → HasSlot wider key slot → (slot < length log.items) × (get_or log.items slot 0 ≡ key)
+  pub wider_found : (key slot : ℕ) → HasSlot wider key slot
+      → (slot < length log.items) × (get_or log.items slot 0 ≡ key)
   wider_found key slot has = elim (cases_lt key (length slots)) [
     | inl low ↦ is.found key slot (record {
       within = low;

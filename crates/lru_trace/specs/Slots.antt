@@ -1,5 +1,6 @@
 -- A log of references: a list of slots. Each slot contains a key. A slot is free if its key has another slot.
-use Rattle.std.specs.Prelude.{◌≡◌, ◌≢◌, ℕ, ◌+◌, ◌-◌, ◌^◌, ◌≤◌, ◌<◌, if◌then◌else◌, List, [], ◌∷◌, ◌++◌, length, sum, sum_by}
+use Rattle.std.specs.Prelude.{◌≡◌, ◌≢◌, ℕ, ◌+◌, ◌-◌, ◌^◌, ◌≤◌, ◌<◌, if◌then◌else◌, List, [], ◌∷◌, ◌++◌, length, sum}
+use Rattle.std.specs.Prelude.{sum_by}
 use Rattle.std.specs.Prelude.{get_or, Option, Some, None, nat_eq, Vec, vec_len, vec_capacity}
 use Rattle.std.specs.Option.{option_to_list}
 use Rattle.lru_theory.specs.Traces.{is_in, since}

@@ -20,8 +20,8 @@ const NO_SLOT: usize = usize::MAX;
 /// `add_weighed_key` got.
 ///
 /// Each reference takes the next slot of a log. The slot that its key had before becomes free: the log still contains
-/// the key there, but `slots` contains the new slot. If the log is full, the keys move to the front of a new log, which is
-/// about half full. The memory is in proportion to the number of keys.
+/// the key there, but `slots` contains the new slot. If the log is full, the keys move to the front of a new log, which
+/// is about half full. The memory is in proportion to the number of keys.
 #[derive(Drop)]
 pub struct Distances {
     log: Vec<usize>,

@@ -18,7 +18,8 @@ add-requires-clause-within c =
 
 pub add-requires-clause-fits : goal.add-requires-clause-fits
 add-requires-clause-fits c =
-    let one = sum_by-cons (weight_in c.self.inside.weights.items) c.args.key (newest (live c.self.inside.slots.items 0 c.self.inside.log.items)) in
+    let one = sum_by-cons (weight_in c.self.inside.weights.items) c.args.key (newest
+    (live c.self.inside.slots.items 0 c.self.inside.log.items)) in
     omega (
       arith,
       c.requires.fits,
@@ -59,14 +60,16 @@ invariant_of-self c =
     let key = c.args.key in
     let weight : c.weight-weight.result ≡ weight_in c.self.inside.weights.items key =
     c.weight-weight.ensures ∙ ap (λ r. weight_in r.weights key) (sym c.self.view_is) in
-    let len = length-set c.self.inside.tree (length c.self.inside.log.items) (weight_in c.self.inside.weights.items key) in
+    let len = length-set c.self.inside.tree (length c.self.inside.log.items)
+    (weight_in c.self.inside.weights.items key) in
     let none = free (goal.at.invariant_of-self c).After-add in
     let now : get_or c.self.inside.tree c.len-slot.result 0 + c.weight-weight.result
     ≡ weight_in c.self.inside.weights.items key = omega (arith, none, weight) in
     let tree : c.add.new.self
     ≡ set c.self.inside.tree (length c.self.inside.log.items) (weight_in c.self.inside.weights.items key) =
     c.add.ensures ∙ (λ i. set c.self.inside.tree (slot_is i) (now i)) in
-    let one = sum_by-cons (weight_in c.self.inside.weights.items) key (newest (live c.self.inside.slots.items 0 c.self.inside.log.items)) in
+    let one = sum_by-cons (weight_in c.self.inside.weights.items) key (newest
+    (live c.self.inside.slots.items 0 c.self.inside.log.items)) in
     let few : weight_in c.self.inside.weights.items key + sum_by (weight_in c.self.inside.weights.items)
     (newest (live c.self.inside.slots.items 0 c.self.inside.log.items)) < 2 ^ 64 = omega (
       arith,
@@ -75,7 +78,8 @@ invariant_of-self c =
       ap (λ r. sum_by (weight_in r.weights) (c.args.key ∷ r.recency)) c.self.view_is,
     ) in
     let pushed = c.push_reserved.ensures.items in
-    let short : length c.self.inside.log.items < length c.self.inside.tree = omega (arith, room, c.self.inside.log.ok.0) in
+    let short : length c.self.inside.log.items < length c.self.inside.tree =
+    omega (arith, room, c.self.inside.log.ok.0) in
     rw (tree, slot_is) (record {
       room = omega (arith, len, is.room, c.push_reserved.ensures.capacity);
       few = omega (arith, len, room, c.push_reserved.ensures.len);
@@ -83,7 +87,11 @@ invariant_of-self c =
       found = rw pushed (added_found is key within absent);
       weighed = rw pushed (added_weighed is key within absent short);
       fits = added_fits is key within absent short few;
-      counted = rw (pushed, grown is key within absent) (omega (arith, is.counted, ap length (newest_push (live c.self.inside.slots.items 0 c.self.inside.log.items) key)));
+      counted = rw (pushed, grown is key within absent) (omega (
+        arith,
+        is.counted,
+        ap length (newest_push (live c.self.inside.slots.items 0 c.self.inside.log.items) key),
+      ));
     })
 
 pub returns-clause-recency : goal.returns-clause-recency

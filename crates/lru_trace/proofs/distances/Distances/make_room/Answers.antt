@@ -12,22 +12,39 @@ pub overflow_mul-room : goal.overflow_mul-room
 overflow_mul-room c =
     let log = c.self.inside.log in
     let slots = c.self.inside.slots.items in
-    omega (arith, c.self.invariant.counted, newest_few (live slots 0 log.items), live_length slots 0 log.items, log.ok.0, log.small)
+    omega (
+      arith,
+      c.self.invariant.counted,
+      newest_few (live slots 0 log.items),
+      live_length slots 0 log.items,
+      log.ok.0,
+      log.small,
+    )
 
 pub overflow_add-room : goal.overflow_add-room
 overflow_add-room c =
     let log = c.self.inside.log in
     let slots = c.self.inside.slots.items in
-    omega (arith, c.self.invariant.counted, newest_few (live slots 0 log.items), live_length slots 0 log.items, log.ok.0, log.small)
+    omega (
+      arith,
+      c.self.invariant.counted,
+      newest_few (live slots 0 log.items),
+      live_length slots 0 log.items,
+      log.ok.0,
+      log.small,
+    )
 
-key_within : (c : After-index) → get_or c.deref-key-items.result.now c.loop-slot.slot 0 < length c.self.inside.slots.items
+key_within : (c : After-index)
+    → get_or c.deref-key-items.result.now c.loop-slot.slot 0 < length c.self.inside.slots.items
 key_within c =
     let same = c.deref-key-items.ensures.value in
     subst (λ items. get_or items c.loop-slot.slot 0 < length c.self.inside.slots.items) (sym same)
     (c.self.invariant.keys c.loop-slot.slot (omega (arith, ap length same)))
 
-own : (c : After-index) → c.index.result.now ≡ get_or c.self.inside.slots.items (get_or c.deref-key-items.result.now c.loop-slot.slot 0) 0
-own c = get_or_read c.self.inside.slots.items (get_or c.deref-key-items.result.now c.loop-slot.slot 0) c.index.result.now (key_within c) c.index.ensures 0
+own : (c : After-index)
+    → c.index.result.now ≡ get_or c.self.inside.slots.items (get_or c.deref-key-items.result.now c.loop-slot.slot 0) 0
+own c = get_or_read c.self.inside.slots.items
+    (get_or c.deref-key-items.result.now c.loop-slot.slot 0) c.index.result.now (key_within c) c.index.ensures 0
 
 here : (c : After-index) → c.index.result.now ≡ c.loop-slot.slot
     → get_or (live c.self.inside.slots.items 0 c.deref-key-items.result.now) c.loop-slot.slot None

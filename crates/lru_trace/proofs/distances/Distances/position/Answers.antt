@@ -27,7 +27,12 @@ returns-then-slot c =
 pub weight_behind-requires : goal.weight_behind-requires
 weight_behind-requires c =
     let at = at_slot (goal.at.weight_behind-requires c).Else-slot in
-    omega (arith, slot_in c.self.invariant c.args.key c.index-slot.result.now at, c.self.invariant.few, c.self.inside.log.ok.0)
+    omega (
+      arith,
+      slot_in c.self.invariant c.args.key c.index-slot.result.now at,
+      c.self.invariant.few,
+      c.self.inside.log.ok.0,
+    )
 
 pub returns : goal.returns
 returns c =

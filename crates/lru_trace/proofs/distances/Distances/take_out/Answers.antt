@@ -1,4 +1,5 @@
-use Rattle.std.proofs.Common.{◌≡◌, ◌-◌, ◌^◌, ◌<◌, false, Some, None, length, get_or, set, refl, sym, ap, ◌∙◌, arith, nat_eq}
+use Rattle.std.proofs.Common.{◌≡◌, ◌-◌, ◌^◌, ◌<◌, false, Some, None, length, get_or, set, refl, sym, ap, ◌∙◌, arith}
+use Rattle.std.proofs.Common.{nat_eq}
 use Rattle.std.specs.Prelude.{vec_len}
 use Rattle.std.proofs.lemmas.Cmp.{nat_eq_equiv}
 use Rattle.std.proofs.lemmas.List.{length-set, get_or_read}
@@ -8,7 +9,8 @@ use Rattle.lru_theory.proofs.Nexts.{without_absent}
 use Rattle.lru_trace.specs.Slots.{position, newest, live, weight_in, HasSlot}
 use Rattle.lru_trace.proofs.Logs.{unreferenced, slot_in, position_is, taken_out, freed_found}
 use Rattle.lru_trace.proofs.Logs.{freed_weighed, freed_fits, freed_counted, freed_absent, is_weighed}
-use Rattle.lru_trace.proofs.distances.Distances.take_out.Goals.{After-index-slot, Then-slot, Else-slot, After-weight-weight, After-subtract}
+use Rattle.lru_trace.proofs.distances.Distances.take_out.Goals.{After-index-slot, Then-slot, Else-slot}
+use Rattle.lru_trace.proofs.distances.Distances.take_out.Goals.{After-weight-weight, After-subtract}
 use Rattle.lru_trace.proofs.distances.Distances.take_out.Goals as goal
 
 inside : (c : After-index-slot) → c.args.key < length c.self.inside.slots.items
@@ -19,7 +21,8 @@ read c = get_or_read c.self.inside.slots.items c.args.key c.index-slot.result.no
 
 no_slot : (c : Then-slot) → is_in nat_eq c.args.key
     (newest (live c.self.inside.slots.items 0 c.self.inside.log.items)) ≡ false
-no_slot c = unreferenced c.self.invariant c.args.key (sym (read (goal.at.Then-slot c).After-index-slot) ∙ c.if-slot.true)
+no_slot c = unreferenced c.self.invariant c.args.key (sym (read (goal.at.Then-slot c).After-index-slot)
+    ∙ c.if-slot.true)
 
 at_slot : (c : Else-slot) → HasSlot c.self.inside.slots.items c.args.key c.index-slot.result.now
 at_slot c =
@@ -32,7 +35,8 @@ within c = slot_in c.self.invariant c.args.key c.index-slot.result.now (at_slot 
 pub returns-then-slot-clause-result : goal.returns-then-slot-clause-result
 returns-then-slot-clause-result c =
     let none = no_slot (goal.at.returns-then-slot-clause-result c).Then-slot in
-    let here : None ≡ position (weight_in c.self.inside.weights.items) c.args.key (newest (live c.self.inside.slots.items 0 c.self.inside.log.items)) =
+    let here : None ≡ position (weight_in c.self.inside.weights.items) c.args.key (newest
+    (live c.self.inside.slots.items 0 c.self.inside.log.items)) =
     rw none refl in
     here ∙ ap (λ r. position (weight_in r.weights) c.args.key r.recency) c.self.view_is
 
@@ -41,9 +45,16 @@ returns-then-slot-clause-after c =
     let none = no_slot (goal.at.returns-then-slot-clause-after c).Then-slot in
     let same : c.args.self.now.recency ≡ remove_key (nat_eq c.args.key) c.args.self.now.recency =
     ap (λ r. r.recency) (sym c.self.view_is)
-    ∙ sym (without_absent nat_eq_equiv c.args.key (newest (live c.self.inside.slots.items 0 c.self.inside.log.items)) none)
+    ∙ sym (without_absent nat_eq_equiv c.args.key (newest
+    (live c.self.inside.slots.items 0 c.self.inside.log.items)) none)
     ∙ ap (λ r. remove_key (nat_eq c.args.key) r.recency) c.self.view_is in
-    ap (λ xs. record { recency = xs; keys = c.args.self.now.keys; weights = c.args.self.now.weights; room = c.args.self.now.room }) same
+    ap (λ xs. record {
+      recency = xs;
+      keys = c.args.self.now.keys;
+      weights = c.args.self.now.weights;
+      room =
+          c.args.self.now.room;
+    }) same
 
 pub returns-then-slot-clause-absent : goal.returns-then-slot-clause-absent
 returns-then-slot-clause-absent c =
@@ -61,7 +72,12 @@ weight_behind-behind-requires c =
 
 pub subtract-requires-clause-within : goal.subtract-requires-clause-within
 subtract-requires-clause-within c =
-    omega (arith, within (goal.at.subtract-requires-clause-within c).Else-slot, c.self.invariant.few, c.self.inside.log.ok.0)
+    omega (
+      arith,
+      within (goal.at.subtract-requires-clause-within c).Else-slot,
+      c.self.invariant.few,
+      c.self.inside.log.ok.0,
+    )
 
 weighed : (c : After-weight-weight) → get_or c.self.inside.tree c.index-slot.result.now 0 ≡ c.weight-weight.result
 weighed c =
@@ -69,11 +85,15 @@ weighed c =
     ∙ ap (λ r. weight_in r.weights c.args.key) c.self.view_is ∙ sym c.weight-weight.ensures
 
 pub subtract-requires-clause-enough : goal.subtract-requires-clause-enough
-subtract-requires-clause-enough c = omega (arith, weighed (goal.at.subtract-requires-clause-enough c).After-weight-weight)
+subtract-requires-clause-enough c =
+    omega (arith, weighed (goal.at.subtract-requires-clause-enough c).After-weight-weight)
 
 emptied : (c : After-subtract) → c.subtract.new.self ≡ set c.self.inside.tree c.index-slot.result.now 0
 emptied c = c.subtract.ensures
-    ∙ ap (set c.self.inside.tree c.index-slot.result.now) (omega (arith, weighed (goal.at.After-subtract c).After-weight-weight))
+    ∙ ap (set c.self.inside.tree c.index-slot.result.now) (omega (
+      arith,
+      weighed (goal.at.After-subtract c).After-weight-weight,
+    ))
 
 pub overflow_sub-self : goal.overflow_sub-self
 overflow_sub-self c =
@@ -103,16 +123,19 @@ invariant_of-self c =
 pub returns-clause-result : goal.returns-clause-result
 returns-clause-result c =
     ap Some c.weight_behind-behind.ensures
-    ∙ position_is c.self.invariant c.args.key c.index-slot.result.now (at_slot (goal.at.returns-clause-result c).Else-slot)
+    ∙ position_is c.self.invariant c.args.key c.index-slot.result.now (at_slot
+    (goal.at.returns-clause-result c).Else-slot)
     ∙ ap (λ r. position (weight_in r.weights) c.args.key r.recency) c.self.view_is
 
 pub returns-clause-after : goal.returns-clause-after
 returns-clause-after c =
     let inside = c.self.inside in
-    let out = taken_out c.self.invariant c.args.key c.index-slot.result.now (at_slot (goal.at.returns-clause-after c).Else-slot)
+    let out = taken_out c.self.invariant c.args.key c.index-slot.result.now (at_slot
+    (goal.at.returns-clause-after c).Else-slot)
     ∙ ap (λ r. remove_key (nat_eq c.args.key) r.recency) c.self.view_is in
     let len : length c.subtract.new.self ≡ length inside.tree =
-    ap length (emptied (goal.at.returns-clause-after c).After-subtract) ∙ length-set inside.tree c.index-slot.result.now 0 in
+    ap length (emptied (goal.at.returns-clause-after c).After-subtract)
+    ∙ length-set inside.tree c.index-slot.result.now 0 in
     λ i. record {
       recency = out i;
       keys = ap (λ r. r.keys) c.self.view_is i;
@@ -122,4 +145,5 @@ returns-clause-after c =
 
 pub returns-clause-absent : goal.returns-clause-absent
 returns-clause-absent c =
-    freed_absent c.self.invariant c.args.key c.index-slot.result.now (at_slot (goal.at.returns-clause-absent c).Else-slot)
+    freed_absent c.self.invariant c.args.key c.index-slot.result.now (at_slot
+    (goal.at.returns-clause-absent c).Else-slot)

@@ -1,4 +1,4 @@
-use Rattle.std.proofs.Common.{◌-◌, ◌<◌, length, get_or, arith, subst, ap, rules}
+use Rattle.std.proofs.Common.{◌-◌, ◌^◌, ◌<◌, length, get_or, set, sum, arith, subst, ap, rules}
 use Rattle.std.specs.Prelude.{IfSome}
 use Rattle.std.proofs.lemmas.List.{get_or_read}
 use Rattle.std.proofs.lemmas.List.Sums.{sum_by-set}
@@ -13,7 +13,11 @@ subtract-requires t c =
     let are = subst (λ s. IfSome s (λ sums. AreSums xs sums.value)) c.in-Some.is c.self.invariant.1 in
     let within : c.args.slot < length xs = omega (arith, c.requires.within, ap length c.self.view_is) in
     let enough = ap (λ xs. get_or xs c.args.slot 0) c.self.view_is in
-    rw c.deref_mut.ensures.value (search rules, (block_within are c.args.slot within, omega (arith, block_enough are c.args.slot within, enough, c.requires.enough)))
+    let less = block_enough are c.args.slot within in
+    rw c.deref_mut.ensures.value (
+      search rules,
+      (block_within are c.args.slot within, omega (arith, less, enough, c.requires.enough)),
+    )
 
 pub invariant_of-self : goal.invariant_of-self
 invariant_of-self t c =
@@ -24,10 +28,12 @@ invariant_of-self t c =
     let read = get_or_read xs slot c.index_mut.result.now within c.index_mut.ensures.value 0 in
     let enough = ap (λ xs. get_or xs c.args.slot 0) c.self.view_is in
     let change = sum_by-set (λ x. x) xs slot now 0 within in
+    let fits : sum (set xs slot now) < 2 ^ 64 = omega (arith, change, read, c.self.invariant.0) in
     elim c.match-self.branch [
       | in-Some w ↦
           let are = subst (λ s. IfSome s (λ sums. AreSums xs sums.value)) w.in-Some.is c.self.invariant.1 in
-          rw (w.self-inside-is, w.subtract.ensures, w.deref_mut.ensures.value)
-          (omega (arith, change, read, c.self.invariant.0), changed_sums are slot within _ now (omega (arith, read, enough, c.requires.enough, block_enough are c.args.slot within)))
-      | in_default w ↦ rw (w.self-inside-is, w.in_default.is) (omega (arith, change, read, c.self.invariant.0), tt)
+          let less = block_enough are slot within in
+          let same = changed_sums are slot within _ now (omega (arith, read, enough, c.requires.enough, less)) in
+          rw (w.self-inside-is, w.subtract.ensures, w.deref_mut.ensures.value) (fits, same)
+      | in_default w ↦ rw (w.self-inside-is, w.in_default.is) (fits, tt)
     ]

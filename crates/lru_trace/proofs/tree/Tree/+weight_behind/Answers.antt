@@ -26,7 +26,8 @@ sum_of-requires-2 t c =
       sum_by-take-le (λ x. x) (drop (c.args.slot + 1) xs) (c.min-end.result - (c.args.slot + 1)),
     ))
 
-both : (t : ℕ) (c : After-weight_behind t) → c.sum_of-2.result + c.weight_behind.result ≡ sum (drop (c.args.slot + 1) c.self.inside.weights.items)
+both : (t : ℕ) (c : After-weight_behind t)
+    → c.sum_of-2.result + c.weight_behind.result ≡ sum (drop (c.args.slot + 1) c.self.inside.weights.items)
 both t c =
     let xs = c.self.inside.weights.items in
     let are = subst (λ s. IfSome s (λ sums. AreSums xs sums.value)) c.in-Some.is c.self.invariant.1 in
@@ -38,7 +39,12 @@ both t c =
 
 pub overflow_add-result : goal.overflow_add-result
 overflow_add-result t c =
-    omega (arith, both t c, c.self.invariant.0, fewer_from c.self.inside.weights.items 0 (c.args.slot + 1) (omega arith))
+    omega (
+      arith,
+      both t c,
+      c.self.invariant.0,
+      fewer_from c.self.inside.weights.items 0 (c.args.slot + 1) (omega arith),
+    )
 
 pub returns : goal.returns
 returns t c = both t c ∙ ap (λ xs. sum (drop (c.args.slot + 1) xs)) c.self.view_is
