@@ -1,5 +1,6 @@
+pub mod Newest
 pub mod Logs
-pub mod NodeSums
+pub mod Blocks
 pub mod Numbered
 pub mod CurveSteps
 pub mod AnyCurves

@@ -1,344 +1,311 @@
-use Rattle.std.proofs.Common.{◌≡◌, ℕ, zero, suc, ◌+◌, ◌≤◌, ◌<◌, Bool, true, false, List, [], ◌∷◌, ◌++◌}
-use Rattle.std.proofs.Common.{length, get_or, set, take, drop, sum, Option, Some, None, refl, sym, ap, ◌∙◌, arith}
-use Rattle.std.proofs.Common.{inl, inr}
-use Rattle.std.specs.Prelude.{◌^◌, nat_eq, ◌||◌, Vec, sum_by}
-use Rattle.std.specs.Option.{option_to_list}
+-- A log, and what a reference changes.
+use Rattle.std.proofs.Common.{◌≡◌, ℕ, ◌+◌, ◌<◌, true, false, List, [], ◌∷◌, ◌++◌, length, get_or, set, take, drop, sum}
+use Rattle.std.proofs.Common.{Option, Some, None, refl, sym, ap, ◌∙◌, subst, arith, inl, inr}
+use Rattle.std.specs.Prelude.{◌^◌, ◌-◌, nat_eq, Vec, sum_by}
 use Rattle.std.specs.Set.{remove_key}
-use Rattle.std.proofs.lemmas.Bool.{both_ways, cases_lt, cases_eq, cases_order, eq-eqb, eqb-true, or_parts}
+use Rattle.std.proofs.lemmas.Bool.{both_ways, cases_lt, cases_eq, cases_order}
 use Rattle.std.proofs.lemmas.Grind.{get_or-set_at}
-use Rattle.std.proofs.lemmas.List.{append_assoc, append-nil, length-append, take-append-drop, drop_more, set_split}
-use Rattle.std.proofs.lemmas.List.{take_more, length-take, get_or-take, length_push, get_or-drop, get_or_past}
+use Rattle.std.proofs.lemmas.List.{take-append-drop, get_or-take, length_push, get_or-drop, get_or_past, ext_get_or}
 use Rattle.std.proofs.lemmas.List.{get_or-set_other, get_or_push, get_or_append_left, length-set}
-use Rattle.std.proofs.lemmas.List.Folds.{list_any-append}
-use Rattle.std.proofs.lemmas.List.Sums.{sum_by-cons, sum_by-append, sum_by-set}
+use Rattle.std.proofs.lemmas.List.Sums.{sum_by-append, sum_by-set}
 use Rattle.std.proofs.lemmas.Map.Made.{length-remove_key}
 use Rattle.std.proofs.lemmas.Option.{none-some, same_Some}
-use Rattle.lru_theory.specs.Traces.{is_in, since}
-use Rattle.lru_trace.specs.Slots.{position, newest, IsLog, weight_in, weight_of}
+use Rattle.lru_theory.specs.Traces.{is_in}
+use Rattle.lru_trace.specs.Slots.{position, newest, live, holder, HasSlot, IsLog, weight_in, weight_of}
+use Rattle.lru_trace.proofs.Newest.{newest_append, newest_absent, newest_split, newest_freed, is_in_middle}
+use Rattle.lru_trace.proofs.Newest.{since_middle}
+use Rattle.lru_trace.proofs.Newest.{without_middle, count_weights, erased, erased_mark, taken_within, live_length}
+use Rattle.lru_trace.proofs.Newest.{live_at}
+use Rattle.lru_trace.proofs.Newest.{holds, holds_not, same_holder}
 
-pub free_more : (xs : List (Option ℕ)) (i : ℕ) → get_or (xs ++ None ∷ []) i None ≡ get_or xs i None
-free_more [] zero = refl
-free_more [] (suc i) = refl
-free_more (x ∷ xs) zero = refl
-free_more (x ∷ xs) (suc i) = free_more xs i
-
-pub newest_append : (xs ys : List (Option ℕ)) → newest (xs ++ ys) ≡ newest ys ++ newest xs
-newest_append [] ys = sym (append-nil (newest ys))
-newest_append (x ∷ xs) ys =
-    ap (λ zs. zs ++ option_to_list x) (newest_append xs ys)
-    ∙ append_assoc (newest ys) (newest xs) (option_to_list x)
-
-pub newest_push : (xs : List (Option ℕ)) (key : ℕ) → newest (xs ++ Some key ∷ []) ≡ key ∷ newest xs
-newest_push xs key = newest_append xs (Some key ∷ [])
-
-pub newest_absent : (key : ℕ) (xs : List (Option ℕ)) → ((i : ℕ) → get_or xs i None ≡ Some key → ⊥)
-    → is_in nat_eq key (newest xs) ≡ false
-newest_absent key [] none = refl
-newest_absent key (x ∷ xs) none =
-    list_any-append (nat_eq key) (newest xs) (option_to_list x)
-    ∙ ap (λ b. b || is_in nat_eq key (option_to_list x)) (newest_absent key xs (λ i. none (suc i)))
-    ∙ go x (none 0)
-  where
-    go : (o : Option ℕ) → (o ≡ Some key → ⊥) → is_in nat_eq key (option_to_list o) ≡ false
-    go None h = refl
-    go (Some k) h = test (nat_eq key k) refl
-      where
-        test : (b : Bool) → nat_eq key k ≡ b → (b || false) ≡ false
-        test false e = refl
-        test true e = absurd (h (ap Some (sym (eqb-true key k e))))
-
-pub newest_split : (xs : List (Option ℕ)) (slot key : ℕ) → slot < length xs → get_or xs slot None ≡ Some key
-    → newest xs ≡ newest (drop (slot + 1) xs) ++ key ∷ newest (take slot xs)
-newest_split xs slot key within is =
-    ap newest (sym (take-append-drop slot xs) ∙ ap (λ ys. take slot xs ++ ys) (drop_more xs slot None within
-    ∙ ap (λ o. o ∷ drop (slot + 1) xs) is))
-    ∙ newest_append (take slot xs) (Some key ∷ drop (slot + 1) xs)
-    ∙ append_assoc (newest (drop (slot + 1) xs)) (key ∷ []) (newest (take slot xs))
-
-pub newest_freed : (xs : List (Option ℕ)) (slot : ℕ) → slot < length xs
-    → newest (set xs slot None) ≡ newest (drop (slot + 1) xs) ++ newest (take slot xs)
-newest_freed xs slot within =
-    ap newest (set_split xs slot None within ∙ ap (λ n. take slot xs ++ None ∷ drop n xs)
-    (let e : suc slot ≡ slot + 1 = omega arith in e))
-    ∙ newest_append (take slot xs) (None ∷ drop (slot + 1) xs)
-    ∙ ap (λ ys. ys ++ newest (take slot xs)) (append-nil (newest (drop (slot + 1) xs)))
-
-module _ (key : ℕ) where
-  self : nat_eq key key ≡ true
-  self = eq-eqb key key refl
-
-  pub is_in_middle : (xs ys : List ℕ) → is_in nat_eq key (xs ++ key ∷ ys) ≡ true
-  is_in_middle [] ys = rw self refl
-  is_in_middle (x ∷ xs) ys = go (nat_eq key x) (is_in_middle xs ys)
-    where
-      go : (b : Bool) → is_in nat_eq key (xs ++ key ∷ ys) ≡ true → (b || is_in nat_eq key (xs ++ key ∷ ys)) ≡ true
-      go true ih = refl
-      go false ih = ih
-
-  pub since_middle : (xs ys : List ℕ) → is_in nat_eq key xs ≡ false → since nat_eq key (xs ++ key ∷ ys) ≡ xs
-  since_middle [] ys e = rw self refl
-  since_middle (x ∷ xs) ys e =
-      let parts = or_parts (nat_eq key x) (is_in nat_eq key xs) e in
-      rw parts.0 (ap (λ zs. x ∷ zs) (since_middle xs ys parts.1))
-
-  pub without_middle : (xs ys : List ℕ) → is_in nat_eq key xs ≡ false
-      → remove_key (nat_eq key) (xs ++ key ∷ ys) ≡ xs ++ ys
-  without_middle [] ys e = rw self refl
-  without_middle (x ∷ xs) ys e =
-      let parts = or_parts (nat_eq key x) (is_in nat_eq key xs) e in
-      rw parts.0 (ap (λ zs. x ∷ zs) (without_middle xs ys parts.1))
-
-one_weight : (weight : ℕ → ℕ) (o : Option ℕ) → weight_of weight o ≡ sum_by weight (option_to_list o)
-one_weight weight None = refl
-one_weight weight (Some key) = omega arith
-
-pub count_weights : (weight : ℕ → ℕ) (tree : List ℕ) (log : List (Option ℕ))
-    → ((i : ℕ) → get_or tree i 0 ≡ weight_of weight (get_or log i None)) → sum tree ≡ sum_by weight (newest log)
-count_weights weight [] [] h = refl
-count_weights weight [] (x ∷ xs) h =
-    let ih = count_weights weight [] xs (λ i. h (suc i)) in
-    let joined = sum_by-append weight (newest xs) (option_to_list x) in
-    omega (arith, ih, joined, one_weight weight x, h 0)
-count_weights weight (m ∷ ms) [] h =
-    let ih = count_weights weight ms [] (λ i. h (suc i)) in
-    let whole = sum_by-cons (λ x. x) m ms in
-    omega (arith, whole, ih, h 0)
-count_weights weight (m ∷ ms) (x ∷ xs) h =
-    let ih = count_weights weight ms xs (λ i. h (suc i)) in
-    let joined = sum_by-append weight (newest xs) (option_to_list x) in
-    let whole = sum_by-cons (λ x. x) m ms in
-    omega (arith, whole, ih, one_weight weight x, joined, h 0)
-
-erased : (xs : List (Option ℕ)) (i j : ℕ) → j ≡ i → get_or (set xs i None) j None ≡ None
-erased xs i j same = elim (cases_lt i (length xs)) [
-  | inl h ↦ get_or-set_at xs i j None None same h
-  | inr h ↦ get_or_past (set xs i None) j None (omega (arith, same, h, length-set xs i None))
-]
-
-erased_mark : (xs : List ℕ) (i j : ℕ) → j ≡ i → get_or (set xs i 0) j 0 ≡ 0
-erased_mark xs i j same = elim (cases_lt i (length xs)) [
-  | inl h ↦ get_or-set_at xs i j 0 0 same h
-  | inr h ↦ get_or_past (set xs i 0) j 0 (omega (arith, same, h, length-set xs i 0))
-]
-
-taken_within : (n : ℕ) (xs : List (Option ℕ)) (i key : ℕ) → get_or (take n xs) i None ≡ Some key → i < n
-taken_within n xs i key e = elim (cases_lt i n) [
-  | inl h ↦ h
-  | inr h ↦ absurd (none-some key (sym (get_or_past (take n xs) i None (omega (arith, h, length-take n xs))) ∙ e))
-]
-
-pub newest_few : (xs : List (Option ℕ)) → length (newest xs) ≤ length xs
-newest_few [] = omega arith
-newest_few (x ∷ xs) = omega (arith, newest_few xs, length-append (newest xs) (option_to_list x), go x)
-  where
-    go : (o : Option ℕ) → length (option_to_list o) ≤ 1
-    go None = omega arith
-    go (Some k) = omega arith
-
-module _ {Z : Type 0} {levels : ℕ} {log : Vec (Option ℕ) Z} {slots : List (Option ℕ)}
-    {weights tree : List ℕ} {used : ℕ} (is : IsLog levels log slots weights tree used) where
+module _ {Z : Type 0} {log : Vec ℕ Z} {slots weights tree : List ℕ} {used : ℕ}
+    (is : IsLog log slots weights tree used) where
   abbrev pub weight : ℕ → ℕ
   weight = weight_in weights
 
   abbrev pub xs : List (Option ℕ)
-  xs = log.items
+  xs = live slots 0 log.items
 
-  pub behind_slot : (slot : ℕ) → sum (drop (slot + 1) tree) ≡ sum_by weight (newest (drop (slot + 1) log.items))
-  behind_slot slot = count_weights weight (drop (slot + 1) tree) (drop (slot + 1) log.items)
+  long : length xs ≡ length log.items
+  long = live_length slots 0 log.items
+
+  pub behind_slot : (slot : ℕ) → sum (drop (slot + 1) tree) ≡ sum_by weight (newest (drop (slot + 1) xs))
+  behind_slot slot = count_weights weight (drop (slot + 1) tree) (drop (slot + 1) xs)
       (λ i. get_or-drop (slot + 1) tree i 0 ∙ is.weighed (slot + 1 + i)
-      ∙ ap (weight_of weight) (sym (get_or-drop (slot + 1) log.items i None)))
+      ∙ ap (weight_of weight) (sym (get_or-drop (slot + 1) xs i None)))
 
-  pub all_weights : sum tree ≡ sum_by weight (newest log.items)
-  all_weights = count_weights weight tree log.items is.weighed
+  pub all_weights : sum tree ≡ sum_by weight (newest xs)
+  all_weights = count_weights weight tree xs is.weighed
 
-  pub slot_within : (slot key : ℕ) → get_or log.items slot None ≡ Some key → slot < length log.items
+  slot_within : (slot key : ℕ) → get_or xs slot None ≡ Some key → slot < length log.items
   slot_within slot key e = elim (cases_lt slot (length log.items)) [
     | inl h ↦ h
-    | inr h ↦ absurd (none-some key (sym (get_or_past log.items slot None h) ∙ e))
+    | inr h ↦ absurd (none-some key (sym (get_or_past xs slot None (omega (arith, h, long))) ∙ e))
   ]
 
-  pub unreferenced : (key : ℕ) → get_or slots key None ≡ None → is_in nat_eq key (newest log.items) ≡ false
-  unreferenced key none = newest_absent key log.items (λ i e. absurd (none-some i (sym none ∙ is.back key i e)))
+  back : (key slot : ℕ) → get_or xs slot None ≡ Some key → (get_or log.items slot 0 ≡ key) × (get_or slots key 0 ≡ slot)
+  back key slot e =
+      let h = slot_within slot key e in
+      let k = get_or log.items slot 0 in
+      let at = sym (live_at slots log.items slot h) ∙ e in
+      elim (cases_eq (get_or slots k 0) slot) [
+        | inl own ↦
+            let same = same_Some k key (sym (holds slots k slot own) ∙ at) in
+            (same, ap (λ k. get_or slots k 0) (sym same) ∙ own)
+        | inr other ↦ absurd (none-some key (sym (holds_not slots k slot other) ∙ at))
+      ]
 
-  module _ (key slot : ℕ) (at_slot : get_or slots key None ≡ Some slot) where
+  no_slot_here : (slot : ℕ) → slot < length log.items → 2 ^ 64 - 1 ≡ slot → ⊥
+  no_slot_here slot h e = omega (arith, h, e, log.ok.0, log.small)
+
+  pub unreferenced : (key : ℕ) → get_or slots key 0 ≡ 2 ^ 64 - 1 → is_in nat_eq key (newest xs) ≡ false
+  unreferenced key none = newest_absent key xs (λ i e.
+      no_slot_here i (slot_within i key e) (sym none ∙ (back key i e).1))
+
+  module _ (key slot : ℕ) (at : HasSlot slots key slot) where
     abbrev behind : List ℕ
-    behind = newest (drop (slot + 1) log.items)
+    behind = newest (drop (slot + 1) xs)
+
+    abbrev left : List ℕ
+    left = set slots key (2 ^ 64 - 1)
 
     pub slot_in : slot < length log.items
-    slot_in = slot_within slot key (is.found key slot at_slot)
+    slot_in = (is.found key slot at).0
+
+    there : get_or log.items slot 0 ≡ key
+    there = (is.found key slot at).1
+
+    lives : get_or xs slot None ≡ Some key
+    lives = live_at slots log.items slot slot_in ∙ ap (λ k. holder slots k slot) there ∙ holds slots key slot at.is
 
     not_behind : is_in nat_eq key behind ≡ false
-    not_behind = newest_absent key (drop (slot + 1) log.items) (λ i e.
-        let there = is.back key (slot + 1 + i) (sym (get_or-drop (slot + 1) log.items i None) ∙ e) in
-        let same = same_Some slot (slot + 1 + i) (sym at_slot ∙ there) in
+    not_behind = newest_absent key (drop (slot + 1) xs) (λ i e.
+        let same = sym at.is ∙ (back key (slot + 1 + i) (sym (get_or-drop (slot + 1) xs i None) ∙ e)).1 in
         absurd (omega (arith, same)))
 
-    whole : newest log.items ≡ behind ++ key ∷ newest (take slot log.items)
-    whole = newest_split log.items slot key slot_in (is.found key slot at_slot)
+    whole : newest xs ≡ behind ++ key ∷ newest (take slot xs)
+    whole = newest_split xs slot key (omega (arith, slot_in, long)) lives
 
-    pub position_is : Some (sum (drop (slot + 1) tree)) ≡ position weight key (newest log.items)
+    pub position_is : Some (sum (drop (slot + 1) tree)) ≡ position weight key (newest xs)
     position_is = rw (
       whole,
-      is_in_middle key behind (newest (take slot log.items)),
-      since_middle key behind (newest (take slot log.items)) not_behind,
+      is_in_middle key behind (newest (take slot xs)),
+      since_middle key behind (newest (take slot xs)) not_behind,
     ) (ap Some (behind_slot slot))
 
-    pub taken_out : newest (set log.items slot None) ≡ remove_key (nat_eq key) (newest log.items)
-    taken_out = newest_freed log.items slot slot_in
-        ∙ sym (ap (remove_key (nat_eq key)) whole ∙ without_middle key behind (newest (take slot log.items)) not_behind)
+    gone : get_or left key 0 ≡ 2 ^ 64 - 1
+    gone = get_or-set_at slots key key (2 ^ 64 - 1) 0 refl at.within
 
-    referenced : is_in nat_eq key (newest log.items) ≡ true
-    referenced = rw whole (is_in_middle key behind (newest (take slot log.items)))
+    pub freed : live left 0 log.items ≡ set xs slot None
+    freed = ext_get_or None (live left 0 log.items) (set xs slot None)
+        (live_length left 0 log.items ∙ sym (length-set xs slot None
+        ∙ long)) (λ i h. go i (omega (arith, h, live_length left 0 log.items)))
+      where
+        go : (i : ℕ) → i < length log.items → get_or (live left 0 log.items) i None ≡ get_or (set xs slot None) i None
+        go i h = live_at left log.items i h ∙ elim (cases_eq i slot) [
+          | inl here ↦ ap (λ j. holder left (get_or log.items j 0) i) here ∙ ap (λ k. holder left k i) there
+              ∙ holds_not left key i (λ e. no_slot_here i h (sym gone ∙ e)) ∙ sym (erased xs slot i here)
+          | inr away ↦ same_at i h away ∙ sym (live_at slots log.items i h)
+              ∙ sym (get_or-set_other xs slot i None None away)
+        ]
+          where
+            same_at : (i : ℕ) → i < length log.items → (i ≡ slot → ⊥)
+                → holder left (get_or log.items i 0) i ≡ holder slots (get_or log.items i 0) i
+            same_at i h away = elim (cases_eq (get_or log.items i 0) key) [
+              | inl same ↦ rw same (holds_not left key i (λ e. no_slot_here i h (sym gone ∙ e))
+                  ∙ sym (holds_not slots key i (λ e. away (sym e ∙ at.is))))
+              | inr other ↦ same_holder left slots (get_or log.items i 0) i (get_or-set_other slots key
+                  (get_or log.items i 0) (2 ^ 64 - 1) 0 other)
+            ]
 
-    pub freed_found : (k s : ℕ) → get_or (set slots key None) k None ≡ Some s → get_or (set log.items slot None) s
-        None ≡ Some k
-    freed_found k s e = elim (cases_eq k key) [
-      | inl same ↦ absurd (none-some s (sym (erased slots key k same) ∙ e))
-      | inr other ↦
-          let there = is.found k s (sym (get_or-set_other slots key k None None other) ∙ e) in
-          get_or-set_other log.items slot s None None (λ same.
-          other (same_Some k key (sym there ∙ ap (λ j. get_or log.items j None) same ∙ is.found key slot at_slot)))
-          ∙ there
-    ]
+    pub taken_out : newest (live left 0 log.items) ≡ remove_key (nat_eq key) (newest xs)
+    taken_out = ap newest freed ∙ newest_freed xs slot (omega (arith, slot_in, long))
+        ∙ sym (ap (remove_key (nat_eq key)) whole ∙ without_middle key behind (newest (take slot xs)) not_behind)
 
-    pub freed_back : (k s : ℕ) → get_or (set log.items slot None) s None ≡ Some k → get_or (set slots key None) k None
-        ≡ Some s
-    freed_back k s e = elim (cases_eq s slot) [
-      | inl same ↦ absurd (none-some k (sym (erased log.items slot s same) ∙ e))
-      | inr other ↦
-          let there = is.back k s (sym (get_or-set_other log.items slot s None None other) ∙ e) in
-          get_or-set_other slots key k None None (λ same.
-          other (same_Some s slot (sym there ∙ ap (λ j. get_or slots j None) same ∙ at_slot)))
-          ∙ there
+    referenced : is_in nat_eq key (newest xs) ≡ true
+    referenced = rw whole (is_in_middle key behind (newest (take slot xs)))
+
+    pub freed_found : (k s : ℕ) → HasSlot left k s → (s < length log.items) × (get_or log.items s 0 ≡ k)
+    freed_found k s has = elim (cases_eq k key) [
+      | inl same ↦ absurd (has.some (sym has.is ∙ ap (λ k. get_or left k 0) same ∙ gone))
+      | inr other ↦ is.found k s (record {
+        within = omega (arith, has.within, length-set slots key (2 ^ 64 - 1));
+        is = sym (get_or-set_other slots key k (2 ^ 64 - 1) 0 other) ∙ has.is;
+        some = has.some;
+      })
     ]
 
     pub freed_weighed : (s : ℕ) → get_or (set tree slot 0) s 0
-        ≡ weight_of weight (get_or (set log.items slot None) s None)
-    freed_weighed s = elim (cases_eq s slot) [
-      | inl same ↦ erased_mark tree slot s same ∙ ap (weight_of weight) (sym (erased log.items slot s same))
+        ≡ weight_of weight (get_or (live left 0 log.items) s None)
+    freed_weighed s = rw freed (elim (cases_eq s slot) [
+      | inl same ↦ erased_mark tree slot s same ∙ ap (weight_of weight) (sym (erased xs slot s same))
       | inr other ↦ get_or-set_other tree slot s 0 0 other ∙ is.weighed s
-          ∙ ap (weight_of weight) (sym (get_or-set_other log.items slot s None None other))
-    ]
+          ∙ ap (weight_of weight) (sym (get_or-set_other xs slot s None None other))
+    ])
 
     pub freed_fits : sum (set tree slot 0) < 2 ^ 64
     freed_fits = omega (arith, sum_by-set (λ x. x) tree slot 0 0 (omega (arith, slot_in, is.few, log.ok.0)), is.fits)
 
-    pub freed_counted : used ≡ length (newest (set log.items slot None)) + 1
-    freed_counted =
-        omega (arith, is.counted, ap length taken_out, length-remove_key (nat_eq key) (newest log.items) referenced)
+    pub freed_counted : used ≡ length (newest (live left 0 log.items)) + 1
+    freed_counted = omega (
+      arith,
+      is.counted,
+      ap length taken_out,
+      length-remove_key (nat_eq key) (newest xs) referenced,
+    )
 
-    pub freed_absent : is_in nat_eq key (newest (set log.items slot None)) ≡ false
-    freed_absent = newest_absent key (set log.items slot None) (λ i e.
-        absurd (none-some i (sym (erased slots key key refl) ∙ freed_back key i e)))
+    pub freed_absent : is_in nat_eq key (newest (live left 0 log.items)) ≡ false
+    freed_absent = ap (λ ys. is_in nat_eq key (newest ys)) freed ∙ newest_absent key (set xs slot None) (λ i e.
+        elim (cases_eq i slot) [
+          | inl same ↦ absurd (none-some key (sym (erased xs slot i same) ∙ e))
+          | inr other ↦ other (sym (back key i (sym (get_or-set_other xs slot i None None other) ∙ e)).1 ∙ at.is)
+        ])
 
     pub is_weighed : get_or tree slot 0 ≡ weight key
-    is_weighed = is.weighed slot ∙ ap (weight_of weight) (is.found key slot at_slot)
+    is_weighed = is.weighed slot ∙ ap (weight_of weight) lives
 
-  pub no_slot : (key : ℕ) → is_in nat_eq key (newest log.items) ≡ false → get_or slots key None ≡ None
-  no_slot key absent = go (get_or slots key None) refl
-    where
-      go : (o : Option ℕ) → get_or slots key None ≡ o → o ≡ None
-      go None e = refl
-      go (Some s) e = absurd (both_ways _ absent (referenced key s e))
+  module _ (key : ℕ) (within : key < length slots) (absent : is_in nat_eq key (newest xs) ≡ false) where
+    abbrev more : List ℕ
+    more = log.items ++ key ∷ []
 
-  module _ (key : ℕ) (within : key < length slots) (absent : is_in nat_eq key (newest log.items) ≡ false) where
-    abbrev more : List (Option ℕ)
-    more = log.items ++ Some key ∷ []
+    abbrev placed : List ℕ
+    placed = set slots key (length log.items)
 
-    at_end : (s : ℕ) → s ≡ length log.items → get_or more s None ≡ Some key
-    at_end s e = get_or_push log.items (Some key) None s (sym e)
-
-    past_end : (s : ℕ) → length log.items < s → get_or more s None ≡ None
-    past_end s h = get_or_past more s None (omega (arith, h, length_push log.items (Some key)))
-
-    pub added_found : (k s : ℕ) → get_or (set slots key (Some (length log.items))) k None ≡ Some s → get_or more s
-        None ≡ Some k
-    added_found k s e = elim (cases_eq k key) [
-      | inl same ↦
-          let here = same_Some (length log.items) s
-          (sym (get_or-set_at slots key k (Some (length log.items)) None same within) ∙ e) in
-          at_end s (sym here) ∙ ap Some (sym same)
-      | inr other ↦
-          let there = is.found k s (sym (get_or-set_other slots key k (Some (length log.items)) None other) ∙ e) in
-          get_or_append_left log.items (Some key ∷ []) None s (slot_within s k there) ∙ there
+    no_slot : get_or slots key 0 ≡ 2 ^ 64 - 1
+    no_slot = elim (cases_eq (get_or slots key 0) (2 ^ 64 - 1)) [
+      | inl none ↦ none
+      | inr some ↦ absurd (both_ways _ absent (referenced key (get_or slots key 0)
+          (record { within = within; is = refl; some = some })))
     ]
 
-    pub added_back : (k s : ℕ) → get_or more s None ≡ Some k → get_or (set slots key (Some (length log.items))) k None
-        ≡ Some s
-    added_back k s e = elim (cases_order s (length log.items)) [
-      | inl here ↦
-          let same = same_Some k key (sym e ∙ at_end s here) in
-          get_or-set_at slots key k (Some (length log.items)) None same within ∙ ap Some (sym here)
-      | inr (inl before) ↦
-          let there = is.back k s (sym (get_or_append_left log.items (Some key ∷ []) None s before) ∙ e) in
-          get_or-set_other slots key k (Some (length log.items)) None (λ same.
-          absurd (none-some s (sym (no_slot key absent) ∙ ap (λ j. get_or slots j None) (sym same) ∙ there))) ∙ there
-      | inr (inr past) ↦ absurd (none-some k (sym (past_end s past) ∙ e))
+    own : get_or placed key 0 ≡ length log.items
+    own = get_or-set_at slots key key (length log.items) 0 refl within
+
+    longer : length more ≡ length log.items + 1
+    longer = length_push log.items key
+
+    pub grown : live placed 0 more ≡ xs ++ Some key ∷ []
+    grown = ext_get_or None (live placed 0 more) (xs ++ Some key ∷ [])
+        (omega (arith, live_length placed 0 more, longer, length_push xs (Some key), long))
+        (λ i h. go i (omega (arith, h, live_length placed 0 more, longer)))
+      where
+        before : (i : ℕ) → i < length log.items
+            → holder placed (get_or log.items i 0) i ≡ holder slots (get_or log.items i 0) i
+        before i h = elim (cases_eq (get_or log.items i 0) key) [
+          | inl same ↦ rw same (holds_not placed key i (λ e. omega (arith, h, sym own ∙ e))
+              ∙ sym (holds_not slots key i (λ e. no_slot_here i h (sym no_slot ∙ e))))
+          | inr other ↦ same_holder placed slots (get_or log.items i 0) i
+              (get_or-set_other slots key (get_or log.items i 0) (length log.items) 0 other)
+        ]
+
+        go : (i : ℕ) → i < length log.items + 1
+            → get_or (live placed 0 more) i None ≡ get_or (xs ++ Some key ∷ []) i None
+        go i h = live_at placed more i (omega (arith, h, longer)) ∙ elim (cases_lt i (length log.items)) [
+          | inl low ↦ ap (λ k. holder placed k i) (get_or_append_left log.items (key ∷ []) 0 i low) ∙ before i low
+              ∙ sym (live_at slots log.items i low)
+              ∙ sym (get_or_append_left xs (Some key ∷ []) None i (omega (arith, low, long)))
+          | inr past ↦
+              let last : i ≡ length log.items = omega (arith, h, past) in
+              ap (λ k. holder placed k i) (get_or_push log.items key 0 i (sym last))
+              ∙ holds placed key i (own ∙ sym last) ∙ sym (get_or_push xs (Some key) None i (omega (arith, last, long)))
+        ]
+
+    pub added_keys : (s : ℕ) → s < length more → get_or more s 0 < length placed
+    added_keys s h = rw (length-set slots key (length log.items)) (elim (cases_lt s (length log.items)) [
+      | inl low ↦ rw (get_or_append_left log.items (key ∷ []) 0 s low) (is.keys s low)
+      | inr past ↦ rw (get_or_push log.items key 0 s (omega (arith, h, past, longer))) within
+    ])
+
+    pub added_found : (k s : ℕ) → HasSlot placed k s → (s < length more) × (get_or more s 0 ≡ k)
+    added_found k s has = elim (cases_eq k key) [
+      | inl same ↦
+          let here = sym own ∙ ap (λ k. get_or placed k 0) (sym same) ∙ has.is in
+          (omega (arith, here, longer), get_or_push log.items key 0 s here ∙ sym same)
+      | inr other ↦
+          let old = is.found k s (record {
+            within = omega (arith, has.within, length-set slots key (length log.items));
+            is = sym (get_or-set_other slots key k (length log.items) 0 other) ∙ has.is;
+            some = has.some;
+          }) in
+          (omega (arith, old.0, longer), get_or_append_left log.items (key ∷ []) 0 s old.0 ∙ old.1)
     ]
 
     pub is_free : get_or tree (length log.items) 0 ≡ 0
     is_free = is.weighed (length log.items)
-        ∙ ap (weight_of weight) (get_or_past log.items (length log.items) None (omega arith))
+        ∙ ap (weight_of weight) (get_or_past xs (length log.items) None (omega (arith, long)))
 
     pub added_weighed : length log.items < length tree → (s : ℕ)
-        → get_or (set tree (length log.items) (weight key)) s 0 ≡ weight_of weight (get_or more s None)
-    added_weighed fits s = elim (cases_order s (length log.items)) [
+        → get_or (set tree (length log.items) (weight key)) s 0 ≡ weight_of weight (get_or (live placed 0 more) s None)
+    added_weighed fits s = rw grown (elim (cases_order s (length log.items)) [
       | inl here ↦ get_or-set_at tree (length log.items) s (weight key) 0 here fits
-          ∙ ap (weight_of weight) (sym (at_end s here))
+          ∙ ap (weight_of weight) (sym (get_or_push xs (Some key) None s (omega (arith, here, long))))
       | inr (inl before) ↦
           get_or-set_other tree (length log.items) s (weight key) 0 (λ same. omega (arith, same, before)) ∙ is.weighed s
-          ∙ ap (weight_of weight) (sym (get_or_append_left log.items (Some key ∷ []) None s before))
+          ∙ ap (weight_of weight) (sym (get_or_append_left xs (Some key ∷ []) None s (omega (arith, before, long))))
       | inr (inr past) ↦
           get_or-set_other tree (length log.items) s (weight key) 0 (λ same. omega (arith, same, past)) ∙ is.weighed s
-          ∙ ap (weight_of weight)
-          (get_or_past log.items s None (omega (arith, past)) ∙ sym (past_end s past))
-    ]
+          ∙ ap (weight_of weight) (get_or_past xs s None (omega (arith, past, long))
+          ∙ sym (get_or_past (xs ++ Some key ∷ []) s None (omega (arith, past, long, length_push xs (Some key)))))
+    ])
 
-    pub added_fits : length log.items < length tree → weight key + sum_by weight (newest log.items) < 2 ^ 64
+    pub added_fits : length log.items < length tree → weight key + sum_by weight (newest xs) < 2 ^ 64
         → sum (set tree (length log.items) (weight key)) < 2 ^ 64
     added_fits within few =
-        omega (arith, sum_by-set (λ x. x) tree (length log.items) (weight key) 0 within, all_weights, few)
+        omega (arith, sum_by-set (λ x. x) tree (length log.items) (weight key) 0 within, is_free, all_weights, few)
 
-  pub absent_before : (key slot : ℕ) → get_or log.items slot None ≡ Some key
-      → is_in nat_eq key (newest (take slot log.items)) ≡ false
-  absent_before key slot there = newest_absent key (take slot log.items) (λ i e.
-      let low = taken_within slot log.items i key e in
-      let same = same_Some i slot (sym (is.back key i (sym (get_or-take slot log.items i None low) ∙ e)) ∙ is.back
-      key slot there) in
+  pub absent_before : (key slot : ℕ) → get_or xs slot None ≡ Some key
+      → is_in nat_eq key (newest (take slot xs)) ≡ false
+  absent_before key slot there = newest_absent key (take slot xs) (λ i e.
+      let low = taken_within slot xs i key e in
+      let same = sym (back key i (sym (get_or-take slot xs i None low) ∙ e)).1 ∙ (back key slot there).1 in
       absurd (omega (arith, same, low)))
 
-  pub key_within : (key slot : ℕ) → get_or log.items slot None ≡ Some key → key < length slots
-  key_within key slot there = elim (cases_lt key (length slots)) [
-    | inl h ↦ h
-    | inr h ↦ absurd (none-some slot (sym (get_or_past slots key None h) ∙ is.back key slot there))
-  ]
+  pub key_within : (key slot : ℕ) → get_or xs slot None ≡ Some key → key < length slots
+  key_within key slot there = subst (λ k. k < length slots) (back key slot there).0
+      (is.keys slot (slot_within slot key there))
 
-  pub first_fit : (n : ℕ) → sum_by weight (newest (take n log.items)) < 2 ^ 64
+  pub first_fit : (n : ℕ) → sum_by weight (newest (take n xs)) < 2 ^ 64
   first_fit n =
-      let parts = ap newest (sym (take-append-drop n log.items)) ∙ newest_append (take n log.items) (drop n log.items) in
+      let parts = ap newest (sym (take-append-drop n xs)) ∙ newest_append (take n xs) (drop n xs) in
       omega (
         arith,
         is.fits,
         all_weights,
         ap (sum_by weight) parts,
-        sum_by-append weight (newest (drop n log.items)) (newest (take n log.items)),
+        sum_by-append weight (newest (drop n xs)) (newest (take n xs)),
       )
 
+  -- A new key has no slot.
+  abbrev wider : List ℕ
+  wider = slots ++ (2 ^ 64 - 1) ∷ []
+
+  pub same_live : live wider 0 log.items ≡ xs
+  same_live = ext_get_or None (live wider 0 log.items) xs (live_length wider 0 log.items ∙ sym long) (λ i h.
+      let low : i < length log.items = omega (arith, h, live_length wider 0 log.items) in
+      live_at wider log.items i low
+      ∙ same_holder wider slots (get_or log.items i 0) i (get_or_append_left slots _ 0 (get_or log.items i 0)
+      (is.keys i low))
+      ∙ sym (live_at slots log.items i low))
+
+  pub wider_found : (key slot : ℕ) → HasSlot wider key slot
+      → (slot < length log.items) × (get_or log.items slot 0 ≡ key)
+  wider_found key slot has = elim (cases_lt key (length slots)) [
+    | inl low ↦ is.found key slot (record {
+      within = low;
+      is = sym (get_or_append_left slots _ 0 key low) ∙ has.is;
+      some = has.some;
+    })
+    | inr past ↦
+        let last : length slots ≡ key = omega (arith, past, has.within, length_push slots (2 ^ 64 - 1)) in
+        absurd (has.some (sym has.is ∙ get_or_push slots (2 ^ 64 - 1) 0 key last))
+  ]
+
   pub weighed_more : (more : ℕ) → length weights ≡ length slots → (slot : ℕ)
-      → get_or tree slot 0 ≡ weight_of (weight_in (weights ++ more ∷ [])) (get_or log.items slot None)
-  weighed_more more same slot = is.weighed slot ∙ go (get_or log.items slot None) refl
+      → get_or tree slot 0 ≡ weight_of (weight_in (weights ++ more ∷ [])) (get_or xs slot None)
+  weighed_more more same slot = is.weighed slot ∙ go (get_or xs slot None) refl
     where
-      go : (o : Option ℕ) → get_or log.items slot None ≡ o
+      go : (o : Option ℕ) → get_or xs slot None ≡ o
           → weight_of weight o ≡ weight_of (weight_in (weights ++ more ∷ [])) o
       go None e = refl
       go (Some key) e =
           sym (get_or_append_left weights (more ∷ []) 1 key (omega (arith, same, key_within key slot e)))
-
-pub newest_more : (xs : List (Option ℕ)) (i : ℕ) (o : Option ℕ) → i < length xs → get_or xs i None ≡ o
-    → newest (take (i + 1) xs) ≡ option_to_list o ++ newest (take i xs)
-newest_more xs i o h e =
-    ap newest (take_more xs i None h ∙ ap (λ x. take i xs ++ x ∷ []) e)
-    ∙ newest_append (take i xs) (o ∷ [])
-
-pub newest_taken : (xs : List (Option ℕ)) (i : ℕ) → length (newest (take i xs)) ≤ i
-newest_taken xs i = omega (arith, newest_few (take i xs), length-take i xs)

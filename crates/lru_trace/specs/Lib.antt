@@ -1,4 +1,4 @@
-pub mod Nodes
+pub mod Blocks
 pub mod Slots
 pub mod Counted
 pub mod Lines

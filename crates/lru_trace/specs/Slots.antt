@@ -1,5 +1,6 @@
--- A log of references: a list of slots. Each slot contains a key or is free.
-use Rattle.std.specs.Prelude.{◌≡◌, ℕ, ◌^◌, ◌≤◌, ◌<◌, if◌then◌else◌, List, [], ◌∷◌, ◌++◌, length, sum, sum_by}
+-- A log of references: a list of slots. Each slot contains a key. A slot is free if its key has another slot.
+use Rattle.std.specs.Prelude.{◌≡◌, ◌≢◌, ℕ, ◌+◌, ◌-◌, ◌^◌, ◌≤◌, ◌<◌, if◌then◌else◌, List, [], ◌∷◌, ◌++◌, length, sum}
+use Rattle.std.specs.Prelude.{sum_by}
 use Rattle.std.specs.Prelude.{get_or, Option, Some, None, nat_eq, Vec, vec_len, vec_capacity}
 use Rattle.std.specs.Option.{option_to_list}
 use Rattle.lru_theory.specs.Traces.{is_in, since}
@@ -30,14 +31,28 @@ abbrev pub newest : List (Option ℕ) → List ℕ
 newest [] = []
 newest (slot ∷ slots) = newest slots ++ option_to_list slot
 
-pub record IsLog {Z : Type 0} (levels : ℕ) (log : Vec (Option ℕ) Z) (slots : List (Option ℕ)) (weights tree : List ℕ)
+-- the key in this slot of the log, or `None` if the key has another slot
+abbrev pub holder : List ℕ → ℕ → ℕ → Option ℕ
+holder slots key slot = if nat_eq (get_or slots key 0) slot then Some key else None
+
+-- the keys in the slots of the log, the first of which is the slot `from`
+abbrev pub live : List ℕ → ℕ → List ℕ → List (Option ℕ)
+live slots from [] = []
+live slots from (key ∷ log) = holder slots key from ∷ live slots (from + 1) log
+
+-- A key whose slot is 2 ^ 64 - 1 has no slot.
+pub record HasSlot (slots : List ℕ) (key slot : ℕ) : Type 0 where
+  pub within : key < length slots
+  pub is : get_or slots key 0 ≡ slot
+  pub some : slot ≢ 2 ^ 64 - 1
+
+pub record IsLog {Z : Type 0} (log : Vec ℕ Z) (slots weights tree : List ℕ)
     (used : ℕ) : Type 0 where
-  pub size : length tree ≡ 2 ^ levels
-  pub small : levels < 60
   pub room : length tree ≤ vec_capacity log
   pub few : vec_len log ≤ length tree
-  pub found : (key slot : ℕ) → get_or slots key None ≡ Some slot → get_or log.items slot None ≡ Some key
-  pub back : (key slot : ℕ) → get_or log.items slot None ≡ Some key → get_or slots key None ≡ Some slot
-  pub weighed : (slot : ℕ) → get_or tree slot 0 ≡ weight_of (weight_in weights) (get_or log.items slot None)
+  pub keys : (slot : ℕ) → slot < length log.items → get_or log.items slot 0 < length slots
+  pub found : (key slot : ℕ) → HasSlot slots key slot → (slot < length log.items) × (get_or log.items slot 0 ≡ key)
+  pub weighed : (slot : ℕ) → get_or tree slot 0
+      ≡ weight_of (weight_in weights) (get_or (live slots 0 log.items) slot None)
   pub fits : sum tree < 2 ^ 64
-  pub counted : used ≡ length (newest log.items)
+  pub counted : used ≡ length (newest (live slots 0 log.items))

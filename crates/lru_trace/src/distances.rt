@@ -9,44 +9,43 @@ use crate::tree::Tree;
 use std::alloc::{AllocError, Global};
 use std::marker::Model;
 
-const FIRST_LEVELS: u32 = 3;
+const SPARE: usize = 8;
 
-/// No memory holds more than 2 ^ `MOST_LEVELS` slots.
-const MOST_LEVELS: u32 = 59;
+/// The slot of a key that was not referenced.
+const NO_SLOT: usize = usize::MAX;
 
 /// The keys of a trace, by the time of their last reference.
 ///
 /// A key is a number that `add_key` or `add_weighed_key` returned. Its weight is 1, or the weight that
 /// `add_weighed_key` got.
 ///
-/// Each reference takes the next slot of a log, and the slot that its key had before becomes free. If the log is full,
-/// the keys move to the front of a new log. If about half of the slots or more contain keys, the new log has twice as
-/// many slots. The memory is in proportion to the number of keys.
+/// Each reference takes the next slot of a log. The slot that its key had before becomes free: the log still contains
+/// the key there, but `slots` contains the new slot. If the log is full, the keys move to the front of a new log, which
+/// is about half full. The memory is in proportion to the number of keys.
 #[derive(Drop)]
 pub struct Distances {
-    log: Vec<Option<usize>>,
-    slots: Vec<Option<usize>>,
+    log: Vec<usize>,
+    slots: Vec<usize>,
     weights: Vec<u64>,
     tree: Tree,
     used: usize,
-    levels: u32,
     alloc: Global,
 }
 
 impl Model for Distances {
     ghost use Rattle.std.specs.Prelude.{◌-◌, length, vec_len};
-    ghost use Rattle.lru_trace.specs.Slots.{Recent, IsLog, newest};
+    ghost use Rattle.lru_trace.specs.Slots.{Recent, IsLog, newest, live};
 
     ghost Value = { Recent };
 
     ghost view = { λ d. record {
-      recency = newest d.log.items;
+      recency = newest (live d.slots.items 0 d.log.items);
       keys = vec_len d.slots;
       weights = d.weights.items;
       room = length d.tree - vec_len d.log;
     } };
 
-    ghost invariant = { λ d. IsLog d.levels d.log d.slots.items d.weights.items d.tree d.used };
+    ghost invariant = { λ d. IsLog d.log d.slots.items d.weights.items d.tree d.used };
 }
 
 impl Distances {
@@ -55,33 +54,31 @@ impl Distances {
         ensures keys { IfOk result (λ trace. trace.keys ≡ 0) }
         ensures weights { IfOk result (λ trace. trace.weights ≡ []) }
     {
-        Distances::with_levels(alloc, 0, Vec::new(alloc), FIRST_LEVELS)
+        Distances::with_room(alloc, 0, Vec::new(alloc), SPARE)
     }
 
-    fn with_levels(
+    fn with_room(
         alloc: Global,
         keys: usize,
         weights: Vec<u64>,
-        levels: u32,
+        room: usize,
     ) -> Result<Self, AllocError>
-        requires { levels < 60 }
         ensures { IfOk result (λ trace. trace ≡ record {
           recency = [];
           keys = keys;
           weights = weights.items;
-          room = 2 ^ levels;
+          room = room;
         }) }
     {
-        let tree = Tree::new(alloc, levels)?;
-        let log = Vec::with_capacity(alloc, tree.len())?;
-        let slots = vec![in alloc; None; keys]?;
+        let tree = Tree::new(alloc, room)?;
+        let log = Vec::with_capacity(alloc, room)?;
+        let slots = vec![in alloc; NO_SLOT; keys]?;
         Ok(Distances {
             log,
             slots,
             weights,
             tree,
             used: 0,
-            levels,
             alloc,
         })
     }
@@ -95,7 +92,7 @@ impl Distances {
         ensures err { OnErr result (self.new.keys ≡ self.old.keys) }
     {
         let key = self.slots.len();
-        self.slots.push(None)?;
+        self.slots.push(NO_SLOT)?;
         Ok(key)
     }
 
@@ -110,7 +107,7 @@ impl Distances {
     {
         let key = self.slots.len();
         self.weights.reserve(1)?;
-        self.slots.push(None)?;
+        self.slots.push(NO_SLOT)?;
         self.weights.push_reserved(weight);
         Ok(key)
     }
@@ -135,9 +132,10 @@ impl Distances {
         requires { key < self.now.keys }
         ensures { result ≡ position (weight_in self.now.weights) key self.now.recency }
     {
-        let Some(slot) = self.slots[key] else {
+        let slot = self.slots[key];
+        if slot == NO_SLOT {
             return None;
-        };
+        }
         Some(self.tree.weight_behind(slot))
     }
 
@@ -147,14 +145,14 @@ impl Distances {
         ensures after { self.new ≡ record self.old { recency = remove_key (nat_eq key) self.old.recency } }
         ensures absent { is_in nat_eq key self.new.recency ≡ false }
     {
-        let Some(slot) = self.slots[key] else {
+        let slot = self.slots[key];
+        if slot == NO_SLOT {
             return None;
-        };
+        }
         let weight = self.weight(key);
         let behind = self.tree.weight_behind(slot);
-        self.tree.clear(slot, weight);
-        self.log[slot] = None;
-        self.slots[key] = None;
+        self.tree.subtract(slot, weight);
+        self.slots[key] = NO_SLOT;
         self.used -= 1;
         Some(behind)
     }
@@ -171,9 +169,9 @@ impl Distances {
     {
         let slot = self.log.len();
         let weight = self.weight(key);
-        self.log.push_reserved(Some(key));
-        self.slots[key] = Some(slot);
-        self.tree.put(slot, weight);
+        self.log.push_reserved(key);
+        self.slots[key] = slot;
+        self.tree.add(slot, weight);
         self.used += 1;
     }
 
@@ -184,18 +182,13 @@ impl Distances {
         ensures weights { self.new.weights ≡ self.old.weights }
         ensures room { OnOk result (0 < self.new.room) }
     {
-        let mut levels = self.levels;
-        if self.tree.len() / 2 <= self.used {
-            levels += 1;
-        }
-        if levels > MOST_LEVELS {
-            return Err(AllocError);
-        }
         let weights = Vec::from_slice(self.alloc, &self.weights)?;
-        let mut packed = Distances::with_levels(self.alloc, self.slots.len(), weights, levels)?;
-        for slot in &self.log {
-            if let Some(key) = *slot {
-                packed.append(key);
+        let room = 2 * self.used + SPARE;
+        let mut packed = Distances::with_room(self.alloc, self.slots.len(), weights, room)?;
+        let slots = &self.slots;
+        for (slot, key) in self.log.iter().enumerate() {
+            if slots[*key] == slot {
+                packed.append(*key);
             }
         }
         *self = packed;

@@ -1,77 +1,87 @@
 //! Slots with weights, and the sum of the weights behind each slot.
-ghost use Rattle.std.specs.Prelude.{◌≡◌, ◌+◌, ◌^◌, ◌<◌, IfOk, length, get_or, set, drop, replicate, sum};
+ghost use Rattle.std.specs.Prelude.{◌≡◌, ◌+◌, ◌-◌, ◌^◌, ◌<◌, ◌≤◌, IfOk, length, get_or, set, drop, replicate, sum};
 
 use std::alloc::{AllocError, Global};
+use std::boxed::Box;
 use std::marker::Model;
 
-/// Slots with weights. Contracts represent a tree by the weight of each slot, which is 0 if the slot is free.
+const BLOCK: usize = 16;
+
+/// Slots with weights. Contracts represent a tree by the weight of each slot.
 ///
-/// The slots are the leaves of a binary tree, and each inner node contains the sum of its two children. Node 1 is the
-/// root, and the children of node i are 2i and 2i + 1.
+/// If the slots are more than one block, `sums` is a tree whose slots are the blocks.
 #[derive(Drop)]
 pub struct Tree {
-    nodes: Vec<u64>,
-    slots: usize,
-    levels: u32,
+    weights: Vec<u64>,
+    sums: Option<Box<Tree>>,
 }
 
 impl Model for Tree {
-    ghost use Rattle.std.specs.Prelude.{ℕ, List, drop};
-    ghost use Rattle.lru_trace.specs.Nodes.{IsTree};
+    ghost use Rattle.std.specs.Prelude.{ℕ, List, ◌^◌, ◌<◌, IfSome, length, sum};
+    ghost use Rattle.lru_trace.specs.Blocks.{AreSums};
 
     ghost Value = { List ℕ };
 
-    ghost view = { λ t. drop t.slots t.nodes.items };
+    ghost view = { λ t. t.weights.items };
 
-    ghost invariant = { λ t. IsTree t.slots t.levels t.nodes.items };
+    ghost invariant = { λ t. (sum t.weights.items < 2 ^ 64)
+        × IfSome t.sums (λ sums. AreSums t.weights.items sums.value) };
+
+    ghost size = { length };
+
+    ghost use Rattle.std.proofs.Common.{arith};
+
+    ghost size_decreases = { λ t h. Prim.grind arith };
+}
+
+fn sum_of(weights: &[u64]) -> u64
+    requires { sum weights.now < 2 ^ 64 }
+    ensures { result ≡ sum weights.now }
+{
+    weights.iter().sum()
 }
 
 impl Tree {
-    pub fn new(alloc: Global, levels: u32) -> Result<Self, AllocError>
-        requires { levels < 60 }
-        ensures { IfOk result (λ tree. tree ≡ replicate (2 ^ levels) 0) }
+    pub fn new(alloc: Global, slots: usize) -> Result<Self, AllocError>
+        ensures { IfOk result (λ tree. tree ≡ replicate slots 0) }
     {
-        let slots = 1_usize << levels;
-        let nodes = vec![in alloc; 0; 2 * slots]?;
-        Ok(Tree {
-            nodes,
-            slots,
-            levels,
-        })
+        let weights = vec![in alloc; 0; slots]?;
+        if slots <= BLOCK {
+            return Ok(Tree {
+                weights,
+                sums: None,
+            });
+        }
+        let sums = Tree::new(alloc, (slots - 1) / BLOCK + 1)?;
+        let sums = Some(Box::new(alloc, sums)?);
+        Ok(Tree { weights, sums })
     }
 
     pub fn len(&self) -> usize
         ensures { result ≡ length self.now }
     {
-        self.slots
+        self.weights.len()
     }
 
-    pub fn put(&mut self, slot: usize, weight: u64)
+    pub fn add(&mut self, slot: usize, weight: u64)
         requires within { slot < length self.old }
-        requires free { get_or self.old slot 0 ≡ 0 }
         requires fits { sum self.old + weight < 2 ^ 64 }
-        ensures { self.new ≡ set self.old slot weight }
+        ensures { self.new ≡ set self.old slot (get_or self.old slot 0 + weight) }
     {
-        let leaf = self.slots + slot;
-        self.nodes[leaf] = weight;
-        let mut node = leaf / 2;
-        while node > 0 {
-            self.nodes[node] += weight;
-            node /= 2;
+        self.weights[slot] += weight;
+        if let Some(sums) = &mut self.sums {
+            sums.add(slot / BLOCK, weight);
         }
     }
 
-    pub fn clear(&mut self, slot: usize, weight: u64)
+    pub fn subtract(&mut self, slot: usize, weight: u64)
         requires within { slot < length self.old }
-        requires weight { get_or self.old slot 0 ≡ weight }
-        ensures { self.new ≡ set self.old slot 0 }
+        requires enough { weight ≤ get_or self.old slot 0 }
+        ensures { self.new ≡ set self.old slot (get_or self.old slot 0 - weight) }
     {
-        let leaf = self.slots + slot;
-        self.nodes[leaf] = 0;
-        let mut node = leaf / 2;
-        while node > 0 {
-            self.nodes[node] -= weight;
-            node /= 2;
+        self.weights[slot] -= weight;
+        if let Some(sums) = &mut self.sums {
+            sums.subtract(slot / BLOCK, weight);
         }
     }
 
@@ -79,14 +89,11 @@ impl Tree {
         requires { slot < length self.now }
         ensures { result ≡ sum (drop (slot + 1) self.now) }
     {
-        let mut node = self.slots + slot;
-        let mut weight = 0;
-        for _level in 0..self.levels {
-            if node % 2 == 0 {
-                weight += self.nodes[node + 1];
-            }
-            node /= 2;
-        }
-        weight
+        let Some(sums) = &self.sums else {
+            return sum_of(&self.weights[slot + 1..]);
+        };
+        let block = slot / BLOCK;
+        let end = (BLOCK * (block + 1)).min(self.weights.len());
+        sum_of(&self.weights[slot + 1..end]) + sums.weight_behind(block)
     }
 }

@@ -4,6 +4,7 @@
 #![allow(dead_code, unused_imports, unused_macros)]
 
 pub mod alloc;
+pub mod boxed;
 pub mod clone;
 #[cfg(feature = "std")]
 pub mod collections;

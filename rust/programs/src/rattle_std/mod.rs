@@ -2,7 +2,7 @@
 //! hand, and not proved.
 #![allow(dead_code, unused_imports, unused_macros)]
 
-pub use crate::library::{alloc, clone, cmp, fmt, hash, iter, marker, mem, simd, str, string, unwinding, vec};
+pub use crate::library::{alloc, boxed, clone, cmp, fmt, hash, iter, marker, mem, simd, str, string, unwinding, vec};
 
 pub mod collections;
 pub mod fs;

@@ -7,52 +7,51 @@ use crate::rattle_std::prelude::*;
 use crate::erased::lru_trace::tree::Tree;
 use crate::rattle_std::alloc::{AllocError, Global};
 
-const FIRST_LEVELS: u32 = 3;
+const SPARE: usize = 8;
 
-/// No memory holds more than 2 ^ `MOST_LEVELS` slots.
-const MOST_LEVELS: u32 = 59;
+/// The slot of a key that was not referenced.
+const NO_SLOT: usize = usize::MAX;
 
 /// The keys of a trace, by the time of their last reference.
 ///
 /// A key is a number that `add_key` or `add_weighed_key` returned. Its weight is 1, or the weight that
 /// `add_weighed_key` got.
 ///
-/// Each reference takes the next slot of a log, and the slot that its key had before becomes free. If the log is full,
-/// the keys move to the front of a new log. If about half of the slots or more contain keys, the new log has twice as
-/// many slots. The memory is in proportion to the number of keys.
+/// Each reference takes the next slot of a log. The slot that its key had before becomes free: the log still contains
+/// the key there, but `slots` contains the new slot. If the log is full, the keys move to the front of a new log, which
+/// is about half full. The memory is in proportion to the number of keys.
 
 pub struct Distances {
-    log: Vec<Option<usize>>,
-    slots: Vec<Option<usize>>,
+    log: Vec<usize>,
+    slots: Vec<usize>,
     weights: Vec<u64>,
     tree: Tree,
     used: usize,
-    levels: u32,
     alloc: Global,
 }
 
 impl Distances {
     pub fn new(alloc: Global) -> Result<Self, AllocError> {
-        Distances::with_levels(alloc, 0, Vec::new(alloc), FIRST_LEVELS)
+        Distances::with_room(alloc, 0, Vec::new(alloc), SPARE)
     }
 
-    fn with_levels(alloc: Global, keys: usize, weights: Vec<u64>, levels: u32) -> Result<Self, AllocError> {
-        let tree = Tree::new(alloc, levels)?;
-        let log = Vec::with_capacity(alloc, tree.len())?;
-        let slots = vec![in alloc; None; keys]?;
-        Ok(Distances { log, slots, weights, tree, used: 0, levels, alloc })
+    fn with_room(alloc: Global, keys: usize, weights: Vec<u64>, room: usize) -> Result<Self, AllocError> {
+        let tree = Tree::new(alloc, room)?;
+        let log = Vec::with_capacity(alloc, room)?;
+        let slots = vec![in alloc; NO_SLOT; keys]?;
+        Ok(Distances { log, slots, weights, tree, used: 0, alloc })
     }
 
     pub fn add_key(&mut self) -> Result<usize, AllocError> {
         let key = self.slots.len();
-        self.slots.push(None)?;
+        self.slots.push(NO_SLOT)?;
         Ok(key)
     }
 
     pub fn add_weighed_key(&mut self, weight: u64) -> Result<usize, AllocError> {
         let key = self.slots.len();
         self.weights.reserve(1)?;
-        self.slots.push(None)?;
+        self.slots.push(NO_SLOT)?;
         self.weights.push_reserved(weight);
         Ok(key)
     }
@@ -70,21 +69,22 @@ impl Distances {
 
     /// Returns the sum of the weights of the keys that were referenced after the last reference to this key.
     pub fn position(&self, key: usize) -> Option<u64> {
-        let Some(slot) = (*at!(self.slots, key)) else {
+        let slot = (*at!(self.slots, key));
+        if slot == NO_SLOT {
             return None;
-        };
+        }
         Some(self.tree.weight_behind(slot))
     }
 
     fn take_out(&mut self, key: usize) -> Option<u64> {
-        let Some(slot) = (*at!(self.slots, key)) else {
+        let slot = (*at!(self.slots, key));
+        if slot == NO_SLOT {
             return None;
-        };
+        }
         let weight = self.weight(key);
         let behind = self.tree.weight_behind(slot);
-        self.tree.clear(slot, weight);
-        (*at_mut!(self.log, slot)) = None;
-        (*at_mut!(self.slots, key)) = None;
+        self.tree.subtract(slot, weight);
+        (*at_mut!(self.slots, key)) = NO_SLOT;
         self.used -= 1;
         Some(behind)
     }
@@ -92,25 +92,20 @@ impl Distances {
     fn append(&mut self, key: usize) {
         let slot = self.log.len();
         let weight = self.weight(key);
-        self.log.push_reserved(Some(key));
-        (*at_mut!(self.slots, key)) = Some(slot);
-        self.tree.put(slot, weight);
+        self.log.push_reserved(key);
+        (*at_mut!(self.slots, key)) = slot;
+        self.tree.add(slot, weight);
         self.used += 1;
     }
 
     fn make_room(&mut self) -> Result<(), AllocError> {
-        let mut levels = self.levels;
-        if self.tree.len() / 2 <= self.used {
-            levels += 1;
-        }
-        if levels > MOST_LEVELS {
-            return Err(AllocError);
-        }
         let weights = Vec::from_slice(self.alloc, &self.weights)?;
-        let mut packed = Distances::with_levels(self.alloc, self.slots.len(), weights, levels)?;
-        for slot in &self.log {
-            if let Some(key) = *slot {
-                packed.append(key);
+        let room = 2 * self.used + SPARE;
+        let mut packed = Distances::with_room(self.alloc, self.slots.len(), weights, room)?;
+        let slots = &self.slots;
+        for (slot, key) in self.log.iter().enumerate() {
+            if (*at!(slots, *key)) == slot {
+                packed.append(*key);
             }
         }
         *self = packed;

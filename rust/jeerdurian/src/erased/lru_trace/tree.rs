@@ -5,58 +5,58 @@
 use crate::rattle_std::prelude::*;
 
 use crate::rattle_std::alloc::{AllocError, Global};
+use crate::rattle_std::boxed::Box;
 
-/// Slots with weights. Contracts represent a tree by the weight of each slot, which is 0 if the slot is free.
+const BLOCK: usize = 16;
+
+/// Slots with weights. Contracts represent a tree by the weight of each slot.
 ///
-/// The slots are the leaves of a binary tree, and each inner node contains the sum of its two children. Node 1 is the
-/// root, and the children of node i are 2i and 2i + 1.
+/// If the slots are more than one block, `sums` is a tree whose slots are the blocks.
 
 pub struct Tree {
-    nodes: Vec<u64>,
-    slots: usize,
-    levels: u32,
+    weights: Vec<u64>,
+    sums: Option<Box<Tree>>,
+}
+
+fn sum_of(weights: &[u64]) -> u64 {
+    weights.iter().sum()
 }
 
 impl Tree {
-    pub fn new(alloc: Global, levels: u32) -> Result<Self, AllocError> {
-        let slots = 1_usize << levels;
-        let nodes = vec![in alloc; 0; 2 * slots]?;
-        Ok(Tree { nodes, slots, levels })
+    pub fn new(alloc: Global, slots: usize) -> Result<Self, AllocError> {
+        let weights = vec![in alloc; 0; slots]?;
+        if slots <= BLOCK {
+            return Ok(Tree { weights, sums: None });
+        }
+        let sums = Tree::new(alloc, (slots - 1) / BLOCK + 1)?;
+        let sums = Some(Box::new(alloc, sums)?);
+        Ok(Tree { weights, sums })
     }
 
     pub fn len(&self) -> usize {
-        self.slots
+        self.weights.len()
     }
 
-    pub fn put(&mut self, slot: usize, weight: u64) {
-        let leaf = self.slots + slot;
-        (*at_mut!(self.nodes, leaf)) = weight;
-        let mut node = leaf / 2;
-        while node > 0 {
-            (*at_mut!(self.nodes, node)) += weight;
-            node /= 2;
+    pub fn add(&mut self, slot: usize, weight: u64) {
+        (*at_mut!(self.weights, slot)) += weight;
+        if let Some(sums) = &mut self.sums {
+            sums.add(slot / BLOCK, weight);
         }
     }
 
-    pub fn clear(&mut self, slot: usize, weight: u64) {
-        let leaf = self.slots + slot;
-        (*at_mut!(self.nodes, leaf)) = 0;
-        let mut node = leaf / 2;
-        while node > 0 {
-            (*at_mut!(self.nodes, node)) -= weight;
-            node /= 2;
+    pub fn subtract(&mut self, slot: usize, weight: u64) {
+        (*at_mut!(self.weights, slot)) -= weight;
+        if let Some(sums) = &mut self.sums {
+            sums.subtract(slot / BLOCK, weight);
         }
     }
 
     pub fn weight_behind(&self, slot: usize) -> u64 {
-        let mut node = self.slots + slot;
-        let mut weight = 0;
-        for _level in 0..self.levels {
-            if node % 2 == 0 {
-                weight += (*at!(self.nodes, node + 1));
-            }
-            node /= 2;
-        }
-        weight
+        let Some(sums) = &self.sums else {
+            return sum_of(&(*at!(self.weights, slot + 1..)));
+        };
+        let block = slot / BLOCK;
+        let end = (BLOCK * (block + 1)).min(self.weights.len());
+        sum_of(&(*at!(self.weights, slot + 1..end))) + sums.weight_behind(block)
     }
 }

@@ -1,5 +1,7 @@
-use Rattle.std.proofs.Common.{◌≡◌, length, sym, ap, ◌∙◌, arith}
-use Rattle.lru_trace.proofs.Logs.{free_more, weighed_more}
+use Rattle.std.proofs.Common.{◌≡◌, ◌-◌, ◌^◌, length, ap, ◌∙◌, arith}
+use Rattle.std.proofs.lemmas.List.{length_push}
+use Rattle.lru_trace.specs.Slots.{newest, live}
+use Rattle.lru_trace.proofs.Logs.{weighed_more, wider_found, same_live}
 use Rattle.lru_trace.proofs.distances.Distances.add_weighed_key.Goals as goal
 
 pub invariant_of-self-2 : goal.invariant_of-self-2
@@ -13,13 +15,16 @@ invariant_of-self-2 c =
       c.self.inside.slots.ok.0,
     ) in
     rw (c.in_ok-push.ensures.items, c.push_reserved.ensures.items, c.in_ok-reserve.ensures.items) (record {
-      size = is.size;
-      small = is.small;
       room = is.room;
       few = is.few;
-      found = λ key slot e. is.found key slot (sym (free_more c.self.inside.slots.items key) ∙ e);
-      back = λ key slot e. free_more c.self.inside.slots.items key ∙ is.back key slot e;
-      weighed = weighed_more is c.args.weight same;
+      keys = λ slot h. omega (arith, is.keys slot h, length_push c.self.inside.slots.items (2 ^ 64 - 1));
+      found = wider_found is;
+      weighed = λ slot. rw (same_live is) (weighed_more is c.args.weight same slot);
       fits = is.fits;
-      counted = is.counted;
+      counted = rw (same_live is) is.counted;
     })
+
+pub returns-clause-recency : goal.returns-clause-recency
+returns-clause-recency c =
+    ap (λ slots. newest (live slots 0 c.self.inside.log.items)) c.in_ok-push.ensures.items
+    ∙ ap newest (same_live c.self.invariant) ∙ ap (λ r. r.recency) c.self.view_is

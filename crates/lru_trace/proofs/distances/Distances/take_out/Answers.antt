@@ -1,93 +1,120 @@
-use Rattle.std.proofs.Common.{◌≡◌, ◌-◌, ◌<◌, false, Some, None, length, get_or, refl, sym, ap, ◌∙◌, arith, nat_eq}
+use Rattle.std.proofs.Common.{◌≡◌, ◌-◌, ◌^◌, ◌<◌, false, Some, None, length, get_or, set, refl, sym, ap, ◌∙◌, arith}
+use Rattle.std.proofs.Common.{nat_eq}
 use Rattle.std.specs.Prelude.{vec_len}
 use Rattle.std.proofs.lemmas.Cmp.{nat_eq_equiv}
 use Rattle.std.proofs.lemmas.List.{length-set, get_or_read}
 use Rattle.std.specs.Set.{remove_key}
 use Rattle.lru_theory.specs.Traces.{is_in}
 use Rattle.lru_theory.proofs.Nexts.{without_absent}
-use Rattle.lru_trace.specs.Slots.{position, newest, weight_in}
-use Rattle.lru_trace.proofs.Logs.{unreferenced, slot_in, position_is, taken_out, freed_found, freed_back}
+use Rattle.lru_trace.specs.Slots.{position, newest, live, weight_in, HasSlot}
+use Rattle.lru_trace.proofs.Logs.{unreferenced, slot_in, position_is, taken_out, freed_found}
 use Rattle.lru_trace.proofs.Logs.{freed_weighed, freed_fits, freed_counted, freed_absent, is_weighed}
-use Rattle.lru_trace.proofs.distances.Distances.take_out.Goals.{After-index, In_default, In-Some}
+use Rattle.lru_trace.proofs.distances.Distances.take_out.Goals.{After-index-slot, Then-slot, Else-slot}
+use Rattle.lru_trace.proofs.distances.Distances.take_out.Goals.{After-weight-weight, After-subtract}
 use Rattle.lru_trace.proofs.distances.Distances.take_out.Goals as goal
 
-read : (c : After-index) → c.index.result.now ≡ get_or c.self.inside.slots.items c.args.key None
-read c = get_or_read c.self.inside.slots.items c.args.key c.index.result.now
-    (omega (arith, ap (λ r. r.keys) c.self.view_is, c.self.inside.slots.ok.0, c.requires)) c.index.ensures None
+inside : (c : After-index-slot) → c.args.key < length c.self.inside.slots.items
+inside c = omega (arith, ap (λ r. r.keys) c.self.view_is, c.self.inside.slots.ok.0, c.requires)
 
-no_slot : (c : In_default) → is_in nat_eq c.args.key (newest c.self.inside.log.items) ≡ false
-no_slot c = unreferenced c.self.invariant c.args.key (sym (read (goal.at.In_default c).After-index) ∙ c.in_default.is)
+read : (c : After-index-slot) → c.index-slot.result.now ≡ get_or c.self.inside.slots.items c.args.key 0
+read c = get_or_read c.self.inside.slots.items c.args.key c.index-slot.result.now (inside c) c.index-slot.ensures 0
 
-at_slot : (c : In-Some) → get_or c.self.inside.slots.items c.args.key None ≡ Some c.in-Some.slot
-at_slot c = sym (read (goal.at.In-Some c).After-index) ∙ c.in-Some.is
+no_slot : (c : Then-slot) → is_in nat_eq c.args.key
+    (newest (live c.self.inside.slots.items 0 c.self.inside.log.items)) ≡ false
+no_slot c = unreferenced c.self.invariant c.args.key (sym (read (goal.at.Then-slot c).After-index-slot)
+    ∙ c.if-slot.true)
 
-within : (c : In-Some) → c.in-Some.slot < length c.self.inside.log.items
-within c = slot_in c.self.invariant c.args.key c.in-Some.slot (at_slot c)
+at_slot : (c : Else-slot) → HasSlot c.self.inside.slots.items c.args.key c.index-slot.result.now
+at_slot c =
+    let at = (goal.at.Else-slot c).After-index-slot in
+    record { within = inside at; is = sym (read at); some = c.if-slot.false }
 
-pub returns-in_default-clause-result : goal.returns-in_default-clause-result
-returns-in_default-clause-result c =
-    let none = no_slot (goal.at.returns-in_default-clause-result c).In_default in
-    let here : None ≡ position (weight_in c.self.inside.weights.items) c.args.key (newest c.self.inside.log.items) =
+within : (c : Else-slot) → c.index-slot.result.now < length c.self.inside.log.items
+within c = slot_in c.self.invariant c.args.key c.index-slot.result.now (at_slot c)
+
+pub returns-then-slot-clause-result : goal.returns-then-slot-clause-result
+returns-then-slot-clause-result c =
+    let none = no_slot (goal.at.returns-then-slot-clause-result c).Then-slot in
+    let here : None ≡ position (weight_in c.self.inside.weights.items) c.args.key (newest
+    (live c.self.inside.slots.items 0 c.self.inside.log.items)) =
     rw none refl in
     here ∙ ap (λ r. position (weight_in r.weights) c.args.key r.recency) c.self.view_is
 
-pub returns-in_default-clause-after : goal.returns-in_default-clause-after
-returns-in_default-clause-after c =
-    let none = no_slot (goal.at.returns-in_default-clause-after c).In_default in
+pub returns-then-slot-clause-after : goal.returns-then-slot-clause-after
+returns-then-slot-clause-after c =
+    let none = no_slot (goal.at.returns-then-slot-clause-after c).Then-slot in
     let same : c.args.self.now.recency ≡ remove_key (nat_eq c.args.key) c.args.self.now.recency =
     ap (λ r. r.recency) (sym c.self.view_is)
-    ∙ sym (without_absent nat_eq_equiv c.args.key (newest c.self.inside.log.items) none)
+    ∙ sym (without_absent nat_eq_equiv c.args.key (newest
+    (live c.self.inside.slots.items 0 c.self.inside.log.items)) none)
     ∙ ap (λ r. remove_key (nat_eq c.args.key) r.recency) c.self.view_is in
-    ap (λ xs. record { recency = xs; keys = c.args.self.now.keys; weights = c.args.self.now.weights; room = c.args.self.now.room }) same
+    ap (λ xs. record {
+      recency = xs;
+      keys = c.args.self.now.keys;
+      weights = c.args.self.now.weights;
+      room =
+          c.args.self.now.room;
+    }) same
 
-pub returns-in_default-clause-absent : goal.returns-in_default-clause-absent
-returns-in_default-clause-absent c =
+pub returns-then-slot-clause-absent : goal.returns-then-slot-clause-absent
+returns-then-slot-clause-absent c =
     ap (λ r. is_in nat_eq c.args.key r.recency) (sym c.self.view_is)
-    ∙ no_slot (goal.at.returns-in_default-clause-absent c).In_default
+    ∙ no_slot (goal.at.returns-then-slot-clause-absent c).Then-slot
 
 pub weight_behind-behind-requires : goal.weight_behind-behind-requires
 weight_behind-behind-requires c =
     omega (
       arith,
-      within (goal.at.weight_behind-behind-requires c).In-Some,
+      within (goal.at.weight_behind-behind-requires c).Else-slot,
       c.self.invariant.few,
       c.self.inside.log.ok.0,
     )
 
-pub clear-requires-clause-within : goal.clear-requires-clause-within
-clear-requires-clause-within c =
-    omega (arith, within (goal.at.clear-requires-clause-within c).In-Some, c.self.invariant.few, c.self.inside.log.ok.0)
+pub subtract-requires-clause-within : goal.subtract-requires-clause-within
+subtract-requires-clause-within c =
+    omega (
+      arith,
+      within (goal.at.subtract-requires-clause-within c).Else-slot,
+      c.self.invariant.few,
+      c.self.inside.log.ok.0,
+    )
 
-pub clear-requires-clause-weight : goal.clear-requires-clause-weight
-clear-requires-clause-weight c =
-    is_weighed c.self.invariant c.args.key c.in-Some.slot (at_slot (goal.at.clear-requires-clause-weight c).In-Some)
+weighed : (c : After-weight-weight) → get_or c.self.inside.tree c.index-slot.result.now 0 ≡ c.weight-weight.result
+weighed c =
+    is_weighed c.self.invariant c.args.key c.index-slot.result.now (at_slot (goal.at.After-weight-weight c).Else-slot)
     ∙ ap (λ r. weight_in r.weights c.args.key) c.self.view_is ∙ sym c.weight-weight.ensures
 
-pub index_mut-requires : goal.index_mut-requires
-index_mut-requires c = omega (arith, within (goal.at.index_mut-requires c).In-Some, c.self.inside.log.ok.0)
+pub subtract-requires-clause-enough : goal.subtract-requires-clause-enough
+subtract-requires-clause-enough c =
+    omega (arith, weighed (goal.at.subtract-requires-clause-enough c).After-weight-weight)
+
+emptied : (c : After-subtract) → c.subtract.new.self ≡ set c.self.inside.tree c.index-slot.result.now 0
+emptied c = c.subtract.ensures
+    ∙ ap (set c.self.inside.tree c.index-slot.result.now) (omega (
+      arith,
+      weighed (goal.at.After-subtract c).After-weight-weight,
+    ))
 
 pub overflow_sub-self : goal.overflow_sub-self
 overflow_sub-self c =
     omega (
       arith,
-      freed_counted c.self.invariant c.args.key c.in-Some.slot
-          (at_slot (goal.at.overflow_sub-self c).In-Some),
+      freed_counted c.self.invariant c.args.key c.index-slot.result.now
+          (at_slot (goal.at.overflow_sub-self c).Else-slot),
     )
 
 pub invariant_of-self : goal.invariant_of-self
 invariant_of-self c =
-    let at = at_slot (goal.at.invariant_of-self c).In-Some in
+    let at = at_slot (goal.at.invariant_of-self c).Else-slot in
     let is = c.self.invariant in
     let key = c.args.key in
-    let slot = c.in-Some.slot in
+    let slot = c.index-slot.result.now in
     let len = length-set c.self.inside.tree slot 0 in
-    rw (c.clear.ensures) (record {
-      size = len ∙ is.size;
-      small = is.small;
+    rw (emptied (goal.at.invariant_of-self c).After-subtract) (record {
       room = omega (arith, len, is.room);
       few = omega (arith, len, is.few);
+      keys = λ s h. omega (arith, is.keys s h, length-set c.self.inside.slots.items key (2 ^ 64 - 1));
       found = freed_found is key slot at;
-      back = freed_back is key slot at;
       weighed = freed_weighed is key slot at;
       fits = freed_fits is key slot at;
       counted = omega (arith, freed_counted is key slot at);
@@ -96,16 +123,19 @@ invariant_of-self c =
 pub returns-clause-result : goal.returns-clause-result
 returns-clause-result c =
     ap Some c.weight_behind-behind.ensures
-    ∙ position_is c.self.invariant c.args.key c.in-Some.slot (at_slot (goal.at.returns-clause-result c).In-Some)
+    ∙ position_is c.self.invariant c.args.key c.index-slot.result.now (at_slot
+    (goal.at.returns-clause-result c).Else-slot)
     ∙ ap (λ r. position (weight_in r.weights) c.args.key r.recency) c.self.view_is
 
 pub returns-clause-after : goal.returns-clause-after
 returns-clause-after c =
     let inside = c.self.inside in
-    let out = taken_out c.self.invariant c.args.key c.in-Some.slot (at_slot (goal.at.returns-clause-after c).In-Some)
+    let out = taken_out c.self.invariant c.args.key c.index-slot.result.now (at_slot
+    (goal.at.returns-clause-after c).Else-slot)
     ∙ ap (λ r. remove_key (nat_eq c.args.key) r.recency) c.self.view_is in
-    let len : length c.clear.new.self ≡ length inside.tree = ap length c.clear.ensures ∙ length-set inside.tree
-    c.in-Some.slot 0 in
+    let len : length c.subtract.new.self ≡ length inside.tree =
+    ap length (emptied (goal.at.returns-clause-after c).After-subtract)
+    ∙ length-set inside.tree c.index-slot.result.now 0 in
     λ i. record {
       recency = out i;
       keys = ap (λ r. r.keys) c.self.view_is i;
@@ -115,4 +145,5 @@ returns-clause-after c =
 
 pub returns-clause-absent : goal.returns-clause-absent
 returns-clause-absent c =
-    freed_absent c.self.invariant c.args.key c.in-Some.slot (at_slot (goal.at.returns-clause-absent c).In-Some)
+    freed_absent c.self.invariant c.args.key c.index-slot.result.now (at_slot
+    (goal.at.returns-clause-absent c).Else-slot)
