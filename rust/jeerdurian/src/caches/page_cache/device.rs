@@ -4,7 +4,7 @@ use crate::erased::lru_caches as proved;
 
 /// A device of numbered blocks, such as a disk or a file. Any call may fail.
 ///
-/// The promises of a [`PageCache`] are proved for devices whose calls do what their docs say.
+/// The promises of a [`PageCache`](super::PageCache) are proved for devices whose calls do what their docs say.
 ///
 /// ```
 /// use jeerdurian::caches::BlockDevice;
