@@ -3,9 +3,9 @@
 use crate::erased::lru_trace as proved;
 use crate::rattle_std::alloc::AllocError;
 
-/// The misses of the best possible policies, which know the rest of the trace. [`Curve::best`](super::Curve::best) returns it.
+/// The misses of the best possible policies, which know the rest of the trace.
 ///
-/// It takes 8 bytes for each reference.
+/// [`Curve::best`](super::Curve::best) returns it. It takes 8 bytes for each reference.
 ///
 /// ```
 /// use jeerdurian::trace::Curve;
