@@ -1,5 +1,5 @@
 #!/usr/bin/env python3
-"""Writes the tests of the examples, `crates/*_tests/src/examples.rt`, from the doc comments of the libraries.
+"""Writes the tests of the examples, `crates/*_tests/src/examples*.rt`, from the doc comments of the libraries.
 
 Run it at the top of the repository: `python3 docs/examples.py` compares what it would write with the files, and exits
 with 1 if they differ; `--write` writes them and needs `rt fmt`; `--bare` lists public items without an example.
@@ -14,6 +14,8 @@ import re
 import subprocess
 import sys
 
+from example_crates import CRATES
+
 ROOT = pathlib.Path(__file__).resolve().parent.parent
 ITEM = re.compile(r"^\s*pub (?:const )?(?:fn|struct|enum|trait|type) (\w+)")
 FIRST = "//! Written by `docs/examples.py` from the examples in the doc comments. Do not change it by hand."
@@ -22,103 +24,13 @@ GENERICS = re.compile(r"(?:::|->\s*\w*)<[^<>;(){}]*(?:<[^<>]*>[^<>;(){}]*)*>")
 FOUND = r"(\w+(?:\.\w+\([^()]*\))+) == Some"
 ERRORS = {"_fallible(": "GetOrInsertError<u8>", "put_full(": "TenantError", "counts(&1)?": "TenantError", ".iter(&1)?": "TenantError"}
 LENGTH = 12
+IMPORT = re.compile(r"((?:ghost )?use [\w:.]+?)(::|\.)(\{[^}]*\}|\w+);")
+# How a text uses an import that it does not name.
+SIGNS = {"BuildHasher": r"\.hash_one\(", "BlockDevice": r"\b(?:disk|device)\.(?:has|read|write|sync)\(",
+         "Durable": r"\.make_durable\(", "◌≡◌": "ghost ", "◌*◌": "ghost "}
 READS = {"len", "is_empty", "contains", "contains_key", "peek", "peek_key_value", "peek_oldest", "peek_newest", "peek_older",
          "peek_newer", "keys", "values", "iter", "get_index", "get_index_of", "first", "last", "entries", "budget", "cost",
          "names", "total_cost", "total_budget", "total_limit", "limit", "share"}
-
-
-class Given:
-    """A value that examples begin with: how a test makes it, its type, how it is filled, and how a test ends it.
-
-    Examples with `hash_named` stand in a function that is generic over the hasher, if `generic` names its parameter and
-    the type: then the prover finds that an insert gets the hash of its key."""
-
-    def __init__(self, make, kind=None, fill=None, end="", generic=None):
-        self.make, self.kind, self.fill, self.end, self.generic = make, kind, fill, end, generic
-
-
-class Crate:
-    def __init__(self, libraries, head, given=None, pairs=False):
-        self.libraries, self.head, self.given, self.pairs = libraries, head, given or {}, pairs
-
-
-CRATES = {
-    "group_table": Crate(["group_table"], """
-        use group_table::Table;
-        use group_table::group::{match_empty, match_free, match_tag};
-        use std::test::Fail;
-        use test_helpers::{all, check};"""),
-    "lru_limits": Crate(["lru_limits"], """
-        use lru_limits::{
-            Admission, Both, Budgeted, ByBytes, ByCost, ByLength, ByMemoryUsage, ByWeight, Costed, Insertion, KeyHasher,
-            Limiter, LookupKey, OwnedBytes, RandomState, Storing, Summing, Unlimited, UnlimitedCompact,
-        };
-        use std::hash::{BuildHasher, Hash, Hasher};
-        use std::test::Fail;
-        use test_helpers::{all, check};""",
-        {"key": Given('let key = String::from_str(alloc, "a")?;'),
-         "state": Given("let state = RandomState::with_seeds([5, 6, 7, 8]);")}),
-    "schnellru": Crate(["schnellru", "lru_model", "ordered_table"], """
-        use ordered_table::OrderedTable;
-        use schnellru::{
-            ByLength, ByMemoryUsage, GetOrInsertError, KeyHasher, LruMap, MoveReport, RandomState, ReserveError,
-            Unlimited, UnlimitedCompact, Updated,
-        };
-        use std::alloc::AllocError;
-        use std::hash::BuildHasher;
-        use std::test::Fail;
-        use test_helpers::{all, check};
-        use test_maps::{fill, is_pair, is_value};""",
-        {"map": Given("let mut map: LruMap<u64, u64> = LruMap::with_limiter(alloc, ByLength::new(3));",
-                      "LruMap<u64, u64>", "fill",
-                      generic=("S: KeyHasher<u64>", "LruMap<u64, u64, ByLength, S>"))}, pairs=True),
-    "lru_replay": Crate(["lru_replay"], """
-        use lru_replay::{Answer, Call, ReplayEnd, ReplayError, replay, run_calls, run_summing, status};
-        use schnellru::{ByCost, ByLength, LruMap};
-        use std::test::Fail;
-        use test_helpers::{all, check};"""),
-    "lru_tenants": Crate(["lru_tenants"], """
-        use crate::numbers::{Bytes, Counted, Numbers, Shared, recount, refill, reopen, restock};
-        use lru_tenants::{
-            ByCost, ByWeight, ByteTenants, Counting, Counts, TenantAnswer, TenantCache, TenantCall, TenantError,
-            TenantPool, run_tenants,
-        };
-        use schnellru::RandomState;
-        use std::test::Fail;
-        use test_helpers::{all, check};""",
-        {"cache": Given("let mut cache: Numbers = TenantCache::new(alloc, [1, 2, 3, 4]);", "Numbers", "refill"),
-         "counted": Given("let mut counted: Counted = TenantCache::with_hasher(alloc, RandomState::with_seeds([1, 2, 3, 4]));",
-                          "Counted", "recount"),
-         "pool": Given("let mut pool: Shared = TenantPool::new(alloc, [1, 2, 3, 4], 5);", "Shared", "restock"),
-         "bytes": Given("let mut bytes: Bytes = ByteTenants::new(alloc, [1, 2, 3, 4], 4000);", "Bytes", "reopen")}),
-    "lru_caches": Crate(["lru_caches"], """
-        ghost use Rattle.std.specs.Prelude.{◌≡◌, ◌*◌};
-
-        use crate::beginnings::{Cache, Counted, Map, recount, refill, rewrite};
-        use crate::disk::{Disk, DiskError};
-        use lru_caches::{
-            BlockDevice, CountedMap, Counts, Durable, FileDevice, FileError, HashedFileDevice, Loader, Memo, MemoTable, OrderedMap,
-            PageCache, PageError, Question, Unclosed,
-        };
-        use schnellru::{ByLength, LruMap, RandomState};
-        use std::alloc::AllocError;
-        use std::cell::Cell;
-        use std::io::Cursor;
-        use std::test::Fail;
-        use test_helpers::{all, check};
-        use test_maps::{is_pair, is_value};""",
-        {"map": Given("let mut map: Map = OrderedMap::new(alloc);", "Map", "refill"),
-         "counted": Given("let mut counted: Counted = CountedMap::new(LruMap::with_limiter(alloc, ByLength::new(3)));",
-                          "Counted", "recount"),
-         "calls_left": Given("let calls_left = Cell::new(100);"),
-         "disk": Given("let disk = Disk::new([10, 11, 12, 13], [false; 4], &calls_left);"),
-         "cache": Given("let mut cache = PageCache::new(alloc, disk, 2);", "Cache<'_>", "rewrite", "cache.discard();")},
-        pairs=True),
-    "lru_trace": Crate(["lru_trace"], """
-        use lru_trace::{ByteCurve, Curve, DeleteCurve};
-        use std::test::Fail;
-        use test_helpers::{all, check};"""),
-}
 
 
 def squeezed(text):
@@ -241,7 +153,7 @@ def steps_of(example, crate):
 
 
 class Written:
-    """The text of one file of tests."""
+    """The files of examples of one crate of tests."""
 
     def __init__(self, crate):
         self.crate, self.items, self.functions = crate, [], []
@@ -267,7 +179,8 @@ class Written:
         for it in examples:
             if not is_full:
                 steps.append((True, f"{given.fill}({name})"))
-            steps += steps_of(it, self.crate)
+            steps += [step for step in steps_of(it, self.crate)
+                      if step not in steps or not re.match(rf"let (?!mut )(?!.*\b{name}\b)", step[1], re.S)]
             is_full = it.reads(name)
         text = "\n".join(it.text for it in examples)
         lines, last = body(steps)
@@ -334,10 +247,20 @@ class Written:
             name = name.replace("of_", f"of_{path.parts[0]}_", 1)
         self.test(name, lines, last, "\n".join([*lines, last]))
 
-    def text(self, examples):
+    def file(self):
+        """Ends a file, and returns its text."""
+        text = "\n\n".join([*self.items, *self.functions])
+        self.items, self.functions = [], []
+        head = "\n".join(it.strip() for it in self.crate.head.strip().splitlines())
+        return "\n".join([FIRST, imported(head, text) if self.crate.splits else head, "", text, ""])
+
+    def files(self, examples):
+        """The names and the texts of the files that contain these examples."""
         taken, alone = self.split(examples)
         for name, group in taken.items():
             self.parts(name, group)
+        if self.crate.splits:
+            yield "examples_on_values.rt", self.file()
         for path in dict.fromkeys(it.place for it in alone):
             group, number, names = [], 1, set()
             for it in [it for it in alone if it.place == path] + [None]:
@@ -347,8 +270,18 @@ class Written:
                 if it:
                     group.append(it)
                     names |= it.declared()
-        head = "\n".join(it.strip() for it in self.crate.head.strip().splitlines())
-        return "\n".join([FIRST, head, "", "\n\n".join([*self.items, *self.functions]), ""])
+        yield "examples.rt", self.file()
+
+
+def imported(head, text):
+    """The imports that the text uses."""
+    lines = []
+    for path, joint, names in IMPORT.findall(head):
+        names = [it.strip() for it in names.strip("{}").split(",")]
+        used = [it for it in names if it and re.search(SIGNS.get(it, rf"\b{it}\b"), text)]
+        if used:
+            lines.append(f"{path}{joint}{used[0] if len(used) == 1 and joint == '::' else '{' + ', '.join(used) + '}'};")
+    return "\n".join(lines)
 
 
 def error_of(text):
@@ -373,17 +306,19 @@ def main():
                 for path, at, name, is_public, examples in items(crate) if is_public and not examples]
         print("\n".join([*bare, f"{len(bare)} public items without an example"]))
         return 0
-    lost = 0
-    for name, crate in CRATES.items():
-        path = ROOT / "crates" / f"{name}_tests" / "src/examples.rt"
-        text = Written(crate).text(list(examples_of(crate)))
+    count = lost = 0
+    for crate_name, crate in CRATES.items():
+        folder = ROOT / "crates" / f"{crate_name}_tests"
+        for name, text in Written(crate).files(list(examples_of(crate))):
+            path, count = folder / "src" / name, count + 1
+            if "--write" in sys.argv:
+                path.write_text(text)
+            elif not path.is_file() or squeezed(path.read_text()) != squeezed(text):
+                lost += 1
+                print(f"{path.relative_to(ROOT)}: run docs/examples.py --write")
         if "--write" in sys.argv:
-            path.write_text(text)
-            subprocess.run(["rt", "fmt"], cwd=path.parent.parent, check=True)
-        elif not path.is_file() or squeezed(path.read_text()) != squeezed(text):
-            lost += 1
-            print(f"{path.relative_to(ROOT)}: run docs/examples.py --write")
-    print(f"{len(CRATES)} files of examples, {lost} of which are not what the doc comments say")
+            subprocess.run(["rt", "fmt"], cwd=folder, check=True)
+    print(f"{count} files of examples, {lost} of which are not what the doc comments say")
     return 1 if lost else 0
 
 

@@ -13,7 +13,7 @@ IsBucketCount buckets = (buckets ≡ 0) ⊎ IsPowerFromFour buckets
 unfoldable pub full_capacity : ℕ → ℕ
 full_capacity buckets = if nat_le buckets 8 then buckets - 1 else buckets / 8 * 7
 
--- `power`, doubled until it is at least n, but at most `tries` times
+-- `power`, doubled until it is n or more, or until it was doubled `tries` times
 abbrev pub first_power_from : ℕ → ℕ → ℕ → ℕ
 first_power_from zero n power = power
 first_power_from (suc tries) n power = if nat_le n power then power else first_power_from tries n (2 * power)

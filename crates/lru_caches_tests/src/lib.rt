@@ -12,4 +12,6 @@ mod disk;
 #[cfg(test)]
 mod examples;
 #[cfg(test)]
+mod examples_on_values;
+#[cfg(test)]
 mod trials;

@@ -4,8 +4,6 @@
 #[cfg(test)]
 mod body;
 #[cfg(test)]
-mod both;
-#[cfg(test)]
 mod by_text_length;
 #[cfg(test)]
 mod examples;

@@ -44,7 +44,7 @@ module _ {K V S : Type 0} (rules : Rules K V S) where
       MayTakeNew i v c f = lookup_entry (names i) c.pairs ≡ None → (s : S) (pair : K × V)
           → MayGive rules offers names i v c s (Some pair) → MayTakeEach (pair ∷ c.pairs) f
 
-      -- the callback f may be called with each pair that an insert may pass to f
+      -- the callback f accepts each pair that an insert may pass to it
       pub record MayTakeInserted (i : I) (v : V) (c : Contents K V S) (f : F) : Type 0 where
         pub replaced : MayTakeReplaced i v c f
         pub new : MayTakeNew i v c f

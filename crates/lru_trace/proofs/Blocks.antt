@@ -1,6 +1,5 @@
 use Rattle.std.proofs.Common.{◌≡◌, ℕ, ◌+◌, ◌-◌, ◌*◌, ◌/◌, ◌≤◌, ◌<◌, List, length, get_or, set, take, drop, sum}
-use Rattle.std.proofs.Common.{replicate}
-use Rattle.std.proofs.Common.{sym, ap, ◌∙◌, arith, min, inl, inr}
+use Rattle.std.proofs.Common.{replicate, sym, ap, ◌∙◌, arith, min, inl, inr}
 use Rattle.std.proofs.lemmas.Bool.{cases_lt}
 use Rattle.std.proofs.lemmas.List.{length-set, length-drop, get_or-drop, drop-drop, drop-set-lt, drop-set-add, drop_min}
 use Rattle.std.proofs.lemmas.List.{length-replicate, drop-replicate}
@@ -23,11 +22,11 @@ fewer_from xs from later low =
     let rest = drop-drop (later - from) from xs ∙ ap (λ n. drop n xs) is in
     omega (arith, ap sum rest, sum_by-take-drop (λ x. x) (drop from xs) (later - from))
 
-pub none : (n : ℕ) → sum (replicate n 0) ≡ 0
-none n = omega (arith, sum_by-replicate (λ x. x) n 0)
+pub sum-zeros : (n : ℕ) → sum (replicate n 0) ≡ 0
+sum-zeros n = omega (arith, sum_by-replicate (λ x. x) n 0)
 
-pub blank : (slots : ℕ) → 16 < slots → AreSums (replicate slots 0) (replicate ((slots - 1) / 16 + 1) 0)
-blank slots many =
+pub zeros_are_sums : (slots : ℕ) → 16 < slots → AreSums (replicate slots 0) (replicate ((slots - 1) / 16 + 1) 0)
+zeros_are_sums slots many =
     let blocks = (slots - 1) / 16 + 1 in
     record {
       fewer = omega (arith, length-replicate {A = ℕ} slots 0, length-replicate {A = ℕ} blocks 0);
@@ -36,7 +35,7 @@ blank slots many =
     }
   where
     rest : (from n : ℕ) → sum (drop from (replicate n 0)) ≡ 0
-    rest from n = ap sum (drop-replicate from n 0) ∙ none (n - from)
+    rest from n = ap sum (drop-replicate from n 0) ∙ sum-zeros (n - from)
 
 module _ {weights sums : List ℕ} (are : AreSums weights sums) (slot : ℕ) (within : slot < length weights) where
   pub block_within : slot / 16 < length sums

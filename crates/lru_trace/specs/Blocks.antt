@@ -1,7 +1,7 @@
 -- A list of weights, and the sums of its blocks of 16 weights.
 use Rattle.std.specs.Prelude.{◌≡◌, ℕ, ◌*◌, ◌≤◌, ◌<◌, List, length, drop, sum}
 
--- The sums from a block on are the sum of the weights from this block on.
+-- For each block, the sums from this block on add up to as much as the weights from this block on.
 pub record AreSums (weights sums : List ℕ) : Type 0 where
   pub fewer : length sums < length weights
   pub enough : length weights ≤ 16 * length sums

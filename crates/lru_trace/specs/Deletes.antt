@@ -16,6 +16,7 @@ call_of reference = if reference.1 == 0 then removes reference.0 else refers ref
 abbrev pub calls_of : List (List ℕ × ℕ) → List (KeyCall (List ℕ))
 calls_of references = map call_of references
 
+-- the number of references among the calls
 abbrev pub referred : List (KeyCall (List ℕ)) → ℕ
 referred [] = 0
 referred (refers key ∷ calls) = referred calls + 1
@@ -50,6 +51,7 @@ AreNumbers number (place ∷ places) [] = ⊥
 AreNumbers number (place ∷ places) (id ∷ ids) =
     (option_map number place ≡ option_map Some id) × AreNumbers number places ids
 
+-- the curve counts the references of `trace`, after the warm-up `warm`
 pub record IsDeleteOf (warm trace : List (KeyCall (List ℕ))) (curve : Deleting) : Type 0 where
   pub placed : AreNumbers (number_in curve.names) (places_of warm trace) curve.places
   pub caches : (n : ℕ) → keys_in (take n (places_of warm trace)) ≡ cache_of n warm trace

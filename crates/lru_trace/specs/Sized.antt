@@ -66,6 +66,7 @@ pub record Made (key : List ℕ) (bytes : ℕ) (need : Option ℕ) (old new : Si
   pub recency : new.recency ≡ number ∷ remove_key (nat_eq number) old.recency
   pub needs : need ≡ need_of (weight_in new.sizes) number old.recency
 
+-- the curve counts the references of `trace`, after the warm-up `warm`
 pub record IsSizedOf (warm trace : List (List ℕ × ℕ)) (curve : Sized) : Type 0 where
   pub before : List ℕ
   pub numbers : List ℕ

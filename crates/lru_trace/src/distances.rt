@@ -9,6 +9,7 @@ use crate::tree::Tree;
 use std::alloc::{AllocError, Global};
 use std::marker::Model;
 
+/// A new log has two slots for each referenced key, and this many more.
 const SPARE: usize = 8;
 
 /// The slot of a key that was not referenced.

@@ -9,7 +9,8 @@ const BLOCK: usize = 16;
 
 /// Slots with weights. Contracts represent a tree by the weight of each slot.
 ///
-/// If the slots are more than one block, `sums` is a tree whose slots are the blocks.
+/// If there are more than `BLOCK` slots, `sums` is a tree with a slot for each block of slots. The weight of this slot is
+/// the sum of the block.
 #[derive(Drop)]
 pub struct Tree {
     weights: Vec<u64>,

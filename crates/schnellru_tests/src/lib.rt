@@ -14,6 +14,8 @@ mod exact;
 #[cfg(test)]
 mod examples;
 #[cfg(test)]
+mod examples_on_values;
+#[cfg(test)]
 mod found;
 #[cfg(test)]
 mod memory;

@@ -8,8 +8,8 @@ use Rattle.group_table.specs.Sizes.{full_capacity, least_power, below, buckets_f
 use Rattle.group_table.proofs.PowerLemmas.{first_power_upper, power_gap}
 use Rattle.group_table.proofs.SizeLemmas.{full_capacity-large, power_pos}
 use Rattle.lru_model.specs.Sizes.{same_table, new_table, table_with, target_from, target}
-use Rattle.lru_model.proofs.TableSizes.Growth.{full_capacity-at_most, full_capacity-eighths, sizes_of, least_power_shape, buckets_double}
-use Rattle.lru_model.proofs.TableSizes.Growth.{table_with_is, full_capacity-4}
+use Rattle.lru_model.proofs.TableSizes.Growth.{full_capacity-4, full_capacity-at_most, full_capacity-eighths}
+use Rattle.lru_model.proofs.TableSizes.Growth.{sizes_of, least_power_shape, buckets_double, table_with_is}
 
 full_capacity-8 : full_capacity 8 ≡ 7
 unfolding full_capacity

@@ -1,4 +1,4 @@
--- The fields of an `LruMap`, except `entries` and `alloc`. `max` is the number of `LinkType::MAX`.
+-- The fields of an `LruMap`, except `entries` and `alloc`. `max` is the value of `LinkType::MAX`.
 use Rattle.std.specs.Prelude.{ℕ}
 use Rattle.schnellru.specs.declared.map.LruMap.TheInside.{Inside}
 

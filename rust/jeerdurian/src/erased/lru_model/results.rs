@@ -88,7 +88,7 @@ pub struct MoveReport {
     /// Entries that inserts moved, because the table grew or was rehashed. Entries that `try_reserve` or `try_insert`
     /// moved are not counted.
     pub moved: u64,
-    /// New entries that inserts stored, including the inserts of `try_insert`.
+    /// New entries that inserts stored. Inserts by `try_insert` are counted, too.
     pub placed: u64,
     /// Entries that `shrink_to_fit` rehashed.
     pub shrunk: u64,

@@ -7,6 +7,7 @@ use crate::rattle_std::prelude::*;
 use crate::erased::lru_trace::tree::Tree;
 use crate::rattle_std::alloc::{AllocError, Global};
 
+/// A new log has two slots for each referenced key, and this many more.
 const SPARE: usize = 8;
 
 /// The slot of a key that was not referenced.

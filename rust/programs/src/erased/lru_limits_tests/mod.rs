@@ -7,8 +7,6 @@ use crate::rattle_std::prelude::*;
 #[cfg(test)]
 mod body;
 #[cfg(test)]
-mod both;
-#[cfg(test)]
 mod by_text_length;
 #[cfg(test)]
 mod examples;

@@ -1,5 +1,5 @@
 use Rattle.std.proofs.Common.{ℕ, arith, replicate, ◌≡◌}
-use Rattle.lru_trace.proofs.Blocks.{blank, none}
+use Rattle.lru_trace.proofs.Blocks.{sum-zeros, zeros_are_sums}
 use Rattle.lru_trace.proofs.tree.Tree.+new.Goals as goal
 
 pub invariant_of-result-2 : goal.invariant_of-result-2
@@ -7,6 +7,6 @@ invariant_of-result-2 t c =
     let weights : c.in_ok-weights.weights.items ≡ replicate {A = ℕ} c.args.slots 0 =
     c.in_ok-weights.ensures.items_if_clones_equal (λ y e. e) in
     rw (weights, c.in_ok-new.ensures.ok, c.in_ok-sums.ensures) (
-      omega (arith, none c.args.slots),
-      blank c.args.slots (omega arith),
+      omega (arith, sum-zeros c.args.slots),
+      zeros_are_sums c.args.slots (omega arith),
     )

@@ -1,5 +1,5 @@
 use Rattle.std.proofs.Common.{◌≡◌, rules, ℕ, nat_eq, IsTrue, sym, ap, ◌∙◌}
-use Rattle.schnellru_tests.proofs.examples.map_18.Goals as goal
+use Rattle.schnellru_tests.proofs.examples_on_values.map_18.Goals as goal
 
 pub try_insert_hashed-requires-2 : goal.try_insert_hashed-requires-2
 try_insert_hashed-requires-2 g c =
