@@ -11,8 +11,8 @@ ghost use Rattle.lru_trace.specs.Rows.{keys};
 ghost use Rattle.lru_trace.specs.Slots.{weight_in};
 
 use crate::distances::Distances;
+use crate::names::Names;
 use std::alloc::{AllocError, Global};
-use std::collections::HashMap;
 use std::marker::Model;
 use thiserror::Error;
 
@@ -54,13 +54,12 @@ impl From<AllocError> for SizeError {
 /// ```
 #[derive(Drop)]
 pub struct ByteCurve {
-    numbers: HashMap<String, usize>,
+    names: Names,
     distances: Distances,
     limits: Vec<u64>,
     counts: Vec<u64>,
     references: u64,
     total: u64,
-    alloc: Global,
 }
 
 impl Model for ByteCurve {
@@ -69,7 +68,7 @@ impl Model for ByteCurve {
     ghost Value = { Sized };
 
     ghost view = { λ c. record {
-      names = c.numbers.entries;
+      names = c.names;
       recency = c.distances.recency;
       sizes = c.distances.weights;
       limits = c.limits.items;
@@ -78,7 +77,7 @@ impl Model for ByteCurve {
     } };
 
     ghost invariant = { λ c.
-        IsSized c.numbers.entries c.distances c.limits.items c.counts.items c.references c.total };
+        IsSized c.names c.distances c.limits.items c.counts.items c.references c.total };
 }
 
 fn count_of(limits: &[u64], need: Option<u64>) -> usize
@@ -110,13 +109,12 @@ impl ByteCurve {
         limits.sort_unstable();
         let counts = vec![in alloc; 0; limits.len() + 1]?;
         Ok(ByteCurve {
-            numbers: HashMap::new(alloc),
+            names: Names::new(alloc)?,
             distances: Distances::new(alloc)?,
             limits,
             counts,
             references: 0,
             total: 0,
-            alloc,
         })
     }
 
@@ -152,11 +150,11 @@ impl ByteCurve {
             return Err(SizeError::TooLarge);
         };
         self.distances.reserve()?;
-        let name = String::from_str(self.alloc, key)?;
         let number = self.distances.add_weighed_key(bytes)?;
-        let Ok(_) = self.numbers.insert(name, number) else {
+        if self.names.add(key).is_err() {
+            self.distances.remove_key();
             return Err(SizeError::Memory);
-        };
+        }
         self.distances.refer(number)?;
         self.total = total;
         Ok(())
@@ -174,8 +172,7 @@ impl ByteCurve {
           sizes = self.new.sizes;
         } }
     {
-        if let Some(number) = self.numbers.get(key) {
-            let number = *number;
+        if let Some(number) = self.names.find(key) {
             return Ok(self.find(number)?);
         }
         self.add(key, bytes)?;
@@ -213,7 +210,6 @@ impl ByteCurve {
         ensures references { self.new.references ≡ self.old.references }
         ensures limits { self.new.limits ≡ self.old.limits }
     {
-        let _names = &self.numbers;
         self.make(key, bytes)?;
         Ok(())
     }
@@ -236,7 +232,6 @@ impl ByteCurve {
         ensures references { self.new.references ≤ self.old.references + 1 }
         ensures limits { self.new.limits ≡ self.old.limits }
     {
-        let _names = &self.numbers;
         let need = self.make(key, bytes)?;
         self.count(need);
         Ok(())
@@ -262,7 +257,6 @@ impl ByteCurve {
     pub fn bytes(&self) -> u64
         ensures { (warm trace : List (List ℕ × ℕ)) → IsSizedOf warm trace self.now → result ≡ bytes_of (warm ++ trace) }
     {
-        let _names = &self.numbers;
         self.total
     }
 

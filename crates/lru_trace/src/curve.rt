@@ -11,8 +11,8 @@ ghost use Rattle.lru_trace.specs.Times.{KnowsRest};
 
 use crate::best::Best;
 use crate::distances::Distances;
+use crate::names::Names;
 use std::alloc::{AllocError, Global};
-use std::collections::HashMap;
 use std::marker::Model;
 
 /// The misses of a trace in LRU caches of every size, counted in one pass.
@@ -31,7 +31,7 @@ use std::marker::Model;
 /// ```
 #[derive(Drop)]
 pub struct Curve {
-    numbers: HashMap<String, usize>,
+    names: Names,
     distances: Distances,
     counts: Vec<u64>,
     firsts: usize,
@@ -47,14 +47,14 @@ impl Model for Curve {
     ghost Value = { Counted };
 
     ghost view = { λ c. record {
-      names = c.numbers.entries;
+      names = c.names;
       recency = c.distances.recency;
       counts = c.counts.items;
       references = c.references;
       kept = option_map (λ v. v.items) c.kept;
     } };
 
-    ghost invariant = { λ c. IsCounted c.numbers.entries c.distances c.counts.items c.firsts c.references };
+    ghost invariant = { λ c. IsCounted c.names c.distances c.counts.items c.firsts c.references };
 }
 
 impl Curve {
@@ -93,7 +93,7 @@ impl Curve {
         ensures kept { IfOk result (λ curve. curve.kept ≡ option_map (λ v. v.items) kept) }
     {
         Ok(Curve {
-            numbers: HashMap::new(alloc),
+            names: Names::new(alloc)?,
             distances: Distances::new(alloc)?,
             counts: Vec::new(alloc),
             firsts: 0,
@@ -109,15 +109,17 @@ impl Curve {
             number_in self.new.names other ≡ Some number }
         ensures rest { self.new ≡ record self.old { names = self.new.names } }
     {
-        if let Some(number) = self.numbers.get(key) {
-            return Ok(*number);
+        if let Some(number) = self.names.find(key) {
+            return Ok(number);
         }
-        let name = String::from_str(self.alloc, key)?;
         let number = self.distances.add_key()?;
-        let Ok(_) = self.numbers.insert(name, number) else {
-            return Err(AllocError);
-        };
-        Ok(number)
+        match self.names.add(key) {
+            Ok(()) => Ok(number),
+            Err(error) => {
+                self.distances.remove_key();
+                Err(error)
+            }
+        }
     }
 
     fn make_count(&mut self) -> Result<(), AllocError>

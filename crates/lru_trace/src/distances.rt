@@ -5,30 +5,31 @@ ghost use Rattle.std.specs.Set.{remove_key};
 ghost use Rattle.lru_theory.specs.Traces.{is_in};
 ghost use Rattle.lru_trace.specs.Slots.{Recent, position, weight_in};
 
-use crate::tree::Tree;
+use crate::tree::{BLOCK, Tree};
 use std::alloc::{AllocError, Global};
 use std::marker::Model;
-
-/// A new log has two slots for each referenced key, and this many more.
-const SPARE: usize = 8;
+use std::mem;
 
 /// The slot of a key that was not referenced.
 const NO_SLOT: usize = usize::MAX;
+
+/// The content of a free slot.
+const NO_KEY: u32 = u32::MAX;
 
 /// The keys of a trace, by the time of their last reference.
 ///
 /// A key is a number that `add_key` or `add_weighed_key` returned. Its weight is 1, or the weight that
 /// `add_weighed_key` got.
 ///
-/// Each reference takes the next slot of a log. The slot that its key had before becomes free: the log still contains
-/// the key there, but `slots` contains the new slot. If the log is full, the keys move to the front of a new log, which
-/// is about half full. The memory is in proportion to the number of keys.
+/// Each reference writes its key to the next slot of a log, and frees the slot that its key had before. `blocks`
+/// contains the weight of each block of slots. If the log is full, the keys move to the front of a new log, which is
+/// about two thirds full. A key takes between 15 and 20 bytes, and 8 more if it has a weight.
 #[derive(Drop)]
 pub struct Distances {
-    log: Vec<usize>,
+    log: Vec<u32>,
     slots: Vec<usize>,
     weights: Vec<u64>,
-    tree: Tree,
+    blocks: Tree,
     used: usize,
     alloc: Global,
 }
@@ -55,30 +56,11 @@ impl Distances {
         ensures keys { IfOk result (λ trace. trace.keys ≡ 0) }
         ensures weights { IfOk result (λ trace. trace.weights ≡ []) }
     {
-        Distances::with_room(alloc, 0, Vec::new(alloc), SPARE)
-    }
-
-    fn with_room(
-        alloc: Global,
-        keys: usize,
-        weights: Vec<u64>,
-        room: usize,
-    ) -> Result<Self, AllocError>
-        ensures { IfOk result (λ trace. trace ≡ record {
-          recency = [];
-          keys = keys;
-          weights = weights.items;
-          room = room;
-        }) }
-    {
-        let tree = Tree::new(alloc, room)?;
-        let log = Vec::with_capacity(alloc, room)?;
-        let slots = vec![in alloc; NO_SLOT; keys]?;
         Ok(Distances {
-            log,
-            slots,
-            weights,
-            tree,
+            log: Vec::with_capacity(alloc, BLOCK)?,
+            slots: Vec::new(alloc),
+            weights: Vec::new(alloc),
+            blocks: Tree::new(alloc, 1)?,
             used: 0,
             alloc,
         })
@@ -93,6 +75,9 @@ impl Distances {
         ensures err { OnErr result (self.new.keys ≡ self.old.keys) }
     {
         let key = self.slots.len();
+        if key >= NO_KEY as usize {
+            return Err(AllocError);
+        }
         self.slots.push(NO_SLOT)?;
         Ok(key)
     }
@@ -106,11 +91,23 @@ impl Distances {
         ensures room { self.new.room ≡ self.old.room }
         ensures err { OnErr result (self.new ≡ self.old) }
     {
-        let key = self.slots.len();
         self.weights.reserve(1)?;
-        self.slots.push(NO_SLOT)?;
+        let key = self.add_key()?;
         self.weights.push_reserved(weight);
         Ok(key)
+    }
+
+    /// Removes the key that was added last, if it was not referenced.
+    pub fn remove_key(&mut self)
+        requires some { 0 < self.old.keys }
+        requires absent { is_in nat_eq (self.old.keys - 1) self.old.recency ≡ false }
+        ensures recency { self.new.recency ≡ self.old.recency }
+        ensures keys { self.new.keys ≡ self.old.keys - 1 }
+        ensures weights { self.new.weights ≡ take (self.old.keys - 1) self.old.weights }
+        ensures room { self.new.room ≡ self.old.room }
+    {
+        self.slots.pop();
+        self.weights.truncate(self.slots.len());
     }
 
     pub fn referenced(&self) -> usize
@@ -137,7 +134,19 @@ impl Distances {
         if slot == NO_SLOT {
             return None;
         }
-        Some(self.tree.weight_behind(slot))
+        Some(self.weight_behind(slot))
+    }
+
+    fn weight_behind(&self, slot: usize) -> u64 {
+        let block = slot / BLOCK;
+        let end = (BLOCK * (block + 1)).min(self.log.len());
+        let mut sum = self.blocks.weight_behind(block);
+        for key in &self.log[slot + 1..end] {
+            if *key != NO_KEY {
+                sum += self.weight(*key as usize);
+            }
+        }
+        sum
     }
 
     fn take_out(&mut self, key: usize) -> Option<u64>
@@ -151,8 +160,9 @@ impl Distances {
             return None;
         }
         let weight = self.weight(key);
-        let behind = self.tree.weight_behind(slot);
-        self.tree.subtract(slot, weight);
+        let behind = self.weight_behind(slot);
+        self.blocks.subtract(slot / BLOCK, weight);
+        self.log[slot] = NO_KEY;
         self.slots[key] = NO_SLOT;
         self.used -= 1;
         Some(behind)
@@ -170,9 +180,9 @@ impl Distances {
     {
         let slot = self.log.len();
         let weight = self.weight(key);
-        self.log.push_reserved(key);
+        self.log.push_reserved(key as u32);
         self.slots[key] = slot;
-        self.tree.add(slot, weight);
+        self.blocks.add(slot / BLOCK, weight);
         self.used += 1;
     }
 
@@ -183,16 +193,18 @@ impl Distances {
         ensures weights { self.new.weights ≡ self.old.weights }
         ensures room { OnOk result (0 < self.new.room) }
     {
-        let weights = Vec::from_slice(self.alloc, &self.weights)?;
-        let room = 2 * self.used + SPARE;
-        let mut packed = Distances::with_room(self.alloc, self.slots.len(), weights, room)?;
-        let slots = &self.slots;
-        for (slot, key) in self.log.iter().enumerate() {
-            if slots[*key] == slot {
-                packed.append(*key);
+        let blocks = (self.used + self.used / 2) / BLOCK + 1;
+        let sums = Tree::new(self.alloc, blocks)?;
+        let free = Vec::with_capacity(self.alloc, BLOCK * blocks)?;
+        let log = mem::replace(&mut self.log, free);
+        self.blocks = sums;
+        self.slots.fill(NO_SLOT);
+        self.used = 0;
+        for key in &log {
+            if *key != NO_KEY {
+                self.append(*key as usize);
             }
         }
-        *self = packed;
         Ok(())
     }
 
@@ -208,7 +220,7 @@ impl Distances {
         ensures room { OnOk result (0 < self.new.room) }
         ensures enough { 0 < self.old.room → is_ok result ≡ true }
     {
-        if self.log.len() == self.tree.len() {
+        if self.log.len() == BLOCK * self.blocks.len() {
             self.make_room()?;
         }
         Ok(())

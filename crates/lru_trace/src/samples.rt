@@ -5,7 +5,7 @@ const BASIS: u64 = 14_695_981_039_346_656_037;
 
 const PRIME: u64 = 1_099_511_628_211;
 
-fn hash(key: &[u8]) -> u64
+pub fn hash(key: &[u8]) -> u64
     ensures { result ≡ hash key.now }
 {
     let mut hash = BASIS;

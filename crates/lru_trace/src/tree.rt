@@ -5,7 +5,7 @@ use std::alloc::{AllocError, Global};
 use std::boxed::Box;
 use std::marker::Model;
 
-const BLOCK: usize = 16;
+pub const BLOCK: usize = 16;
 
 /// Slots with weights. Contracts represent a tree by the weight of each slot.
 ///

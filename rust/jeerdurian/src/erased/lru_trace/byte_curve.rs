@@ -5,8 +5,8 @@
 use crate::rattle_std::prelude::*;
 
 use crate::erased::lru_trace::distances::Distances;
+use crate::erased::lru_trace::names::Names;
 use crate::rattle_std::alloc::{AllocError, Global};
-use crate::rattle_std::collections::HashMap;
 
 /// Why a reference was not made.
 #[derive(Clone, Copy, Debug, PartialEq, Eq)]
@@ -39,13 +39,12 @@ impl From<AllocError> for SizeError {
 /// of limits.
 
 pub struct ByteCurve {
-    numbers: HashMap<String, usize>,
+    names: Names,
     distances: Distances,
     limits: Vec<u64>,
     counts: Vec<u64>,
     references: u64,
     total: u64,
-    alloc: Global,
 }
 
 fn count_of(limits: &[u64], need: Option<u64>) -> usize {
@@ -70,13 +69,12 @@ impl ByteCurve {
         limits.sort_unstable();
         let counts = vec![in alloc; 0; limits.len() + 1]?;
         Ok(ByteCurve {
-            numbers: HashMap::new(alloc),
+            names: Names::new(alloc)?,
             distances: Distances::new(alloc)?,
             limits,
             counts,
             references: 0,
             total: 0,
-            alloc,
         })
     }
 
@@ -93,19 +91,18 @@ impl ByteCurve {
             return Err(SizeError::TooLarge);
         };
         self.distances.reserve()?;
-        let name = String::from_str(self.alloc, key)?;
         let number = self.distances.add_weighed_key(bytes)?;
-        let Ok(_) = self.numbers.insert(name, number) else {
+        if self.names.add(key).is_err() {
+            self.distances.remove_key();
             return Err(SizeError::Memory);
-        };
+        }
         self.distances.refer(number)?;
         self.total = total;
         Ok(())
     }
 
     fn make(&mut self, key: &str, bytes: u64) -> Result<Option<u64>, SizeError> {
-        if let Some(number) = self.numbers.get(key) {
-            let number = *number;
+        if let Some(number) = self.names.find(key) {
             return Ok(self.find(number)?);
         }
         self.add(key, bytes)?;
@@ -126,7 +123,6 @@ impl ByteCurve {
     ///
     /// As `refer`. The key was not referenced.
     pub fn warm_up(&mut self, key: &str, bytes: u64) -> Result<(), SizeError> {
-        let _names = &self.numbers;
         self.make(key, bytes)?;
         Ok(())
     }
@@ -139,7 +135,6 @@ impl ByteCurve {
     ///
     /// After an error, the reference is not counted.
     pub fn refer(&mut self, key: &str, bytes: u64) -> Result<(), SizeError> {
-        let _names = &self.numbers;
         let need = self.make(key, bytes)?;
         self.count(need);
         Ok(())
@@ -157,7 +152,6 @@ impl ByteCurve {
 
     /// Returns the sum of the sizes of all referenced keys, including the keys of the warm-up.
     pub fn bytes(&self) -> u64 {
-        let _names = &self.numbers;
         self.total
     }
 

@@ -6,8 +6,8 @@ use crate::rattle_std::prelude::*;
 
 use crate::erased::lru_trace::best::Best;
 use crate::erased::lru_trace::distances::Distances;
+use crate::erased::lru_trace::names::Names;
 use crate::rattle_std::alloc::{AllocError, Global};
-use crate::rattle_std::collections::HashMap;
 
 /// The misses of a trace in LRU caches of every size, counted in one pass.
 ///
@@ -15,7 +15,7 @@ use crate::rattle_std::collections::HashMap;
 /// least n. If the curve does not keep the references, its memory is in proportion to the number of keys.
 
 pub struct Curve {
-    numbers: HashMap<String, usize>,
+    names: Names,
     distances: Distances,
     counts: Vec<u64>,
     firsts: usize,
@@ -37,7 +37,7 @@ impl Curve {
 
     fn make(alloc: Global, kept: Option<Vec<usize>>) -> Result<Self, AllocError> {
         Ok(Curve {
-            numbers: HashMap::new(alloc),
+            names: Names::new(alloc)?,
             distances: Distances::new(alloc)?,
             counts: Vec::new(alloc),
             firsts: 0,
@@ -48,15 +48,17 @@ impl Curve {
     }
 
     fn number_of(&mut self, key: &str) -> Result<usize, AllocError> {
-        if let Some(number) = self.numbers.get(key) {
-            return Ok(*number);
+        if let Some(number) = self.names.find(key) {
+            return Ok(number);
         }
-        let name = String::from_str(self.alloc, key)?;
         let number = self.distances.add_key()?;
-        let Ok(_) = self.numbers.insert(name, number) else {
-            return Err(AllocError);
-        };
-        Ok(number)
+        match self.names.add(key) {
+            Ok(()) => Ok(number),
+            Err(error) => {
+                self.distances.remove_key();
+                Err(error)
+            }
+        }
     }
 
     fn make_count(&mut self) -> Result<(), AllocError> {

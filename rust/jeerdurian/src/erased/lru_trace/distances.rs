@@ -4,57 +4,66 @@
 #[allow(unused_imports)]
 use crate::rattle_std::prelude::*;
 
-use crate::erased::lru_trace::tree::Tree;
+use crate::erased::lru_trace::tree::{BLOCK, Tree};
 use crate::rattle_std::alloc::{AllocError, Global};
-
-/// A new log has two slots for each referenced key, and this many more.
-const SPARE: usize = 8;
+use crate::rattle_std::mem;
 
 /// The slot of a key that was not referenced.
 const NO_SLOT: usize = usize::MAX;
+
+/// The content of a free slot.
+const NO_KEY: u32 = u32::MAX;
 
 /// The keys of a trace, by the time of their last reference.
 ///
 /// A key is a number that `add_key` or `add_weighed_key` returned. Its weight is 1, or the weight that
 /// `add_weighed_key` got.
 ///
-/// Each reference takes the next slot of a log. The slot that its key had before becomes free: the log still contains
-/// the key there, but `slots` contains the new slot. If the log is full, the keys move to the front of a new log, which
-/// is about half full. The memory is in proportion to the number of keys.
+/// Each reference writes its key to the next slot of a log, and frees the slot that its key had before. `blocks`
+/// contains the weight of each block of slots. If the log is full, the keys move to the front of a new log, which is
+/// about two thirds full. A key takes between 15 and 20 bytes, and 8 more if it has a weight.
 
 pub struct Distances {
-    log: Vec<usize>,
+    log: Vec<u32>,
     slots: Vec<usize>,
     weights: Vec<u64>,
-    tree: Tree,
+    blocks: Tree,
     used: usize,
     alloc: Global,
 }
 
 impl Distances {
     pub fn new(alloc: Global) -> Result<Self, AllocError> {
-        Distances::with_room(alloc, 0, Vec::new(alloc), SPARE)
-    }
-
-    fn with_room(alloc: Global, keys: usize, weights: Vec<u64>, room: usize) -> Result<Self, AllocError> {
-        let tree = Tree::new(alloc, room)?;
-        let log = Vec::with_capacity(alloc, room)?;
-        let slots = vec![in alloc; NO_SLOT; keys]?;
-        Ok(Distances { log, slots, weights, tree, used: 0, alloc })
+        Ok(Distances {
+            log: Vec::with_capacity(alloc, BLOCK)?,
+            slots: Vec::new(alloc),
+            weights: Vec::new(alloc),
+            blocks: Tree::new(alloc, 1)?,
+            used: 0,
+            alloc,
+        })
     }
 
     pub fn add_key(&mut self) -> Result<usize, AllocError> {
         let key = self.slots.len();
+        if key >= NO_KEY as usize {
+            return Err(AllocError);
+        }
         self.slots.push(NO_SLOT)?;
         Ok(key)
     }
 
     pub fn add_weighed_key(&mut self, weight: u64) -> Result<usize, AllocError> {
-        let key = self.slots.len();
         self.weights.reserve(1)?;
-        self.slots.push(NO_SLOT)?;
+        let key = self.add_key()?;
         self.weights.push_reserved(weight);
         Ok(key)
+    }
+
+    /// Removes the key that was added last. It must not be in the log.
+    pub fn remove_key(&mut self) {
+        self.slots.pop();
+        self.weights.truncate(self.slots.len());
     }
 
     pub fn referenced(&self) -> usize {
@@ -74,7 +83,19 @@ impl Distances {
         if slot == NO_SLOT {
             return None;
         }
-        Some(self.tree.weight_behind(slot))
+        Some(self.weight_behind(slot))
+    }
+
+    fn weight_behind(&self, slot: usize) -> u64 {
+        let block = slot / BLOCK;
+        let end = (BLOCK * (block + 1)).min(self.log.len());
+        let mut sum = self.blocks.weight_behind(block);
+        for key in &(*at!(self.log, slot + 1..end)) {
+            if *key != NO_KEY {
+                sum += self.weight(*key as usize);
+            }
+        }
+        sum
     }
 
     fn take_out(&mut self, key: usize) -> Option<u64> {
@@ -83,8 +104,9 @@ impl Distances {
             return None;
         }
         let weight = self.weight(key);
-        let behind = self.tree.weight_behind(slot);
-        self.tree.subtract(slot, weight);
+        let behind = self.weight_behind(slot);
+        self.blocks.subtract(slot / BLOCK, weight);
+        (*at_mut!(self.log, slot)) = NO_KEY;
         (*at_mut!(self.slots, key)) = NO_SLOT;
         self.used -= 1;
         Some(behind)
@@ -93,23 +115,25 @@ impl Distances {
     fn append(&mut self, key: usize) {
         let slot = self.log.len();
         let weight = self.weight(key);
-        self.log.push_reserved(key);
+        self.log.push_reserved(key as u32);
         (*at_mut!(self.slots, key)) = slot;
-        self.tree.add(slot, weight);
+        self.blocks.add(slot / BLOCK, weight);
         self.used += 1;
     }
 
     fn make_room(&mut self) -> Result<(), AllocError> {
-        let weights = Vec::from_slice(self.alloc, &self.weights)?;
-        let room = 2 * self.used + SPARE;
-        let mut packed = Distances::with_room(self.alloc, self.slots.len(), weights, room)?;
-        let slots = &self.slots;
-        for (slot, key) in self.log.iter().enumerate() {
-            if (*at!(slots, *key)) == slot {
-                packed.append(*key);
+        let blocks = (self.used + self.used / 2) / BLOCK + 1;
+        let sums = Tree::new(self.alloc, blocks)?;
+        let free = Vec::with_capacity(self.alloc, BLOCK * blocks)?;
+        let log = mem::replace(&mut self.log, free);
+        self.blocks = sums;
+        self.slots.fill(NO_SLOT);
+        self.used = 0;
+        for key in &log {
+            if *key != NO_KEY {
+                self.append(*key as usize);
             }
         }
-        *self = packed;
         Ok(())
     }
 
@@ -119,7 +143,7 @@ impl Distances {
     ///
     /// Out of memory for a new log.
     pub fn reserve(&mut self) -> Result<(), AllocError> {
-        if self.log.len() == self.tree.len() {
+        if self.log.len() == BLOCK * self.blocks.len() {
             self.make_room()?;
         }
         Ok(())

@@ -15,6 +15,7 @@ mod curves;
 mod delete_curve;
 mod distances;
 mod lines;
+mod names;
 mod options;
 mod outcome;
 mod output;

@@ -7,7 +7,7 @@ use crate::rattle_std::prelude::*;
 use crate::rattle_std::alloc::{AllocError, Global};
 use crate::rattle_std::boxed::Box;
 
-const BLOCK: usize = 16;
+pub const BLOCK: usize = 16;
 
 /// Slots with weights. Contracts represent a tree by the weight of each slot.
 ///
