@@ -17,7 +17,8 @@ use Rattle.lru_theory.specs.Traces.{is_in, since, recency, distance, misses, pas
 use Rattle.lru_theory.proofs.LongerTraces.{past_more, misses_more}
 use Rattle.lru_theory.proofs.Lists.{is_in_recency, since_recency}
 use Rattle.lru_theory.proofs.Nexts.{without_absent}
-use Rattle.lru_trace.specs.Counted.{Counted, IsOf, number_in}
+use Rattle.lru_trace.specs.Counted.{Counted, IsOf}
+use Rattle.lru_trace.specs.Names.{number_in}
 use Rattle.lru_trace.specs.Slots.{position, weight_in}
 use Rattle.std.proofs.lemmas.Option.{same_Some}
 use Rattle.lru_trace.proofs.Numbered.{none_named, named_on, counted, position_within}

@@ -7,7 +7,8 @@ use Rattle.std.specs.Str.{bytes_eq}
 use Rattle.lru_theory.specs.Inclusion.{KeyCall, refers, promotes, removes, clears, looks, after_calls}
 use Rattle.lru_theory.specs.Places.{keys_in, place_of, vacated, place_calls, call_faults}
 use Rattle.lru_theory.specs.Traces.{is_in}
-use Rattle.lru_trace.specs.Counted.{number_in}
+use Rattle.std.specs.Map.{lookup}
+use Rattle.std.specs.String.{string_bytes}
 
 -- the call that a line makes: a delete if the size is 0, and otherwise a reference
 abbrev pub call_of : List ℕ × ℕ → KeyCall (List ℕ)
@@ -42,6 +43,9 @@ pub record Deleting : Type 0 where
   -- for each n, the number of counted references whose key was behind exactly n newer places
   pub counts : List ℕ
   pub references : ℕ
+
+abbrev pub number_in : List (String Global × ℕ) → List ℕ → Option ℕ
+number_in names key = lookup (λ name. bytes_eq key (string_bytes name)) names
 
 -- the second list is the first list, with each key replaced by its number
 abbrev pub AreNumbers : (List ℕ → Option ℕ) → List (Option (List ℕ)) → List (Option ℕ) → Type 0

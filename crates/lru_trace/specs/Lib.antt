@@ -1,5 +1,6 @@
 pub mod Blocks
 pub mod Slots
+pub mod Names
 pub mod Counted
 pub mod Lines
 pub mod Samples

@@ -1,14 +1,13 @@
 -- The miss-ratio curve of a trace. Each reference says the size of the referenced key.
 use Rattle.std.specs.Prelude.{◌≡◌, ℕ, ◌+◌, ◌^◌, ◌<◌, Bool, true, nat_lt, List, [], ◌∷◌, ◌++◌, length, map, take, sum, sum_by}
-use Rattle.std.specs.Prelude.{get_or, Option, Some, None, nat_eq, String}
-use Rattle.std.specs.Global.{Global}
+use Rattle.std.specs.Prelude.{get_or, Option, Some, None, nat_eq}
 use Rattle.std.specs.List.Sorted.{IsNonDecreasing}
 use Rattle.std.specs.Map.{lookup, keys_of}
 use Rattle.std.specs.Option.{unwrap_or, option_map}
 use Rattle.std.specs.Str.{bytes_eq}
 use Rattle.lru_theory.specs.Traces.{is_in, recency, past_after}
 use Rattle.lru_theory.specs.Budgets.{misses_within}
-use Rattle.lru_trace.specs.Counted.{AreNumbered, number_in}
+use Rattle.lru_trace.specs.Names.{number_in}
 use Rattle.std.specs.Set.{remove_key}
 use Rattle.lru_trace.specs.Slots.{Recent, position, weight_in}
 
@@ -29,7 +28,8 @@ abbrev pub bytes_of : List (List ℕ × ℕ) → ℕ
 bytes_of references = sum_by (size_in references) (recency bytes_eq (past_after [] (keys_of references)))
 
 pub record Sized : Type 0 where
-  pub names : List (String Global × ℕ)
+  -- the texts of the keys: each key has the index of its text as its number
+  pub names : List (List ℕ)
   pub recency : List ℕ
   pub sizes : List ℕ
   pub limits : List ℕ
@@ -80,9 +80,9 @@ pub record IsSizedOf (warm trace : List (List ℕ × ℕ)) (curve : Sized) : Typ
       + sum (take (i + 1) curve.counts) ≡ curve.references
   pub all : curve.references ≡ length trace
 
-pub record IsSized (names : List (String Global × ℕ)) (recent : Recent) (limits counts : List ℕ)
+pub record IsSized (names : List (List ℕ)) (recent : Recent) (limits counts : List ℕ)
     (references total : ℕ) : Type 0 where
-  pub numbered : AreNumbered names recent.keys
+  pub numbered : length names ≡ recent.keys
   pub aligned : length recent.weights ≡ recent.keys
   pub within : (number : ℕ) → is_in nat_eq number recent.recency ≡ true → number < recent.keys
   pub known : (key : List ℕ) (number : ℕ) → number_in names key ≡ Some number → is_in nat_eq number recent.recency ≡ true

@@ -5,7 +5,7 @@ ghost use Rattle.std.specs.List.Sorted.{IsNonDecreasing, IsPermutation};
 ghost use Rattle.std.specs.Map.{keys_of};
 ghost use Rattle.std.specs.Set.{remove_key};
 ghost use Rattle.lru_theory.specs.Traces.{is_in};
-ghost use Rattle.lru_trace.specs.Counted.{number_in};
+ghost use Rattle.lru_trace.specs.Names.{number_in};
 ghost use Rattle.lru_trace.specs.Sized.{IsSizedOf, Made, KeepsSizes, exceeds, need_of, missed_within, bytes_of, total_of};
 ghost use Rattle.lru_trace.specs.Rows.{keys};
 ghost use Rattle.lru_trace.specs.Slots.{weight_in};

@@ -5,7 +5,8 @@ ghost use Rattle.std.specs.Set.{remove_key};
 ghost use Rattle.std.specs.Option.{option_map};
 ghost use Rattle.std.specs.Str.{bytes_eq};
 ghost use Rattle.lru_theory.specs.Traces.{misses, past_after};
-ghost use Rattle.lru_trace.specs.Counted.{Counted, IsOf, number_in};
+ghost use Rattle.lru_trace.specs.Counted.{Counted, IsOf};
+ghost use Rattle.lru_trace.specs.Names.{number_in};
 ghost use Rattle.lru_trace.specs.Rows.{keys};
 ghost use Rattle.lru_trace.specs.Times.{KnowsRest};
 

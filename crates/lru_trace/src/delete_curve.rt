@@ -4,9 +4,8 @@ ghost use Rattle.std.specs.Prelude.{take, sum, nat_eq, true};
 ghost use Rattle.std.specs.Option.{option_map};
 ghost use Rattle.lru_theory.specs.Places.{keys_in, place_of};
 ghost use Rattle.lru_theory.specs.Traces.{is_in};
-ghost use Rattle.lru_trace.specs.Counted.{number_in};
 ghost use Rattle.lru_theory.specs.Inclusion.{KeyCall, refers, removes};
-ghost use Rattle.lru_trace.specs.Deletes.{IsDeleteOf, IsSame, Placed, counted_at, missed_calls, places_of, referred};
+ghost use Rattle.lru_trace.specs.Deletes.{IsDeleteOf, IsSame, Placed, counted_at, missed_calls, number_in, places_of, referred};
 
 use crate::places::Places;
 use std::alloc::{AllocError, Global};

@@ -28,6 +28,15 @@ pub struct Names {
     alloc: Global,
 }
 
+impl Model for Names {
+    ghost use Rattle.std.specs.Prelude.{ℕ, List};
+    ghost use Rattle.lru_trace.specs.Names.{texts};
+
+    ghost Value = { List (List ℕ) };
+
+    ghost view = { λ n. texts 0 n.ends.items n.bytes.items };
+}
+
 /// The chain of a text, if there are this many chains.
 fn chain_of(text: &[u8], chains: usize) -> usize {
     let hash = hash(text);

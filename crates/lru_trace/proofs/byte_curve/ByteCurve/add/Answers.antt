@@ -8,7 +8,7 @@ use Rattle.std.specs.Str.{bytes_eq}
 use Rattle.std.specs.String.{string_bytes}
 use Rattle.std.proofs.lemmas.Map.Text.{hash_map_updates_text}
 use Rattle.lru_theory.specs.Traces.{is_in, since}
-use Rattle.lru_trace.specs.Counted.{number_in}
+use Rattle.lru_trace.specs.Names.{number_in}
 use Rattle.lru_trace.specs.Sized.{IsSized}
 use Rattle.lru_trace.specs.Slots.{weight_in}
 use Rattle.lru_trace.proofs.Numbered.{found_more, kept_more, cases}

@@ -1,7 +1,7 @@
 use Rattle.std.proofs.Common.{[], sym, ap, ◌∙◌, subst, length}
 use Rattle.std.specs.Map.{keys_of}
 use Rattle.lru_theory.specs.Traces.{past_after}
-use Rattle.lru_trace.specs.Counted.{number_in}
+use Rattle.lru_trace.specs.Names.{number_in}
 use Rattle.lru_trace.specs.Sized.{IsSizedOf}
 use Rattle.lru_trace.proofs.Numbered.{keys_named, past_named, named_from}
 use Rattle.lru_trace.proofs.byte_curve.ByteCurve.keys.Goals as goal

@@ -5,7 +5,7 @@ use Rattle.std.specs.Map.{keys_of}
 use Rattle.std.specs.Option.{unwrap_or}
 use Rattle.lru_theory.specs.Budgets.{misses_within}
 use Rattle.lru_theory.specs.Traces.{past_after}
-use Rattle.lru_trace.specs.Counted.{number_in}
+use Rattle.lru_trace.specs.Names.{number_in}
 use Rattle.lru_trace.specs.Sized.{IsSizedOf, size_in}
 use Rattle.lru_trace.specs.Slots.{weight_in}
 use Rattle.lru_trace.proofs.Numbered.{past_named, named_from}

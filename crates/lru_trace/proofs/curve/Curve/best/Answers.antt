@@ -1,6 +1,7 @@
 use Rattle.std.proofs.Common.{◌≡◌, subst, sym, ap, ◌∙◌}
 use Rattle.std.specs.Prelude.{nat_eq}
-use Rattle.lru_trace.specs.Counted.{IsOf, number_in}
+use Rattle.lru_trace.specs.Counted.{IsOf}
+use Rattle.lru_trace.specs.Names.{number_in}
 use Rattle.lru_trace.specs.Times.{next_times}
 use Rattle.lru_trace.proofs.Numbered.{next_times_named, named_from}
 use Rattle.lru_trace.proofs.curve.Curve.best.Goals as goal

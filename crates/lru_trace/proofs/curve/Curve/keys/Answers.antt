@@ -1,6 +1,7 @@
 use Rattle.std.proofs.Common.{[], sym, ap, ◌∙◌, subst, length}
 use Rattle.lru_theory.specs.Traces.{past_after}
-use Rattle.lru_trace.specs.Counted.{IsOf, number_in}
+use Rattle.lru_trace.specs.Counted.{IsOf}
+use Rattle.lru_trace.specs.Names.{number_in}
 use Rattle.lru_trace.proofs.Numbered.{keys_named, past_named, named_from}
 use Rattle.lru_trace.proofs.curve.Curve.keys.Goals as goal
 

@@ -1,6 +1,7 @@
 use Rattle.std.proofs.Common.{◌≡◌, [], take, sum, length, min, sym, ap, ◌∙◌, subst, arith}
 use Rattle.std.proofs.lemmas.List.{take_all, take_min}
-use Rattle.lru_trace.specs.Counted.{IsOf, number_in}
+use Rattle.lru_trace.specs.Counted.{IsOf}
+use Rattle.lru_trace.specs.Names.{number_in}
 use Rattle.lru_trace.proofs.Numbered.{misses_named, past_named, named_from}
 use Rattle.lru_theory.specs.Traces.{past_after}
 use Rattle.lru_trace.proofs.curve.Curve.misses.Goals as goal

@@ -1,6 +1,7 @@
 use Rattle.std.proofs.Common.{◌∷◌, ◌++◌, [], sym, subst, ap, ◌∙◌}
 use Rattle.std.proofs.lemmas.Result.{on_ok_weaker, on_err_weaker}
-use Rattle.lru_trace.specs.Counted.{IsOf, number_in}
+use Rattle.lru_trace.specs.Counted.{IsOf}
+use Rattle.lru_trace.specs.Names.{number_in}
 use Rattle.lru_trace.proofs.CurveSteps.{renamed, recounted, always_err, of_warm}
 use Rattle.lru_trace.proofs.curve.Curve.warm_up.Goals as goal
 

@@ -2,7 +2,7 @@ use Rattle.std.proofs.Common.{◌≡◌, true, sym, ap, ◌∙◌, subst, nat_eq
 use Rattle.std.specs.Prelude.{IfSome}
 use Rattle.lru_theory.specs.Places.{keys_in}
 use Rattle.lru_theory.specs.Traces.{is_in}
-use Rattle.lru_trace.specs.Counted.{number_in}
+use Rattle.lru_trace.specs.Deletes.{number_in}
 use Rattle.lru_trace.proofs.PlaceNumbers.{stored_there}
 use Rattle.lru_trace.proofs.delete_curve.DeleteCurve.number_of.Goals as goal
 
