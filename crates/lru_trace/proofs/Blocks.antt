@@ -1,11 +1,12 @@
-use Rattle.std.proofs.Common.{◌≡◌, ℕ, ◌+◌, ◌-◌, ◌*◌, ◌/◌, ◌≤◌, ◌<◌, List, length, get_or, set, take, drop, sum}
-use Rattle.std.proofs.Common.{replicate, sym, ap, ◌∙◌, arith, min, inl, inr}
+use Rattle.std.proofs.Common.{◌≡◌, ℕ, ◌+◌, ◌-◌, ◌*◌, ◌/◌, ◌≤◌, ◌<◌, List, [], ◌∷◌, ◌++◌, length, get_or, set, take, drop}
+use Rattle.std.proofs.Common.{sum, replicate, sym, ap, ◌∙◌, arith, min, inl, inr}
 use Rattle.std.proofs.lemmas.Bool.{cases_lt}
 use Rattle.std.proofs.lemmas.List.{length-set, length-drop, get_or-drop, drop-drop, drop-set-lt, drop-set-add, drop_min}
-use Rattle.std.proofs.lemmas.List.{length-replicate, drop-replicate}
-use Rattle.std.proofs.lemmas.List.Sums.{sum_by-set, sum_by-drop_more, sum_by-take-drop}
+use Rattle.std.proofs.lemmas.List.{length-replicate, drop-replicate, drop-append-le, length_push}
+use Rattle.std.proofs.lemmas.List.Sums.{sum_by-append, sum_by-set, sum_by-drop_more, sum_by-take-drop}
 use Rattle.std.proofs.lemmas.List.Folds.{sum_by-replicate}
-use Rattle.lru_trace.specs.Blocks.{AreSums}
+use Rattle.std.proofs.Math.ListN.{drop_of_length-le}
+use Rattle.lru_trace.specs.Blocks.{AreSums, IsAbove}
 
 changed : (xs : List ℕ) (from slot v : ℕ) → slot < length xs → from ≤ slot
     → sum (drop from (set xs slot v)) + get_or xs slot 0 ≡ sum (drop from xs) + v
@@ -25,12 +26,10 @@ fewer_from xs from later low =
 pub sum-zeros : (n : ℕ) → sum (replicate n 0) ≡ 0
 sum-zeros n = omega (arith, sum_by-replicate (λ x. x) n 0)
 
-pub zeros_are_sums : (slots : ℕ) → 16 < slots → AreSums (replicate slots 0) (replicate ((slots - 1) / 16 + 1) 0)
-zeros_are_sums slots many =
-    let blocks = (slots - 1) / 16 + 1 in
+pub zeros_are_sums : (slots blocks : ℕ) → slots ≤ 16 * blocks → AreSums (replicate slots 0) (replicate blocks 0)
+zeros_are_sums slots blocks enough =
     record {
-      fewer = omega (arith, length-replicate {A = ℕ} slots 0, length-replicate {A = ℕ} blocks 0);
-      enough = omega (arith, length-replicate {A = ℕ} slots 0, length-replicate {A = ℕ} blocks 0);
+      enough = omega (arith, enough, length-replicate {A = ℕ} slots 0, length-replicate {A = ℕ} blocks 0);
       from = λ block. rest block blocks ∙ sym (rest (16 * block) slots);
     }
   where
@@ -65,7 +64,6 @@ module _ {weights sums : List ℕ} (are : AreSums weights sums) (slot : ℕ) (wi
   pub changed_sums : (sum_now now : ℕ) → sum_now + get_or weights slot 0 ≡ now + get_or sums (slot / 16) 0
       → AreSums (set weights slot now) (set sums (slot / 16) sum_now)
   changed_sums sum_now now same = record {
-    fewer = omega (arith, are.fewer, length-set weights slot now, length-set sums (slot / 16) sum_now);
     enough = omega (arith, are.enough, length-set weights slot now, length-set sums (slot / 16) sum_now);
     from = λ block. elim (cases_lt slot (16 * block)) [
       | inl past ↦ ap sum (drop-set-lt block sums (slot / 16) sum_now (omega arith)) ∙ are.from block
@@ -79,3 +77,31 @@ module _ {weights sums : List ℕ} (are : AreSums weights sums) (slot : ℕ) (wi
       )
     ];
   }
+
+pub changed_above : {weights sums : List ℕ} → IsAbove weights sums → (slot : ℕ) → slot < length weights
+    → (sum_now now : ℕ) → sum_now + get_or weights slot 0 ≡ now + get_or sums (slot / 16) 0
+    → IsAbove (set weights slot now) (set sums (slot / 16) sum_now)
+changed_above {weights = weights} {sums = sums} is slot within sum_now now same = (
+  omega (arith, is.0, length-set weights slot now, length-set sums (slot / 16) sum_now),
+  changed_sums is.1 slot within sum_now now same,
+)
+
+pub pushed_sums : {weights sums : List ℕ} → AreSums weights sums → (weight sum_now : ℕ) → length weights < 16 * length sums
+    → sum_now ≡ get_or sums (length weights / 16) 0 + weight
+    → AreSums (weights ++ weight ∷ []) (set sums (length weights / 16) sum_now)
+pushed_sums {weights = weights} {sums = sums} are weight sum_now room is = record {
+  enough = omega (arith, room, length_push weights weight, length-set sums (length weights / 16) sum_now);
+  from = λ block. elim (cases_lt (length weights) (16 * block)) [
+    | inl past ↦ ap sum (drop-set-lt block sums (length weights / 16) sum_now (omega arith)) ∙ are.from block
+        ∙ ap sum (drop_of_length-le weights {i = 16 * block} (omega (arith, past))
+        ∙ sym (drop_of_length-le (weights ++ weight ∷ []) {i = 16 * block} (omega (arith, past, length_push weights weight))))
+    | inr low ↦ omega (
+      arith,
+      are.from block,
+      is,
+      changed sums block (length weights / 16) sum_now (omega (arith, room)) (omega (arith, low)),
+      ap sum (drop-append-le (16 * block) weights (weight ∷ []) low),
+      sum_by-append (λ x. x) (drop (16 * block) weights) (weight ∷ []),
+    )
+  ];
+}

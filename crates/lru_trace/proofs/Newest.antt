@@ -2,7 +2,7 @@
 use Rattle.std.proofs.Common.{◌≡◌, ℕ, zero, suc, ◌+◌, ◌≤◌, ◌<◌, Bool, true, false, List, [], ◌∷◌, ◌++◌}
 use Rattle.std.proofs.Common.{length, get_or, set, take, drop, sum, Option, Some, None, refl, sym, ap, ◌∙◌, arith, cond}
 use Rattle.std.proofs.Common.{inl, inr}
-use Rattle.std.specs.Prelude.{nat_eq, ◌||◌, sum_by}
+use Rattle.std.specs.Prelude.{nat_eq, ◌||◌, ◌^◌, ◌-◌, sum_by}
 use Rattle.std.specs.Option.{option_to_list}
 use Rattle.std.specs.Set.{remove_key}
 use Rattle.std.proofs.lemmas.Bool.{cases_lt, eq-eqb, eqb-true, or_parts}
@@ -13,7 +13,7 @@ use Rattle.std.proofs.lemmas.List.Folds.{list_any-append}
 use Rattle.std.proofs.lemmas.List.Sums.{sum_by-cons, sum_by-append}
 use Rattle.std.proofs.lemmas.Option.{none-some}
 use Rattle.lru_theory.specs.Traces.{is_in, since}
-use Rattle.lru_trace.specs.Slots.{newest, live, holder, weight_of}
+use Rattle.lru_trace.specs.Slots.{newest, live, held, slot_weight, weight_of}
 use Rattle.lru_trace.proofs.Marks.{differ}
 
 pub newest_append : (xs ys : List (Option ℕ)) → newest (xs ++ ys) ≡ newest ys ++ newest xs
@@ -82,37 +82,30 @@ module _ (key : ℕ) where
       let parts = or_parts (nat_eq key x) (is_in nat_eq key xs) e in
       rw parts.0 (ap (λ zs. x ∷ zs) (without_middle xs ys parts.1))
 
+pub held_key : (number : ℕ) → (number ≡ 2 ^ 32 - 1 → ⊥) → held number ≡ Some number
+held_key number some = ap (λ b. cond b None (Some number)) (differ number (2 ^ 32 - 1) some)
+
+pub held_free : (number : ℕ) → number ≡ 2 ^ 32 - 1 → held number ≡ None
+held_free number free = ap (λ b. cond b None (Some number)) (eq-eqb number (2 ^ 32 - 1) free)
+
 one_weight : (weight : ℕ → ℕ) (o : Option ℕ) → weight_of weight o ≡ sum_by weight (option_to_list o)
 one_weight weight None = refl
 one_weight weight (Some key) = omega arith
 
-pub count_weights : (weight : ℕ → ℕ) (tree : List ℕ) (log : List (Option ℕ))
-    → ((i : ℕ) → get_or tree i 0 ≡ weight_of weight (get_or log i None)) → sum tree ≡ sum_by weight (newest log)
-count_weights weight [] [] h = refl
-count_weights weight [] (x ∷ xs) h =
-    let ih = count_weights weight [] xs (λ i. h (suc i)) in
-    let joined = sum_by-append weight (newest xs) (option_to_list x) in
-    omega (arith, ih, joined, one_weight weight x, h 0)
-count_weights weight (m ∷ ms) [] h =
-    let ih = count_weights weight ms [] (λ i. h (suc i)) in
-    let whole = sum_by-cons (λ x. x) m ms in
-    omega (arith, whole, ih, h 0)
-count_weights weight (m ∷ ms) (x ∷ xs) h =
-    let ih = count_weights weight ms xs (λ i. h (suc i)) in
-    let joined = sum_by-append weight (newest xs) (option_to_list x) in
-    let whole = sum_by-cons (λ x. x) m ms in
-    omega (arith, whole, ih, one_weight weight x, joined, h 0)
+pub slot_weights : (weight : ℕ → ℕ) (log : List ℕ) → sum_by (slot_weight weight) log ≡ sum_by weight (newest (live log))
+slot_weights weight [] = refl
+slot_weights weight (number ∷ log) = omega (
+  arith,
+  slot_weights weight log,
+  sum_by-cons (slot_weight weight) number log,
+  one_weight weight (held number),
+  sum_by-append weight (newest (live log)) (option_to_list (held number)),
+)
 
 pub erased : (xs : List (Option ℕ)) (i j : ℕ) → j ≡ i → get_or (set xs i None) j None ≡ None
 erased xs i j same = elim (cases_lt i (length xs)) [
   | inl h ↦ get_or-set_at xs i j None None same h
   | inr h ↦ get_or_past (set xs i None) j None (omega (arith, same, h, length-set xs i None))
-]
-
-pub erased_mark : (xs : List ℕ) (i j : ℕ) → j ≡ i → get_or (set xs i 0) j 0 ≡ 0
-erased_mark xs i j same = elim (cases_lt i (length xs)) [
-  | inl h ↦ get_or-set_at xs i j 0 0 same h
-  | inr h ↦ get_or_past (set xs i 0) j 0 (omega (arith, same, h, length-set xs i 0))
 ]
 
 pub taken_within : (n : ℕ) (xs : List (Option ℕ)) (i key : ℕ) → get_or (take n xs) i None ≡ Some key → i < n
@@ -139,30 +132,3 @@ pub newest_taken : (xs : List (Option ℕ)) (i : ℕ) → length (newest (take i
 newest_taken xs i =
     let parts = ap newest (sym (take-append-drop i xs)) ∙ newest_append (take i xs) (drop i xs) in
     omega (arith, ap length parts, length-append (newest (drop i xs)) (newest (take i xs)))
-
-pub live_length : (slots : List ℕ) (from : ℕ) (log : List ℕ) → length (live slots from log) ≡ length log
-live_length slots from [] = refl
-live_length slots from (key ∷ log) = ap suc (live_length slots (from + 1) log)
-
-live_from : (slots : List ℕ) (from : ℕ) (log : List ℕ) (i : ℕ) → i < length log
-    → get_or (live slots from log) i None ≡ holder slots (get_or log i 0) (from + i)
-live_from slots from [] i h = absurd (omega (arith, h))
-live_from slots from (key ∷ log) zero h = ap (holder slots key) (let e : from ≡ from + 0 = omega arith in e)
-live_from slots from (key ∷ log) (suc i) h =
-    live_from slots (from + 1) log i (omega (arith, h))
-    ∙ ap (holder slots (get_or log i 0)) (let e : from + 1 + i ≡ from + suc i = omega arith in e)
-
-pub live_at : (slots log : List ℕ) (i : ℕ) → i < length log
-    → get_or (live slots 0 log) i None ≡ holder slots (get_or log i 0) i
-live_at slots log i h = live_from slots 0 log i h
-    ∙ ap (holder slots (get_or log i 0)) (let e : 0 + i ≡ i = omega arith in e)
-
-pub holds : (slots : List ℕ) (key slot : ℕ) → get_or slots key 0 ≡ slot → holder slots key slot ≡ Some key
-holds slots key slot e = ap (λ b. cond b (Some key) None) (eq-eqb (get_or slots key 0) slot e)
-
-pub holds_not : (slots : List ℕ) (key slot : ℕ) → (get_or slots key 0 ≡ slot → ⊥) → holder slots key slot ≡ None
-holds_not slots key slot h = ap (λ b. cond b (Some key) None) (differ (get_or slots key 0) slot h)
-
-pub same_holder : (slots others : List ℕ) (key slot : ℕ) → get_or slots key 0 ≡ get_or others key 0
-    → holder slots key slot ≡ holder others key slot
-same_holder slots others key slot e = ap (λ n. cond (nat_eq n slot) (Some key) None) e

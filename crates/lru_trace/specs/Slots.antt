@@ -1,9 +1,9 @@
--- A log of references: a list of slots. Each slot contains a key. A slot is free if its key has another slot.
-use Rattle.std.specs.Prelude.{◌≡◌, ◌≢◌, ℕ, ◌+◌, ◌-◌, ◌^◌, ◌≤◌, ◌<◌, if◌then◌else◌, List, [], ◌∷◌, ◌++◌, length, sum}
-use Rattle.std.specs.Prelude.{sum_by}
-use Rattle.std.specs.Prelude.{get_or, Option, Some, None, nat_eq, Vec, vec_len, vec_capacity}
+-- A log of references: a list of slots. A slot contains the number of a key, or 2 ^ 32 - 1 if the slot is free.
+use Rattle.std.specs.Prelude.{◌≡◌, ◌≢◌, ℕ, ◌-◌, ◌*◌, ◌^◌, ◌≤◌, ◌<◌, if◌then◌else◌, List, [], ◌∷◌, ◌++◌, length}
+use Rattle.std.specs.Prelude.{map, sum, sum_by, get_or, Option, Some, None, nat_eq, Vec, vec_capacity}
 use Rattle.std.specs.Option.{option_to_list}
 use Rattle.lru_theory.specs.Traces.{is_in, since}
+use Rattle.lru_trace.specs.Blocks.{AreSums}
 
 -- `recency` contains the referenced keys, the last referenced key first. `weights` contains the weights of the keys
 -- from key 0 on. `room` is the number of free slots at the end of the log.
@@ -31,14 +31,19 @@ abbrev pub newest : List (Option ℕ) → List ℕ
 newest [] = []
 newest (slot ∷ slots) = newest slots ++ option_to_list slot
 
--- the key in this slot of the log, or `None` if the key has another slot
-abbrev pub holder : List ℕ → ℕ → ℕ → Option ℕ
-holder slots key slot = if nat_eq (get_or slots key 0) slot then Some key else None
+-- the key in a slot with this content, or `None` if the slot is free
+abbrev pub held : ℕ → Option ℕ
+held number = if nat_eq number (2 ^ 32 - 1) then None else Some number
 
--- the keys in the slots of the log, the first of which is the slot `from`
-abbrev pub live : List ℕ → ℕ → List ℕ → List (Option ℕ)
-live slots from [] = []
-live slots from (key ∷ log) = holder slots key from ∷ live slots (from + 1) log
+abbrev pub live : List ℕ → List (Option ℕ)
+live log = map held log
+
+-- the weight of a slot with this content: the weight of its key, or 0 if the slot is free
+abbrev pub slot_weight : (ℕ → ℕ) → ℕ → ℕ
+slot_weight weight number = weight_of weight (held number)
+
+abbrev pub weights_of : (ℕ → ℕ) → List ℕ → List ℕ
+weights_of weight log = map (slot_weight weight) log
 
 -- A key whose slot is 2 ^ 64 - 1 has no slot.
 pub record HasSlot (slots : List ℕ) (key slot : ℕ) : Type 0 where
@@ -46,13 +51,11 @@ pub record HasSlot (slots : List ℕ) (key slot : ℕ) : Type 0 where
   pub is : get_or slots key 0 ≡ slot
   pub some : slot ≢ 2 ^ 64 - 1
 
-pub record IsLog {Z : Type 0} (log : Vec ℕ Z) (slots weights tree : List ℕ)
-    (used : ℕ) : Type 0 where
-  pub room : length tree ≤ vec_capacity log
-  pub few : vec_len log ≤ length tree
-  pub keys : (slot : ℕ) → slot < length log.items → get_or log.items slot 0 < length slots
-  pub found : (key slot : ℕ) → HasSlot slots key slot → (slot < length log.items) × (get_or log.items slot 0 ≡ key)
-  pub weighed : (slot : ℕ) → get_or tree slot 0
-      ≡ weight_of (weight_in weights) (get_or (live slots 0 log.items) slot None)
-  pub fits : sum tree < 2 ^ 64
-  pub counted : used ≡ length (newest (live slots 0 log.items))
+pub record IsLog {Z : Type 0} (log : Vec ℕ Z) (slots weights blocks : List ℕ) (used : ℕ) : Type 0 where
+  pub room : 16 * length blocks ≤ vec_capacity log
+  pub few : length slots < 2 ^ 32
+  pub keys : (key slot : ℕ) → get_or (live log.items) slot None ≡ Some key → HasSlot slots key slot
+  pub found : (key slot : ℕ) → HasSlot slots key slot → get_or (live log.items) slot None ≡ Some key
+  pub sums : AreSums (weights_of (weight_in weights) log.items) blocks
+  pub fits : sum blocks < 2 ^ 64
+  pub counted : used ≡ length (newest (live log.items))

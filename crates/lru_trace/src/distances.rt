@@ -1,9 +1,10 @@
 //! Reuse distances of a trace, one reference at a time.
 ghost use Rattle.std.specs.Prelude.{◌≡◌, ◌+◌, ◌^◌, ◌<◌, [], ◌∷◌, ◌++◌, IfOk, OnErr, OnOk, is_ok, true, false, nat_eq};
-ghost use Rattle.std.specs.Prelude.{length, sum_by};
+ghost use Rattle.std.specs.Prelude.{◌-◌, length, take, drop, sum, sum_by};
 ghost use Rattle.std.specs.Set.{remove_key};
 ghost use Rattle.lru_theory.specs.Traces.{is_in};
-ghost use Rattle.lru_trace.specs.Slots.{Recent, position, weight_in};
+ghost use Rattle.lru_trace.specs.Blocks.{AreSums};
+ghost use Rattle.lru_trace.specs.Slots.{Recent, position, slot_weight, weight_in, weights_of};
 
 use crate::tree::{BLOCK, Tree};
 use std::alloc::{AllocError, Global};
@@ -35,19 +36,53 @@ pub struct Distances {
 }
 
 impl Model for Distances {
-    ghost use Rattle.std.specs.Prelude.{◌-◌, length, vec_len};
+    ghost use Rattle.std.specs.Prelude.{◌-◌, ◌*◌, length, vec_len};
     ghost use Rattle.lru_trace.specs.Slots.{Recent, IsLog, newest, live};
 
     ghost Value = { Recent };
 
     ghost view = { λ d. record {
-      recency = newest (live d.slots.items 0 d.log.items);
+      recency = newest (live d.log.items);
       keys = vec_len d.slots;
       weights = d.weights.items;
-      room = length d.tree - vec_len d.log;
+      room = 16 * length d.blocks - vec_len d.log;
     } };
 
-    ghost invariant = { λ d. IsLog d.log d.slots.items d.weights.items d.tree d.used };
+    ghost invariant = { λ d. IsLog d.log d.slots.items d.weights.items d.blocks d.used };
+}
+
+fn weight_in(weights: &[u64], key: usize) -> u64
+    ensures { result ≡ weight_in weights.now key }
+{
+    match weights.get(key) {
+        Some(weight) => *weight,
+        None => 1,
+    }
+}
+
+fn sum_of(log: &[u32], weights: &[u64]) -> u64
+    requires { sum_by (slot_weight (weight_in weights.now)) log.now < 2 ^ 64 }
+    ensures { result ≡ sum_by (slot_weight (weight_in weights.now)) log.now }
+{
+    let mut sum = 0;
+    for number in log {
+        if *number != NO_KEY {
+            sum += weight_in(weights, *number as usize);
+        }
+    }
+    sum
+}
+
+/// Returns the sum of the weights of the slots after this slot.
+fn weight_behind(log: &[u32], weights: &[u64], blocks: &Tree, slot: usize) -> u64
+    requires within { slot < length log.now }
+    requires sums { AreSums (weights_of (weight_in weights.now) log.now) blocks.now }
+    requires fits { sum blocks.now < 2 ^ 64 }
+    ensures { result ≡ sum (drop (slot + 1) (weights_of (weight_in weights.now) log.now)) }
+{
+    let block = slot / BLOCK;
+    let end = (BLOCK * (block + 1)).min(log.len());
+    sum_of(&log[slot + 1..end], weights) + blocks.weight_behind(block)
 }
 
 impl Distances {
@@ -91,8 +126,12 @@ impl Distances {
         ensures room { self.new.room ≡ self.old.room }
         ensures err { OnErr result (self.new ≡ self.old) }
     {
+        let key = self.slots.len();
+        if key >= NO_KEY as usize {
+            return Err(AllocError);
+        }
         self.weights.reserve(1)?;
-        let key = self.add_key()?;
+        self.slots.push(NO_SLOT)?;
         self.weights.push_reserved(weight);
         Ok(key)
     }
@@ -119,10 +158,7 @@ impl Distances {
     pub fn weight(&self, key: usize) -> u64
         ensures { result ≡ weight_in self.now.weights key }
     {
-        match self.weights.get(key) {
-            Some(weight) => *weight,
-            None => 1,
-        }
+        weight_in(&self.weights, key)
     }
 
     /// Returns the sum of the weights of the keys that were referenced after the last reference to this key.
@@ -134,19 +170,7 @@ impl Distances {
         if slot == NO_SLOT {
             return None;
         }
-        Some(self.weight_behind(slot))
-    }
-
-    fn weight_behind(&self, slot: usize) -> u64 {
-        let block = slot / BLOCK;
-        let end = (BLOCK * (block + 1)).min(self.log.len());
-        let mut sum = self.blocks.weight_behind(block);
-        for key in &self.log[slot + 1..end] {
-            if *key != NO_KEY {
-                sum += self.weight(*key as usize);
-            }
-        }
-        sum
+        Some(weight_behind(&self.log, &self.weights, &self.blocks, slot))
     }
 
     fn take_out(&mut self, key: usize) -> Option<u64>
@@ -160,7 +184,7 @@ impl Distances {
             return None;
         }
         let weight = self.weight(key);
-        let behind = self.weight_behind(slot);
+        let behind = weight_behind(&self.log, &self.weights, &self.blocks, slot);
         self.blocks.subtract(slot / BLOCK, weight);
         self.log[slot] = NO_KEY;
         self.slots[key] = NO_SLOT;

@@ -19,14 +19,14 @@ pub struct Tree {
 
 impl Model for Tree {
     ghost use Rattle.std.specs.Prelude.{ℕ, List, ◌^◌, ◌<◌, IfSome, length, sum};
-    ghost use Rattle.lru_trace.specs.Blocks.{AreSums};
+    ghost use Rattle.lru_trace.specs.Blocks.{IsAbove};
 
     ghost Value = { List ℕ };
 
     ghost view = { λ t. t.weights.items };
 
     ghost invariant = { λ t. (sum t.weights.items < 2 ^ 64)
-        × IfSome t.sums (λ sums. AreSums t.weights.items sums.value) };
+        × IfSome t.sums (λ sums. IsAbove t.weights.items sums.value) };
 
     ghost size = { length };
 

@@ -1,10 +1,10 @@
-use Rattle.std.proofs.Common.{◌≡◌, ◌+◌, length, take}
+use Rattle.std.proofs.Common.{◌≡◌, ◌+◌, ◌*◌, length, take}
 use Rattle.lru_trace.specs.Slots.{newest, live}
 use Rattle.lru_trace.proofs.distances.Distances.make_room.Given as goal
 
-abbrev pub invariant-loop-slot : goal.invariant-loop-slot
-invariant-loop-slot l = let keys = take l.slot (live l.slots.items 0 l.key-items) in
-    (l.packed.recency ≡ newest keys)
-    × (l.packed.keys ≡ l.fn.self.keys)
-    × (l.packed.weights ≡ l.fn.self.weights)
-    × (l.packed.room + length (newest keys) ≡ l.room)
+abbrev pub invariant-loop-key : goal.invariant-loop-key
+invariant-loop-key l = let keys = take l.key-index (live l.key-items) in
+    (l.self.recency ≡ newest keys)
+    × (l.self.keys ≡ l.fn.self.keys)
+    × (l.self.weights ≡ l.fn.self.weights)
+    × (l.self.room + length (newest keys) ≡ 16 * l.blocks)

@@ -1,4 +1,5 @@
-use Rattle.std.proofs.Common.{ℕ, arith, replicate, ◌≡◌}
+use Rattle.std.proofs.Common.{ℕ, arith, replicate, ◌≡◌, ◌+◌, ◌-◌, ◌/◌}
+use Rattle.std.proofs.lemmas.List.{length-replicate}
 use Rattle.lru_trace.proofs.Blocks.{sum-zeros, zeros_are_sums}
 use Rattle.lru_trace.proofs.tree.Tree.+new.Goals as goal
 
@@ -8,5 +9,12 @@ invariant_of-result-2 t c =
     c.in_ok-weights.ensures.items_if_clones_equal (λ y e. e) in
     rw (weights, c.in_ok-new.ensures.ok, c.in_ok-sums.ensures) (
       omega (arith, sum-zeros c.args.slots),
-      zeros_are_sums c.args.slots (omega arith),
+      (
+        omega (
+          arith,
+          length-replicate {A = ℕ} c.args.slots 0,
+          length-replicate {A = ℕ} ((c.args.slots - 1) / 16 + 1) 0,
+        ),
+        zeros_are_sums c.args.slots ((c.args.slots - 1) / 16 + 1) (omega arith),
+      ),
     )

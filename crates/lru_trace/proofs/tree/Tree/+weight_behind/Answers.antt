@@ -1,7 +1,7 @@
 use Rattle.std.proofs.Common.{◌≡◌, ℕ, ◌+◌, ◌-◌, ◌*◌, ◌/◌, ◌<◌, length, sum, drop, min, ap, ◌∙◌, arith, subst}
 use Rattle.std.specs.Prelude.{IfSome}
 use Rattle.std.proofs.lemmas.List.Sums.{sum_by-take-le}
-use Rattle.lru_trace.specs.Blocks.{AreSums}
+use Rattle.lru_trace.specs.Blocks.{IsAbove}
 use Rattle.lru_trace.proofs.Blocks.{near_and_far, fewer_from}
 use Rattle.lru_trace.proofs.tree.Tree.+weight_behind.Goals.{After-weight_behind}
 use Rattle.lru_trace.proofs.tree.Tree.+weight_behind.Goals as goal
@@ -30,12 +30,12 @@ both : (t : ℕ) (c : After-weight_behind t)
     → c.sum_of-2.result + c.weight_behind.result ≡ sum (drop (c.args.slot + 1) c.self.inside.weights.items)
 both t c =
     let xs = c.self.inside.weights.items in
-    let are = subst (λ s. IfSome s (λ sums. AreSums xs sums.value)) c.in-Some.is c.self.invariant.1 in
+    let are = subst (λ s. IfSome s (λ sums. IsAbove xs sums.value)) c.in-Some.is c.self.invariant.1 in
     let within : c.args.slot < length xs = omega (arith, c.requires, ap length c.self.view_is) in
     let len : c.len.result ≡ length xs = omega (arith, c.len.ensures, c.self.inside.weights.ok.0) in
     let end = c.min-end.ensures ∙ ap (min (16 * (c.args.slot / 16 + 1))) len in
     rw (c.sum_of-2.ensures, c.deref-2.ensures.value, c.weight_behind.ensures, c.deref-3.ensures)
-    (near_and_far are c.args.slot within c.min-end.result end)
+    (near_and_far are.1 c.args.slot within c.min-end.result end)
 
 pub overflow_add-result : goal.overflow_add-result
 overflow_add-result t c =
