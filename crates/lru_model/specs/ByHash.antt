@@ -27,8 +27,8 @@ module _ {K V : Type 0} (eq : K → K → Bool) (hash_of : K → ℕ) (all : Lis
     pub tags : (pair : K × V) → Contains pairs pair → hash_tag (hash_of pair.0) ≡ hash_tag hash
 
   module _ {F : Type 0} (closure : Mut F (Bor K × (Bor V × Unit {0})) Bool) where
-    -- f was called with some candidates, each at most once. f returned false for each candidate in `before`, and true
-    -- for the last candidate, `pair`.
+    -- The closure, which began as f, returned false for each candidate in `before`, one after another, and then true
+    -- for the candidate `pair`.
     pub record GivesByHash (f : F) (pair : K × V) : Type 0 where
       pub before : List (K × V)
       pub candidates : AreCandidates (before ++ pair ∷ [])
@@ -37,8 +37,8 @@ module _ {K V : Type 0} (eq : K → K → Bool) (hash_of : K → ℕ) (all : Lis
       pub last : F
       pub accepted : Asks closure between pair true last
 
-    -- f was called with some candidates, each at most once. f returned false for each of these candidates. If a key of
-    -- the map has the searched hash, the pair of this key is one of these candidates.
+    -- The closure, which began as f, returned false for each of some candidates, one after another. If a key of the map
+    -- has the searched hash, the pair of this key is one of these candidates.
     pub record GivesNoneByHash (f : F) : Type 0 where
       pub asked : List (K × V)
       pub candidates : AreCandidates asked

@@ -26,8 +26,8 @@ module _ {K V F : Type 0} (closure : Mut F (Bor K × (Bor V × Unit {0})) Bool) 
   Answers f [] g = g ≡ f
   Answers f (newest ∷ older) g = (between : F) × Answers f older between × Asks closure between newest.0 newest.1 g
 
-  -- The closure is called with each pair once, oldest first. The pairs for which the closure returns true stay, in
-  -- their order.
+  -- The closure, which began as f, returned a boolean for each pair, oldest first. The pairs for which it returned true
+  -- stay, in their order.
   pub record Retains {S H : Type 0} (rules : Rules K V S) (f : F) (old new : State K V S H) : Type 0 where
     pub asked : List ((K × V) × Bool)
     pub each : map (λ one. one.0) asked ≡ old.pairs

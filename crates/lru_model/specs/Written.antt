@@ -21,7 +21,7 @@ module _ {K V F : Type 0} (closure : Mut F (Bor K × (MutBor V × Unit {0})) (Un
   WritesEach f (pair ∷ pairs) new g = (w : V) × (between : F) × (rest : List (K × V)) × Writes f pair w between
       × WritesEach between pairs rest g × (new ≡ (pair.0, w) ∷ rest)
 
-  -- f was called with each pair of the map, newest first, and only the values that f wrote have changed
+  -- the closure, which began as f, wrote the value of each pair of the map, newest first, and nothing else has changed
   pub record WritesAll {S H : Type 0} (f : F) (old new : State K V S H) : Type 0 where
     pub last : F
     pub each : WritesEach f old.pairs new.pairs last

@@ -150,27 +150,27 @@ fn put_within(map: &mut LruMap<String, u64>, key: String, value: u64) -> Result<
 
 /// Does what `put_within` does, under limits of the length and of the table's bytes.
 fn put_within_both(
-    map: &mut LruMap<String, u64, Both<ByLength, ByMemoryUsage>>,
+    map: &mut LruMap<String, u64, Both<ByMemoryUsage, ByLength>>,
     key: String,
     value: u64,
 ) -> Result<bool, AllocError>
-    requires length { length map.old.pairs ≤ map.old.limiter.0 }
-    requires usage { UsesAtMost map.old.limiter.1 map.old }
-    ensures length { length map.new.pairs ≤ map.new.limiter.0 }
-    ensures usage { UsesAtMost map.new.limiter.1 map.new }
+    requires length { length map.old.pairs ≤ map.old.limiter.1 }
+    requires usage { UsesAtMost map.old.limiter.0 map.old }
+    ensures length { length map.new.pairs ≤ map.new.limiter.1 }
+    ensures usage { UsesAtMost map.new.limiter.0 map.new }
 {
     laws::calls_keep_the_length::<
         String,
         u64,
         String,
-        Both<ByLength, ByMemoryUsage>,
+        Both<ByMemoryUsage, ByLength>,
         RandomState,
     >();
     laws::calls_keep_the_memory_usage::<
         String,
         u64,
         String,
-        Both<ByLength, ByMemoryUsage>,
+        Both<ByMemoryUsage, ByLength>,
         RandomState,
     >();
     map.insert(key, value)

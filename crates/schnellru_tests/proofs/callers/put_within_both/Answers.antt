@@ -1,5 +1,5 @@
 use Rattle.std.proofs.Common.{◌≤◌, length, sym, subst}
-use Rattle.lru_limits.specs.Limits.{length-limits, memory-limits, both-first_length, both-second_memory}
+use Rattle.lru_limits.specs.Limits.{length-limits, memory-limits, both-first_memory, both-second_length}
 use Rattle.lru_limits.specs.Limiters.{length_rules, length_terms, memory_rules, all_terms}
 use Rattle.lru_model.specs.Runs.Step.{inserts}
 use Rattle.lru_model.specs.Theorems.{UsesAtMost}
@@ -9,8 +9,8 @@ pub returns : goal.returns
 returns c =
     let old = c.args.map.now in let new = c.insert.new.self in
     let step = inserts c.args.key c.args.value c.insert.result c.insert.ensures.step in
-    let short = both-first_length length_rules memory_rules length_terms all_terms length-limits in
-    let small = both-second_memory length_rules memory_rules length_terms all_terms memory-limits in
+    let short = both-second_length memory_rules length_rules all_terms length_terms length-limits in
+    let small = both-first_memory memory_rules length_rules all_terms length_terms memory-limits in
     let length_law = c.calls_keep_the_length.ensures in
     let usage_law = c.calls_keep_the_memory_usage.ensures in
     record {
