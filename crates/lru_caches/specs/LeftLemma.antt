@@ -1,29 +1,36 @@
 -- If a record of calls on a file determines the bytes that a crash leaves in a block, these bytes are the block's known
 -- bytes.
-use Rattle.std.specs.Prelude.{◌≡◌, ℕ, zero, suc, nat_eq, Bool, true, false, if◌then◌else◌, List, [], ◌∷◌, Option, Some, None, refl}
+use Rattle.std.specs.Prelude.{◌≡◌, ℕ, nat_eq, Bool, true, false, if◌then◌else◌, List, [], ◌∷◌, Option, Some, None, refl}
 use Rattle.std.proofs.Common.{sym, ◌∙◌, ap, subst, unwrap_or, option_map}
 use Rattle.std.proofs.lemmas.Option.{none-some}
-use Rattle.lru_caches.specs.Files.{Event, known, known_after, left, left_after, or_else, IsLeft, synced, unsynced}
+use Rattle.lru_caches.specs.Files.{Event, unread, was_read, unwritten, written, unsynced, synced}
+use Rattle.lru_caches.specs.Files.{known, left, or_else, IsLeft}
 
 abbrev pub Fits : Option (List ℕ) → Option (List ℕ) → Type 0
 Fits kept block = (x : List ℕ) → kept ≡ Some x → block ≡ Some x
 
-fits_step : (kind : ℕ) (bytes : List ℕ) (same : Bool) (kept block : Option (List ℕ))
-    → Fits kept block → Fits (left_after kind same block kept) (known_after kind same bytes block)
-fits_step zero bytes same kept block was = was
-fits_step (suc zero) bytes true kept block was = λ x is. ap (λ o. or_else o bytes) (was x is)
-fits_step (suc zero) bytes false kept block was = was
-fits_step (suc (suc zero)) bytes true kept block was = λ x is. is
-fits_step (suc (suc zero)) bytes false kept block was = was
-fits_step (suc (suc (suc zero))) bytes true kept block was = λ x is. absurd (none-some x is)
-fits_step (suc (suc (suc zero))) bytes false kept block was = was
-fits_step (suc (suc (suc (suc zero)))) bytes same kept block was = was
-fits_step (suc (suc (suc (suc (suc more))))) bytes same kept block was = λ x is. is
+fits_same : (same : Bool) {kept block : Option (List ℕ)} (then-kept then-block : Option (List ℕ))
+    → Fits then-kept then-block → Fits kept block
+    → Fits (if same then then-kept else kept) (if same then then-block else block)
+fits_same true then-kept then-block now was = now
+fits_same false then-kept then-block now was = was
+
+none_fits : (block : Option (List ℕ)) → Fits None block
+none_fits block x is = absurd (none-some x is)
 
 pub left_fits : (events : List Event) (n : ℕ) → Fits (left events n) (known events n)
 left_fits [] n = λ x is. is
-left_fits (e ∷ earlier) n =
-    fits_step e.0 e.2 (nat_eq n e.1) (left earlier n) (known earlier n) (left_fits earlier n)
+left_fits (unread m ∷ earlier) n = left_fits earlier n
+left_fits (was_read m bytes ∷ earlier) n = go (nat_eq n m)
+  where
+    go : (same : Bool) → Fits (left earlier n) (if same then or_else (known earlier n) bytes else known earlier n)
+    go true x is = ap (λ o. or_else o bytes) (left_fits earlier n x is)
+    go false = left_fits earlier n
+left_fits (unwritten m bytes ∷ earlier) n = fits_same (nat_eq n m) None None (none_fits None) (left_fits earlier n)
+left_fits (written m bytes ∷ earlier) n =
+    fits_same (nat_eq n m) None (Some bytes) (none_fits (Some bytes)) (left_fits earlier n)
+left_fits (unsynced ∷ earlier) n = left_fits earlier n
+left_fits (synced ∷ earlier) n = λ x is. is
 
 module _ (seen : List ℕ → List ℕ) (events : List Event) (n : ℕ) where
   pub left_is_known : (bytes : List ℕ) → known events n ≡ Some bytes → IsLeft seen (left events n) (seen bytes)

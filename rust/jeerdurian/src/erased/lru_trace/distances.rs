@@ -32,6 +32,30 @@ pub struct Distances {
     alloc: Global,
 }
 
+fn weight_in(weights: &[u64], key: usize) -> u64 {
+    match weights.get(key) {
+        Some(weight) => *weight,
+        None => 1,
+    }
+}
+
+fn sum_of(log: &[u32], weights: &[u64]) -> u64 {
+    let mut sum = 0;
+    for number in log {
+        if *number != NO_KEY {
+            sum += weight_in(weights, *number as usize);
+        }
+    }
+    sum
+}
+
+/// Returns the sum of the weights of the slots after this slot.
+fn weight_behind(log: &[u32], weights: &[u64], blocks: &Tree, slot: usize) -> u64 {
+    let block = slot / BLOCK;
+    let end = (BLOCK * (block + 1)).min(log.len());
+    sum_of(&(*at!(log, slot + 1..end)), weights) + blocks.weight_behind(block)
+}
+
 impl Distances {
     pub fn new(alloc: Global) -> Result<Self, AllocError> {
         Ok(Distances {
@@ -54,13 +78,17 @@ impl Distances {
     }
 
     pub fn add_weighed_key(&mut self, weight: u64) -> Result<usize, AllocError> {
+        let key = self.slots.len();
+        if key >= NO_KEY as usize {
+            return Err(AllocError);
+        }
         self.weights.reserve(1)?;
-        let key = self.add_key()?;
+        self.slots.push(NO_SLOT)?;
         self.weights.push_reserved(weight);
         Ok(key)
     }
 
-    /// Removes the key that was added last. It must not be in the log.
+    /// Removes the key that was added last, if it was not referenced.
     pub fn remove_key(&mut self) {
         self.slots.pop();
         self.weights.truncate(self.slots.len());
@@ -71,10 +99,7 @@ impl Distances {
     }
 
     pub fn weight(&self, key: usize) -> u64 {
-        match self.weights.get(key) {
-            Some(weight) => *weight,
-            None => 1,
-        }
+        weight_in(&self.weights, key)
     }
 
     /// Returns the sum of the weights of the keys that were referenced after the last reference to this key.
@@ -83,19 +108,7 @@ impl Distances {
         if slot == NO_SLOT {
             return None;
         }
-        Some(self.weight_behind(slot))
-    }
-
-    fn weight_behind(&self, slot: usize) -> u64 {
-        let block = slot / BLOCK;
-        let end = (BLOCK * (block + 1)).min(self.log.len());
-        let mut sum = self.blocks.weight_behind(block);
-        for key in &(*at!(self.log, slot + 1..end)) {
-            if *key != NO_KEY {
-                sum += self.weight(*key as usize);
-            }
-        }
-        sum
+        Some(weight_behind(&self.log, &self.weights, &self.blocks, slot))
     }
 
     fn take_out(&mut self, key: usize) -> Option<u64> {
@@ -104,7 +117,7 @@ impl Distances {
             return None;
         }
         let weight = self.weight(key);
-        let behind = self.weight_behind(slot);
+        let behind = weight_behind(&self.log, &self.weights, &self.blocks, slot);
         self.blocks.subtract(slot / BLOCK, weight);
         (*at_mut!(self.log, slot)) = NO_KEY;
         (*at_mut!(self.slots, key)) = NO_SLOT;

@@ -105,12 +105,12 @@ fn put_within(map: &mut LruMap<String, u64>, key: String, value: u64) -> Result<
 
 /// Does what `put_within` does, under limits of the length and of the table's bytes.
 fn put_within_both(
-    map: &mut LruMap<String, u64, Both<ByLength, ByMemoryUsage>>,
+    map: &mut LruMap<String, u64, Both<ByMemoryUsage, ByLength>>,
     key: String,
     value: u64,
 ) -> Result<bool, AllocError> {
-    laws::calls_keep_the_length::<String, u64, String, Both<ByLength, ByMemoryUsage>, RandomState>();
-    laws::calls_keep_the_memory_usage::<String, u64, String, Both<ByLength, ByMemoryUsage>, RandomState>();
+    laws::calls_keep_the_length::<String, u64, String, Both<ByMemoryUsage, ByLength>, RandomState>();
+    laws::calls_keep_the_memory_usage::<String, u64, String, Both<ByMemoryUsage, ByLength>, RandomState>();
     map.insert(key, value)
 }
 
