@@ -3,12 +3,15 @@ use Rattle.std.proofs.Common.{length, get_or, set, replicate, Some, None, refl, 
 use Rattle.std.proofs.lemmas.List.{length-set, length-append, length-replicate, get_or-replicate, get_or-set_other}
 use Rattle.std.proofs.lemmas.List.{get_or_append_left}
 use Rattle.std.proofs.Math.Numerals.{add-one}
-use Rattle.std.proofs.lemmas.Bool.{cases_lt}
+use Rattle.std.proofs.lemmas.Bool.{cases_lt, lt-ltb, le-ltb, eq-eqb, eqb-true}
+use Rattle.std.proofs.lemmas.Option.{none-some}
+use Rattle.std.proofs.Math.Dec.{ltb}
+use Rattle.std.specs.List.{position, position_or_len}
 use Rattle.std.proofs.lemmas.Bool.Decides.{eqb_tells, nat_tests}
 use Rattle.std.proofs.lemmas.Grind.{get_or-set_at, common_steps}
 use Rattle.std.proofs.Math.Seq.{get_or-append_seam}
 use Rattle.std.proofs.lemmas.List.Folds.{position_or_len_push}
-use Rattle.std.proofs.lemmas.List.Sums.{position_or_len_is}
+use Rattle.std.proofs.lemmas.List.Sums.{position_or_len_is, fails_before_first}
 use Rattle.std.proofs.lemmas.List.Quantifiers.{position-Some}
 use Rattle.std.proofs.lemmas.Slice.Eq.{bytes_eq-Decides}
 use Rattle.std.specs.Prelude.{◌==◌}
@@ -116,3 +119,90 @@ module _ (texts : List (List ℕ)) (chains : ℕ) where
     newest_is = λ c h. get_or-replicate chains c 0 0 h;
     older_is = λ i h. absurd (omega arith);
   }
+
+module _ (p : List ℕ → Bool) (xs : List (List ℕ)) where
+  position_at : (i : ℕ) → i < length xs → ((k : ℕ) → k < i → p (get_or xs k []) ≡ false) → p (get_or xs i []) ≡ true
+      → position p xs ≡ Some i
+  position_at i h before at =
+      ap (λ n. cond (ltb n (length xs)) (Some n) None) (position_or_len_is p xs i [] (omega arith) before (λ _. at))
+      ∙ ap (λ b. cond b (Some i) None) (lt-ltb i (length xs) h)
+
+  position_none : ((k : ℕ) → k < length xs → p (get_or xs k []) ≡ false) → position p xs ≡ None
+  position_none all =
+      ap (λ n. cond (ltb n (length xs)) (Some n) None)
+      (position_or_len_is p xs (length xs) [] (omega arith) all (λ h. absurd (omega arith)))
+      ∙ ap (λ b. cond b (Some (length xs)) None) (le-ltb (length xs) (length xs) (omega arith))
+
+  none_pass : position p xs ≡ None → (k : ℕ) → k < length xs → p (get_or xs k []) ≡ false
+  none_pass none k h = go (cases_lt (position_or_len p xs) (length xs))
+    where
+      go : (position_or_len p xs < length xs) ⊎ (length xs ≤ position_or_len p xs) → p (get_or xs k []) ≡ false
+      go (inl some) = let is = ap (λ b. cond b (Some (position_or_len p xs)) None) (lt-ltb (position_or_len p xs) (length xs)
+          some) in absurd (none-some (position_or_len p xs) (sym none ∙ is))
+      go (inr past) = fails_before_first p xs k [] (omega arith)
+
+module _ (texts : List (List ℕ)) (text : List ℕ) (chains : ℕ) where
+  abbrev is_here : ℕ → Bool
+  is_here = is_in_chain texts chains (chain_of chains text)
+
+  -- A walk down the chain of a text. `place` is one more than the number of the next text of the chain, or 0. The texts
+  -- from `place` on are other texts.
+  pub record IsWalk (place : ℕ) : Type 0 where
+    pub within : place ≤ length texts
+    pub there : last_in is_here place ≡ place
+    pub others : (i : ℕ) → place ≤ i → i < length texts → bytes_eq text (get_or texts i []) ≡ false
+
+  other : (i : ℕ) → is_here i ≡ false → bytes_eq text (get_or texts i []) ≡ false
+  other i apart = go (bytes_eq text (get_or texts i [])) refl
+    where
+      go : (b : Bool) → bytes_eq text (get_or texts i []) ≡ b → b ≡ false
+      go true e =
+          let same = (bytes_eq-Decides text (get_or texts i [])).0 e in
+          let here = eq-eqb (chain_of chains (get_or texts i [])) (chain_of chains text) (ap (chain_of chains) (sym same)) in
+          sym here ∙ apart
+      go false e = refl
+
+  module _ {newest older : List ℕ} (are : AreLinked texts (length texts) chains newest older) where
+    pub walk_begins : (place : ℕ) → chain_of chains text < chains → place ≡ get_or newest (chain_of chains text) 0
+        → IsWalk place
+    walk_begins place small e =
+        let is = e ∙ are.newest_is (chain_of chains text) small in
+        record {
+          within = omega (arith, is, last_within is_here (length texts));
+          there = ap (last_in is_here) is ∙ last_stays is_here (length texts) ∙ sym is;
+          others = λ i low h. other i (none_after is_here (length texts) i (omega (arith, is, low)) h);
+        }
+
+    pub walk_goes_on : (number next : ℕ) → IsWalk (suc number) → bytes_eq text (get_or texts number []) ≡ false
+        → next ≡ get_or older number 0 → IsWalk next × (next ≤ number)
+    walk_goes_on number next walk test e = (
+      record {
+        within = omega (arith, walk.within, small);
+        there = ap (last_in is_here) is ∙ last_stays is_here number ∙ sym is;
+        others = λ i low h. at i low h (cases_lt i number) (cases_lt number i);
+      },
+      small,
+    )
+      where
+        here : chain_of chains (get_or texts number []) ≡ chain_of chains text
+        here = eqb-true (chain_of chains (get_or texts number [])) (chain_of chains text) (last_passes is_here number walk.there)
+
+        is : next ≡ last_in is_here number
+        is = e ∙ are.older_is number walk.within ∙ ap (λ c. last_in (is_in_chain texts chains c) number) here
+
+        small : next ≤ number
+        small = omega (arith, is, last_within is_here number)
+
+        at : (i : ℕ) → next ≤ i → i < length texts → (i < number) ⊎ (number ≤ i) → (number < i) ⊎ (i ≤ number)
+            → bytes_eq text (get_or texts i []) ≡ false
+        at i low h (inl before) _ = other i (none_after is_here number i (omega (arith, is, low)) before)
+        at i low h (inr past) (inl after) = walk.others i (omega arith) h
+        at i low h (inr past) (inr last) = ap (λ k. bytes_eq text (get_or texts k [])) (omega arith) ∙ test
+
+  pub not_found : IsWalk 0 → number_in texts text ≡ None
+  not_found walk = position_none (bytes_eq text) texts (λ k h. walk.others k (omega arith) h)
+
+pub found : (texts : List (List ℕ)) (newest older text : List ℕ) (number : ℕ) → AreNames texts newest older
+    → number < length texts → bytes_eq text (get_or texts number []) ≡ true → number_in texts text ≡ Some number
+found texts newest older text number are h e =
+    ap (number_in texts) ((bytes_eq-Decides text (get_or texts number [])).0 e) ∙ are.distinct number h

@@ -140,7 +140,7 @@ impl Names {
         let mut place = self.newest[chain_of(text, self.newest.len())] as usize;
         while place > 0 {
             let number = place - 1;
-            if self.texts.get(number) == text {
+            if text == self.texts.get(number) {
                 return Some(number);
             }
             place = self.older[number] as usize;
