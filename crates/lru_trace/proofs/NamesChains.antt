@@ -16,7 +16,7 @@ use Rattle.std.proofs.lemmas.List.Quantifiers.{position-Some}
 use Rattle.std.proofs.lemmas.Slice.Eq.{bytes_eq-Decides}
 use Rattle.std.specs.Prelude.{◌==◌}
 use Rattle.std.specs.Str.{bytes_eq}
-use Rattle.lru_trace.specs.Names.{number_in, chain_of, last_in, is_in_chain, AreLinked, AreNames}
+use Rattle.lru_trace.specs.Names.{number_in, chain_of, last_in, is_in_chain, AreDistinct, AreLinked}
 
 module _ (p : ℕ → Bool) where
   pub last_within : (n : ℕ) → last_in p n ≤ n
@@ -110,15 +110,17 @@ module _ (texts : List (List ℕ)) (chains : ℕ) where
       same c n few = last_same (is_in_chain texts chains c) (is_in_chain (texts ++ text ∷ []) chains c) n
           (λ i h. ap (λ x. chain_of chains x == c) (sym (get_or_append_left texts (text ∷ []) [] i (omega (arith, h, few)))))
 
-  pub none_linked : (older : List ℕ) → 0 < chains → length older ≡ length texts
-      → AreLinked texts 0 chains (replicate chains 0) older
-  none_linked older some size = record {
-    size = size;
-    some_chains = some;
-    chains_are = length-replicate chains 0;
-    newest_is = λ c h. get_or-replicate chains c 0 0 h;
-    older_is = λ i h. absurd (omega arith);
-  }
+  pub none_linked : (newest older : List ℕ) → newest ≡ replicate chains 0 → 0 < chains → length older ≡ length texts
+      → AreLinked texts 0 (length newest) newest older
+  none_linked newest older none some size =
+      let many : length newest ≡ chains = ap length none ∙ length-replicate chains 0 in
+      record {
+        size = size;
+        some_chains = omega (arith, many, some);
+        chains_are = refl;
+        newest_is = λ c h. ap (λ xs. get_or xs c 0) none ∙ get_or-replicate chains c 0 0 (omega (arith, h, many));
+        older_is = λ i h. absurd (omega arith);
+      }
 
 module _ (p : List ℕ → Bool) (xs : List (List ℕ)) where
   position_at : (i : ℕ) → i < length xs → ((k : ℕ) → k < i → p (get_or xs k []) ≡ false) → p (get_or xs i []) ≡ true
@@ -202,7 +204,37 @@ module _ (texts : List (List ℕ)) (text : List ℕ) (chains : ℕ) where
   pub not_found : IsWalk 0 → number_in texts text ≡ None
   not_found walk = position_none (bytes_eq text) texts (λ k h. walk.others k (omega arith) h)
 
-pub found : (texts : List (List ℕ)) (newest older text : List ℕ) (number : ℕ) → AreNames texts newest older
-    → number < length texts → bytes_eq text (get_or texts number []) ≡ true → number_in texts text ≡ Some number
-found texts newest older text number are h e =
-    ap (number_in texts) ((bytes_eq-Decides text (get_or texts number [])).0 e) ∙ are.distinct number h
+pub found : (texts : List (List ℕ)) (text : List ℕ) (number : ℕ) → AreDistinct texts → number < length texts
+    → bytes_eq text (get_or texts number []) ≡ true → number_in texts text ≡ Some number
+found texts text number are h e =
+    ap (number_in texts) ((bytes_eq-Decides text (get_or texts number [])).0 e) ∙ are number h
+
+module _ (p : List ℕ → Bool) (xs : List (List ℕ)) (x : List ℕ) where
+  stays : (k : ℕ) → k < length xs → p (get_or (xs ++ x ∷ []) k []) ≡ p (get_or xs k [])
+  stays k h = ap p (get_or_append_left xs (x ∷ []) [] k h)
+
+  position_later : (i : ℕ) → position p xs ≡ Some i → position p (xs ++ x ∷ []) ≡ Some i
+  position_later i is =
+      let at = position-Some p xs i [] is in
+      position_at p (xs ++ x ∷ []) i (omega (arith, at.0, length-append xs (x ∷ [])))
+      (λ k h. stays k (omega (arith, h, at.0)) ∙ at.2 k h) (stays i at.0 ∙ at.1)
+
+  position_new : position p xs ≡ None → p x ≡ true → position p (xs ++ x ∷ []) ≡ Some (length xs)
+  position_new none passes =
+      position_at p (xs ++ x ∷ []) (length xs) (omega (arith, length-append xs (x ∷ [])))
+      (λ k h. stays k h ∙ none_pass p xs none k h) (ap p (get_or-append_seam xs x [] []) ∙ passes)
+
+pub distinct_more : (texts : List (List ℕ)) (text : List ℕ) → AreDistinct texts → number_in texts text ≡ None
+    → AreDistinct (texts ++ text ∷ [])
+distinct_more texts text are none i h = go (cases_lt i (length texts))
+  where
+    go : (i < length texts) ⊎ (length texts ≤ i) → number_in (texts ++ text ∷ []) (get_or (texts ++ text ∷ []) i []) ≡ Some i
+    go (inl before) =
+        let t = get_or texts i [] in
+        ap (number_in (texts ++ text ∷ [])) (get_or_append_left texts (text ∷ []) [] i before)
+        ∙ position_later (bytes_eq t) texts text i (are i before)
+    go (inr past) =
+        let last : i ≡ length texts = omega (arith, h, past, length-append texts (text ∷ [])) in
+        ap (λ k. number_in (texts ++ text ∷ []) (get_or (texts ++ text ∷ []) k [])) last
+        ∙ ap (number_in (texts ++ text ∷ [])) (get_or-append_seam texts text [] [])
+        ∙ position_new (bytes_eq text) texts text none ((bytes_eq-Decides text text).1 refl) ∙ ap Some (sym last)

@@ -27,6 +27,9 @@ last_in test zero = 0
 last_in test (suc n) = cond (test n) (suc n) (last_in test n)
 
 module _ (texts : List (List ℕ)) where
+  abbrev pub AreDistinct : Type 0
+  AreDistinct = (number : ℕ) → number < length texts → number_in texts (get_or texts number []) ≡ Some number
+
   abbrev pub is_in_chain : ℕ → ℕ → ℕ → Bool
   is_in_chain chains chain number = chain_of chains (get_or texts number []) == chain
 
@@ -44,4 +47,4 @@ module _ (texts : List (List ℕ)) where
   pub record AreNames (newest older : List ℕ) : Type 0 where
     pub few : length texts < 2 ^ 32
     pub linked : AreLinked (length texts) (length newest) newest older
-    pub distinct : (number : ℕ) → number < length texts → number_in texts (get_or texts number []) ≡ Some number
+    pub distinct : AreDistinct

@@ -111,7 +111,7 @@ fn link(texts: &Texts, number: usize, newest: &mut [u32], older: &mut [u32])
     requires few { number + 1 < 2 ^ 32 }
     requires within { number < length texts.now }
     requires linked { AreLinked texts.now number (length newest.old) newest.old older.old }
-    ensures { AreLinked texts.now (number + 1) (length newest.old) newest.new older.new }
+    ensures { AreLinked texts.now (number + 1) (length newest.new) newest.new older.new }
 {
     let chain = chain_of(texts.get(number), newest.len());
     older[number] = newest[chain];

@@ -52,8 +52,7 @@ returns-then-eq c =
     let v = c.self.inside in
     let text = c.as_bytes-text.result.now in
     let number = c.loop-place.place - 1 in
-    sym (found v.texts v.newest.items v.older.items text number c.self.invariant
-    (omega (arith, c.loop-place.invariant.within, c.loop-place-test.true))
+    sym (found v.texts text number c.self.invariant.distinct (omega (arith, c.loop-place.invariant.within, c.loop-place-test.true))
     (ap (bytes_eq text) (sym c.get.ensures) ∙ sym c.if-eq.ensures))
     ∙ (λ i. number_in (c.self.view_is i) (c.as_bytes-text.ensures.value i))
 
