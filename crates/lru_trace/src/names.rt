@@ -148,11 +148,15 @@ impl Names {
         None
     }
 
-    /// Doubles the number of chains.
-    fn grow(&mut self) -> Result<(), AllocError>
+    /// Doubles the number of chains if there are as many texts as chains.
+    fn grow_if_full(&mut self) -> Result<(), AllocError>
         ensures { self.new ≡ self.old }
     {
-        let mut newest = vec![in self.alloc; 0; 2 * self.newest.len()]?;
+        let chains = self.newest.len();
+        if self.texts.len() < chains {
+            return Ok(());
+        }
+        let mut newest = vec![in self.alloc; 0; 2 * chains]?;
         for number in 0..self.texts.len() {
             link(&self.texts, number, &mut newest, &mut self.older);
         }
@@ -176,9 +180,7 @@ impl Names {
         if number >= u32::MAX as usize {
             return Err(AllocError);
         }
-        if number >= self.newest.len() {
-            self.grow()?;
-        }
+        self.grow_if_full()?;
         self.older.reserve(1)?;
         self.texts.push(text.as_bytes())?;
         self.older.push_reserved(0);

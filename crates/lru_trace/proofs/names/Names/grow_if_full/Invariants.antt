@@ -1,6 +1,6 @@
 use Rattle.std.proofs.Common.{◌≡◌, length}
 use Rattle.lru_trace.specs.Names.{AreLinked}
-use Rattle.lru_trace.proofs.names.Names.grow.Given as goal
+use Rattle.lru_trace.proofs.names.Names.grow_if_full.Given as goal
 
 abbrev pub invariant-loop-number : goal.invariant-loop-number
 invariant-loop-number l = (l.self-inside.texts ≡ l.initial.self-inside.texts)

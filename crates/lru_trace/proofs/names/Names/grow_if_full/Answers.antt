@@ -2,16 +2,16 @@ use Rattle.std.proofs.Common.{◌≡◌, ◌*◌, length, refl, arith, sym, ap, 
 use Rattle.std.proofs.lemmas.List.{with_items_is}
 use Rattle.lru_trace.specs.Names.{AreLinked, AreDistinct}
 use Rattle.lru_trace.proofs.NamesChains.{none_linked}
-use Rattle.lru_trace.proofs.names.Names.grow.Goals as goal
+use Rattle.lru_trace.proofs.names.Names.grow_if_full.Goals as goal
 
 pub loop-number-init : goal.loop-number-init
 loop-number-init c =
     let v = c.self.inside in
     let linked = c.self.invariant.linked in (
       refl,
-      none_linked v.texts (2 * c.len.result) c.in_ok-newest.newest.items v.older.items
+      none_linked v.texts (2 * c.len-chains.result) c.in_ok-newest.newest.items v.older.items
       (c.in_ok-newest.ensures.items_if_clones_equal (λ y e. e))
-      (omega (arith, linked.some_chains, c.len.ensures, v.newest.ok.0)) linked.size,
+      (omega (arith, linked.some_chains, c.len-chains.ensures, v.newest.ok.0)) linked.size,
     )
 
 pub link-requires-clause-within : goal.link-requires-clause-within
