@@ -74,13 +74,13 @@ module _ (texts : List (List ℕ)) (chains : ℕ) where
           ((here == c) ≡ true) × (here ≡ c) ⊎ ((here == c) ≡ false) × (here ≢ c)
           → get_or (set newest chain (n + 1)) c 0 ≡ last_in (is_in_chain texts chains c) (n + 1)
       newest_at c h (inl (e, same)) = rw (add-one n) (
-        get_or-set_at newest chain c (suc n) 0 (sym (is ∙ same)) (omega (arith, small, are.chains_are))
-        ∙ sym (ap (λ b. cond b (suc n) (last_in (is_in_chain texts chains c) n)) e)
-      )
+          get_or-set_at newest chain c (suc n) 0 (sym (is ∙ same)) (omega (arith, small, are.chains_are))
+          ∙ sym (ap (λ b. cond b (suc n) (last_in (is_in_chain texts chains c) n)) e)
+          )
       newest_at c h (inr (e, apart)) = rw (add-one n) (
-        get_or-set_other newest chain c (suc n) 0 (λ same. apart (sym (same ∙ is)))
-        ∙ are.newest_is c h ∙ sym (ap (λ b. cond b (suc n) (last_in (is_in_chain texts chains c) n)) e)
-      )
+          get_or-set_other newest chain c (suc n) 0 (λ same. apart (sym (same ∙ is)))
+          ∙ are.newest_is c h ∙ sym (ap (λ b. cond b (suc n) (last_in (is_in_chain texts chains c) n)) e)
+          )
 
       older_at : (i : ℕ) → (i < n) ⊎ (n ≤ i) → i < n + 1 → get_or (set older n (get_or newest chain 0)) i 0
           ≡ last_in (is_in_chain texts chains (chain_of chains (get_or texts i []))) i
@@ -147,12 +147,12 @@ module _ (texts : List (List ℕ)) (text : List ℕ) (chains : ℕ) where
   abbrev is_here : ℕ → Bool
   is_here = is_in_chain texts chains (chain_of chains text)
 
-  -- A walk down the chain of a text. `place` is one more than the number of the next text of the chain, or 0. The texts
-  -- from `place` on are other texts.
-  pub record IsWalk (place : ℕ) : Type 0 where
-    pub within : place ≤ length texts
-    pub there : last_in is_here place ≡ place
-    pub others : (i : ℕ) → place ≤ i → i < length texts → bytes_eq text (get_or texts i []) ≡ false
+  -- A walk down the chain of a text. `link` is one more than the number of the next text of the chain, or 0. The texts
+  -- from `link` on are other texts.
+  pub record IsWalk (link : ℕ) : Type 0 where
+    pub within : link ≤ length texts
+    pub there : last_in is_here link ≡ link
+    pub others : (i : ℕ) → link ≤ i → i < length texts → bytes_eq text (get_or texts i []) ≡ false
 
   other : (i : ℕ) → is_here i ≡ false → bytes_eq text (get_or texts i []) ≡ false
   other i apart = go (bytes_eq text (get_or texts i [])) refl
@@ -165,9 +165,9 @@ module _ (texts : List (List ℕ)) (text : List ℕ) (chains : ℕ) where
       go false e = refl
 
   module _ {newest older : List ℕ} (are : AreLinked texts (length texts) chains newest older) where
-    pub walk_begins : (place : ℕ) → chain_of chains text < chains → place ≡ get_or newest (chain_of chains text) 0
-        → IsWalk place
-    walk_begins place small e =
+    pub walk_begins : (link : ℕ) → chain_of chains text < chains → link ≡ get_or newest (chain_of chains text) 0
+        → IsWalk link
+    walk_begins link small e =
         let is = e ∙ are.newest_is (chain_of chains text) small in
         record {
           within = omega (arith, is, last_within is_here (length texts));

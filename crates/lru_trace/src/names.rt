@@ -70,9 +70,9 @@ impl Texts {
 
 /// The texts of keys. The first text that was added has the number 0, the next text 1, and so on.
 ///
-/// The texts whose hashes leave the same remainder form a chain. `newest` leads to the newest text of each chain, and
-/// `older` leads from each text to the next older text of its chain. A number that leads to a text is one more than the
-/// number of the text, and 0 leads to none. At most 2 ^ 32 - 1 texts can be added.
+/// The texts whose hashes leave the same remainder form a chain. `newest` contains a link to the newest text of each
+/// chain, and `older` contains, for each text, a link to the next older text of its chain. A link is one more than the
+/// number of a text, and 0 if there is no text. At most 2 ^ 32 - 1 texts can be added.
 ///
 /// A text takes its bytes and between 16 and 20 bytes more. The hashes have no seeds, so an attacker can choose texts
 /// that all stand in one chain.
@@ -95,7 +95,7 @@ impl Model for Names {
     ghost invariant = { λ n. AreNames n.texts n.newest.items n.older.items };
 }
 
-/// The chain of a text, if there are this many chains.
+/// Returns the chain of a text if there are this many chains.
 #[tactic(auto, unfolding(crate::specs::Names::chain_of))]
 fn chain_of(text: &[u8], chains: usize) -> usize
     requires { 0 < chains }
@@ -106,8 +106,8 @@ fn chain_of(text: &[u8], chains: usize) -> usize
     (hash ^ (hash >> 32)) as usize % chains
 }
 
-/// Puts a text in front of its chain. The texts before it are in their chains.
-fn link(texts: &Texts, number: usize, newest: &mut [u32], older: &mut [u32])
+/// Adds a text to its chain. The texts with smaller numbers stand in their chains already.
+fn add_to_chain(texts: &Texts, number: usize, newest: &mut [u32], older: &mut [u32])
     requires few { number + 1 < 2 ^ 32 }
     requires within { number < length texts.now }
     requires linked { AreLinked texts.now number (length newest.old) newest.old older.old }
@@ -137,13 +137,13 @@ impl Names {
         ensures { result ≡ number_in self.now text.now }
     {
         let text = text.as_bytes();
-        let mut place = self.newest[chain_of(text, self.newest.len())] as usize;
-        while place > 0 {
-            let number = place - 1;
+        let mut link = self.newest[chain_of(text, self.newest.len())] as usize;
+        while link > 0 {
+            let number = link - 1;
             if text == self.texts.get(number) {
                 return Some(number);
             }
-            place = self.older[number] as usize;
+            link = self.older[number] as usize;
         }
         None
     }
@@ -158,7 +158,7 @@ impl Names {
         }
         let mut newest = vec![in self.alloc; 0; 2 * chains]?;
         for number in 0..self.texts.len() {
-            link(&self.texts, number, &mut newest, &mut self.older);
+            add_to_chain(&self.texts, number, &mut newest, &mut self.older);
         }
         self.newest = newest;
         Ok(())
@@ -184,7 +184,7 @@ impl Names {
         self.older.reserve(1)?;
         self.texts.push(text.as_bytes())?;
         self.older.push_reserved(0);
-        link(&self.texts, number, &mut self.newest, &mut self.older);
+        add_to_chain(&self.texts, number, &mut self.newest, &mut self.older);
         Ok(())
     }
 }

@@ -11,12 +11,12 @@ texts_are c = c.self-2.view_is ∙ c.grow_if_full.ensures
 number_is : (c : After-push_reserved) → c.len-number.result ≡ length c.self-2.inside.texts
 number_is c = c.len-number.ensures ∙ ap length (c.self.view_is ∙ sym (texts_are c))
 
-pub link-requires-clause-linked : goal.link-requires-clause-linked
-link-requires-clause-linked c =
+pub add_to_chain-requires-clause-linked : goal.add_to_chain-requires-clause-linked
+add_to_chain-requires-clause-linked c =
     let v = c.self-2.inside in
     let text = c.as_bytes.result.now in
     let older = c.deref_mut-2.ensures.value ∙ c.push_reserved.ensures.items ∙ ap (λ l. l ++ 0 ∷ []) c.reserve.ensures.items in
-    let number = number_is (goal.at.link-requires-clause-linked c).After-push_reserved in
+    let number = number_is (goal.at.add_to_chain-requires-clause-linked c).After-push_reserved in
     rw (c.in_ok-push.ensures.ok, c.deref_mut.ensures.value, older, number)
     (linked_later v.texts (length v.newest.items) text v.newest.items v.older.items c.self-2.invariant.linked)
 
@@ -28,13 +28,13 @@ invariant_of-self-2 c =
     let is = c.in_ok-push.ensures.ok in
     let size = ap length is ∙ length-append v.texts (text ∷ []) in
     let number : c.len-number.result + 1 ≡ length c.push.new.self = omega (arith, number_is before, size) in
-    let newest = with_items_is v.newest c.link.new.newest (omega (arith, c.link.auto.newest, c.deref_mut.ensures.len)) in
-    let older = with_items_is c.push_reserved.new.self c.link.new.older
-      (omega (arith, c.link.auto.older, c.deref_mut-2.ensures.len)) in
+    let newest = with_items_is v.newest c.add_to_chain.new.newest (omega (arith, c.add_to_chain.auto.newest, c.deref_mut.ensures.len)) in
+    let older = with_items_is c.push_reserved.new.self c.add_to_chain.new.older
+    (omega (arith, c.add_to_chain.auto.older, c.deref_mut-2.ensures.len)) in
     let none : number_in v.texts text ≡ None = (λ i. number_in (texts_are before i) (c.as_bytes.ensures.value i)) ∙ c.requires in
     rw (newest, older) (record {
       few = omega (arith, number, c.if-number.false);
-      linked = subst (λ n. AreLinked c.push.new.self n (length c.link.new.newest) c.link.new.newest c.link.new.older) number
-          c.link.ensures;
+      linked = subst (λ n. AreLinked c.push.new.self n (length c.add_to_chain.new.newest) c.add_to_chain.new.newest c.add_to_chain.new.older) number
+          c.add_to_chain.ensures;
       distinct = subst AreDistinct (sym is) (distinct_more v.texts text c.self-2.invariant.distinct none);
     })

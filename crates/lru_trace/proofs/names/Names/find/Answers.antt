@@ -3,11 +3,11 @@ use Rattle.std.specs.Str.{bytes_eq}
 use Rattle.std.proofs.lemmas.List.{get_or_read_under}
 use Rattle.lru_trace.specs.Names.{number_in, chain_of}
 use Rattle.lru_trace.proofs.NamesChains.{IsWalk, walk_begins, walk_goes_on, found, not_found}
-use Rattle.lru_trace.proofs.names.Names.find.Goals.{After-index-in-loop-place}
+use Rattle.lru_trace.proofs.names.Names.find.Goals.{After-index-in-loop-link}
 use Rattle.lru_trace.proofs.names.Names.find.Goals as goal
 
-pub loop-place-init : goal.loop-place-init
-loop-place-init c =
+pub loop-link-init : goal.loop-link-init
+loop-link-init c =
     let v = c.self.inside in
     let text = c.as_bytes-text.result.now in
     let chains = length v.newest.items in
@@ -19,40 +19,40 @@ loop-place-init c =
     ∙ ap (λ k. get_or v.newest.items k 0) chain)
 
 pub get-requires : goal.get-requires
-get-requires c = omega (arith, c.loop-place.invariant.within, c.loop-place-test.true)
+get-requires c = omega (arith, c.loop-link.invariant.within, c.loop-link-test.true)
 
-pub index-requires-in-loop-place : goal.index-requires-in-loop-place
-index-requires-in-loop-place c = let v = c.self.inside in
-    omega (arith, c.loop-place.invariant.within, c.loop-place-test.true, c.self.invariant.linked.size, v.older.ok.0)
+pub index-requires-in-loop-link : goal.index-requires-in-loop-link
+index-requires-in-loop-link c = let v = c.self.inside in
+    omega (arith, c.loop-link.invariant.within, c.loop-link-test.true, c.self.invariant.linked.size, v.older.ok.0)
 
-goes_on : (c : After-index-in-loop-place) → let next = c.index-in-loop-place.result.now in
-    IsWalk c.self.inside.texts c.as_bytes-text.result.now (length c.self.inside.newest.items) next × (next < c.loop-place.place)
+goes_on : (c : After-index-in-loop-link) → let next = c.index-in-loop-link.result.now in
+    IsWalk c.self.inside.texts c.as_bytes-text.result.now (length c.self.inside.newest.items) next × (next < c.loop-link.link)
 goes_on c =
     let v = c.self.inside in
     let text = c.as_bytes-text.result.now in
     let chains = length v.newest.items in
-    let number = c.loop-place.place - 1 in
-    let one : c.loop-place.place ≡ suc number = omega (arith, c.loop-place-test.true) in
-    let small : number < length v.older.items = omega (arith, c.loop-place.invariant.within, c.self.invariant.linked.size, one) in
-    let next = walk_goes_on v.texts text chains c.self.invariant.linked number c.index-in-loop-place.result.now
-      (subst (IsWalk v.texts text chains) one c.loop-place.invariant)
-      (ap (bytes_eq text) (sym c.get.ensures) ∙ sym c.if-eq.ensures)
-      (get_or_read_under v.older.items number (length v.older.items) c.index-in-loop-place.result.now 0
-      c.index-in-loop-place.ensures small refl) in
+    let number = c.loop-link.link - 1 in
+    let one : c.loop-link.link ≡ suc number = omega (arith, c.loop-link-test.true) in
+    let small : number < length v.older.items = omega (arith, c.loop-link.invariant.within, c.self.invariant.linked.size, one) in
+    let next = walk_goes_on v.texts text chains c.self.invariant.linked number c.index-in-loop-link.result.now
+    (subst (IsWalk v.texts text chains) one c.loop-link.invariant)
+    (ap (bytes_eq text) (sym c.get.ensures) ∙ sym c.if-eq.ensures)
+    (get_or_read_under v.older.items number (length v.older.items) c.index-in-loop-link.result.now 0
+    c.index-in-loop-link.ensures small refl) in
     (next.0, omega (arith, next.1, one))
 
-pub loop-place-preserved : goal.loop-place-preserved
-loop-place-preserved c = (goes_on (goal.at.loop-place-preserved c).After-index-in-loop-place).0
+pub loop-link-preserved : goal.loop-link-preserved
+loop-link-preserved c = (goes_on (goal.at.loop-link-preserved c).After-index-in-loop-link).0
 
-pub loop-place-smaller : goal.loop-place-smaller
-loop-place-smaller c = (goes_on (goal.at.loop-place-smaller c).After-index-in-loop-place).1
+pub loop-link-smaller : goal.loop-link-smaller
+loop-link-smaller c = (goes_on (goal.at.loop-link-smaller c).After-index-in-loop-link).1
 
 pub returns-then-eq : goal.returns-then-eq
 returns-then-eq c =
     let v = c.self.inside in
     let text = c.as_bytes-text.result.now in
-    let number = c.loop-place.place - 1 in
-    sym (found v.texts text number c.self.invariant.distinct (omega (arith, c.loop-place.invariant.within, c.loop-place-test.true))
+    let number = c.loop-link.link - 1 in
+    sym (found v.texts text number c.self.invariant.distinct (omega (arith, c.loop-link.invariant.within, c.loop-link-test.true))
     (ap (bytes_eq text) (sym c.get.ensures) ∙ sym c.if-eq.ensures))
     ∙ (λ i. number_in (c.self.view_is i) (c.as_bytes-text.ensures.value i))
 
@@ -61,6 +61,6 @@ returns c =
     let v = c.self.inside in
     let text = c.as_bytes-text.result.now in
     let chains = length v.newest.items in
-    let ended : c.loop-place.place ≡ 0 = omega (arith, c.loop-place-test.false) in
-    sym (not_found v.texts text chains (subst (IsWalk v.texts text chains) ended c.loop-place.invariant))
+    let ended : c.loop-link.link ≡ 0 = omega (arith, c.loop-link-test.false) in
+    sym (not_found v.texts text chains (subst (IsWalk v.texts text chains) ended c.loop-link.invariant))
     ∙ (λ i. number_in (c.self.view_is i) (c.as_bytes-text.ensures.value i))

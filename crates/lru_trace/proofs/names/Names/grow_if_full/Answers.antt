@@ -10,26 +10,26 @@ loop-number-init c =
     let linked = c.self.invariant.linked in (
       refl,
       none_linked v.texts (2 * c.len-chains.result) c.in_ok-newest.newest.items v.older.items
-      (c.in_ok-newest.ensures.items_if_clones_equal (λ y e. e))
-      (omega (arith, linked.some_chains, c.len-chains.ensures, v.newest.ok.0)) linked.size,
+          (c.in_ok-newest.ensures.items_if_clones_equal (λ y e. e))
+          (omega (arith, linked.some_chains, c.len-chains.ensures, v.newest.ok.0)) linked.size,
     )
 
-pub link-requires-clause-within : goal.link-requires-clause-within
-link-requires-clause-within c =
+pub add_to_chain-requires-clause-within : goal.add_to_chain-requires-clause-within
+add_to_chain-requires-clause-within c =
     omega (arith, c.loop-number-test.true, ap length c.loop-number.invariant.0, c.len-number-end.ensures)
 
-pub link-requires-clause-linked : goal.link-requires-clause-linked
-link-requires-clause-linked c =
+pub add_to_chain-requires-clause-linked : goal.add_to_chain-requires-clause-linked
+add_to_chain-requires-clause-linked c =
     let s = c.loop-number in
     rw (c.deref_mut.ensures.value, c.deref_mut-in-loop-number.ensures.value) s.invariant.1
 
 pub loop-number-preserved : goal.loop-number-preserved
 loop-number-preserved c =
     let s = c.loop-number in
-    let newest = with_items_is s.newest c.link.new.newest (omega (arith, c.link.auto.newest, c.deref_mut.ensures.len)) in
-    let older = with_items_is s.self-inside.older c.link.new.older
-      (omega (arith, c.link.auto.older, c.deref_mut-in-loop-number.ensures.len)) in
-    (s.invariant.0, rw (newest, older) c.link.ensures)
+    let newest = with_items_is s.newest c.add_to_chain.new.newest (omega (arith, c.add_to_chain.auto.newest, c.deref_mut.ensures.len)) in
+    let older = with_items_is s.self-inside.older c.add_to_chain.new.older
+    (omega (arith, c.add_to_chain.auto.older, c.deref_mut-in-loop-number.ensures.len)) in
+    (s.invariant.0, rw (newest, older) c.add_to_chain.ensures)
 
 pub invariant_of-self : goal.invariant_of-self
 invariant_of-self c =
