@@ -1,114 +1,55 @@
-use Rattle.std.proofs.Common.{◌≡◌, ◌≢◌, ℕ, zero, suc, ◌+◌, ◌-◌, ◌≤◌, ◌<◌, Bool, true, false, cond, List, [], ◌∷◌, ◌++◌}
-use Rattle.std.proofs.Common.{length, get_or, set, replicate, Some, None, refl, sym, ap, ◌∙◌, arith, inl, inr, ◌⊎◌, subst}
+use Rattle.std.proofs.Common.{◌≡◌, ◌≢◌, ℕ, ◌+◌, ◌≤◌, ◌<◌, Bool, true, false, cond, List, [], ◌∷◌, ◌++◌, length, get_or, set}
+use Rattle.std.proofs.Common.{replicate, Option, Some, None, refl, sym, ap, ◌∙◌, arith, inl, inr, ◌⊎◌, subst}
+use Rattle.std.proofs.Math.Seq.{get_or-append_seam}
+use Rattle.std.proofs.lemmas.Bool.{cases_lt, lt-ltb}
+use Rattle.std.proofs.lemmas.Bool.Decides.{not_from_Decides, eqb_tells}
+use Rattle.std.proofs.lemmas.Grind.{get_or-set_at}
 use Rattle.std.proofs.lemmas.List.{length-set, length-append, length-replicate, get_or-replicate, get_or-set_other}
 use Rattle.std.proofs.lemmas.List.{get_or_append_left}
-use Rattle.std.proofs.Math.Numerals.{add-one}
-use Rattle.std.proofs.lemmas.Bool.{cases_lt, lt-ltb, le-ltb, eq-eqb, eqb-true}
-use Rattle.std.proofs.lemmas.Option.{none-some}
-use Rattle.std.proofs.Math.Dec.{ltb}
-use Rattle.std.specs.List.{position, position_or_len}
-use Rattle.std.proofs.lemmas.Bool.Decides.{eqb_tells, nat_tests}
-use Rattle.std.proofs.lemmas.Grind.{get_or-set_at, common_steps}
-use Rattle.std.proofs.Math.Seq.{get_or-append_seam}
-use Rattle.std.proofs.lemmas.List.Folds.{position_or_len_push}
-use Rattle.std.proofs.lemmas.List.Sums.{position_or_len_is, fails_before_first}
 use Rattle.std.proofs.lemmas.List.Quantifiers.{position-Some}
+use Rattle.std.proofs.lemmas.List.Sums.{fails_before_first}
+use Rattle.std.proofs.lemmas.Option.{none-some}
 use Rattle.std.proofs.lemmas.Slice.Eq.{bytes_eq-Decides}
-use Rattle.std.specs.Prelude.{◌==◌}
+use Rattle.std.specs.List.{position_or_len}
 use Rattle.std.specs.Str.{bytes_eq}
-use Rattle.lru_trace.specs.Names.{number_in, chain_of, last_in, is_in_chain, AreDistinct, AreLinked}
+use Rattle.lru_trace.specs.Names.{number_in, chain_of, chain_at, IsLink, AreDistinct, AreLinked}
 
-module _ (p : ℕ → Bool) where
-  pub last_within : (n : ℕ) → last_in p n ≤ n
-  last_within zero = omega arith
-  last_within (suc n) = go (p n) (last_within n)
-    where
-      go : (b : Bool) → last_in p n ≤ n → cond b (suc n) (last_in p n) ≤ suc n
-      go true h = omega arith
-      go false h = omega arith
+module _ (at : ℕ → ℕ) (chain n : ℕ) where
+  no_link : (link : ℕ) → link ≡ 0 → IsLink at chain 0 link
+  no_link link none = record {
+    within = omega arith;
+    there = λ k e. absurd (omega arith);
+    others = λ k low h. absurd (omega arith);
+  }
 
-  pub last_stays : (n : ℕ) → last_in p (last_in p n) ≡ last_in p n
-  last_stays zero = refl
-  last_stays (suc n) = go (p n) refl (last_stays n)
-    where
-      go : (b : Bool) → p n ≡ b → last_in p (last_in p n) ≡ last_in p n
-          → last_in p (cond b (suc n) (last_in p n)) ≡ cond b (suc n) (last_in p n)
-      go true e h = ap (λ b. cond b (suc n) (last_in p n)) e
-      go false e h = h
+  link_stays : (link : ℕ) → at n ≢ chain → IsLink at chain n link → IsLink at chain (n + 1) link
+  link_stays link apart is = record {
+    within = omega (arith, is.within);
+    there = is.there;
+    others = λ k low h. elim (cases_lt k n) [
+      | inl before ↦ is.others k low before
+      | inr last ↦ λ same. apart (ap at (omega arith) ∙ same)
+    ];
+  }
 
-  -- none passes after the last
-  pub none_after : (n i : ℕ) → last_in p n ≤ i → i < n → p i ≡ false
-  none_after zero i low h = absurd (omega arith)
-  none_after (suc n) i low h = go (p n) refl low (cases_lt i n) (none_after n i)
-    where
-      go : (b : Bool) → p n ≡ b → cond b (suc n) (last_in p n) ≤ i → (i < n) ⊎ (n ≤ i)
-          → (last_in p n ≤ i → i < n → p i ≡ false) → p i ≡ false
-      go true e low _ before = absurd (omega arith)
-      go false e low (inl less) before = before low less
-      go false e low (inr at) before = ap p (omega arith) ∙ e
+  new_link : at n ≡ chain → IsLink at chain (n + 1) (n + 1)
+  new_link same = record {
+    within = omega arith;
+    there = λ k e. ap at (omega arith) ∙ same;
+    others = λ k low h. absurd (omega arith);
+  }
 
-  pub last_passes : (n : ℕ) → last_in p (suc n) ≡ suc n → p n ≡ true
-  last_passes n is = go (p n) refl is
-    where
-      go : (b : Bool) → p n ≡ b → cond b (suc n) (last_in p n) ≡ suc n → p n ≡ true
-      go true e is = e
-      go false e is = absurd (omega (arith, is, last_within n))
-
-  pub last_same : (q : ℕ → Bool) (n : ℕ) → ((i : ℕ) → i < n → p i ≡ q i) → last_in p n ≡ last_in q n
-  last_same q zero same = refl
-  last_same q (suc n) same = (λ j. cond (same n (omega arith) j) (suc n) (last_same q n (λ i h. same i (omega arith)) j))
+same_link : (f g : ℕ → ℕ) (chain n link : ℕ) → ((k : ℕ) → k < n → f k ≡ g k) → IsLink f chain n link
+    → IsLink g chain n link
+same_link f g chain n link same is = record {
+  within = is.within;
+  there = λ k e. sym (same k (omega (arith, e, is.within))) ∙ is.there k e;
+  others = λ k low h e. is.others k low h (same k h ∙ e);
+}
 
 module _ (texts : List (List ℕ)) (chains : ℕ) where
-  pub linked_more : (n chain : ℕ) (newest older : List ℕ) → AreLinked texts n chains newest older → n < length texts
-      → chain < chains → chain ≡ chain_of chains (get_or texts n [])
-      → AreLinked texts (n + 1) chains (set newest chain (n + 1)) (set older n (get_or newest chain 0))
-  linked_more n chain newest older are within small is = record {
-    size = length-set older n (get_or newest chain 0) ∙ are.size;
-    some_chains = are.some_chains;
-    chains_are = length-set newest chain (n + 1) ∙ are.chains_are;
-    newest_is = λ c h. newest_at c h (eqb_tells (chain_of chains (get_or texts n [])) c);
-    older_is = λ i h. older_at i (cases_lt i n) h;
-  }
-    where
-      newest_at : (c : ℕ) → c < chains → let here = chain_of chains (get_or texts n []) in
-          ((here == c) ≡ true) × (here ≡ c) ⊎ ((here == c) ≡ false) × (here ≢ c)
-          → get_or (set newest chain (n + 1)) c 0 ≡ last_in (is_in_chain texts chains c) (n + 1)
-      newest_at c h (inl (e, same)) = rw (add-one n) (
-          get_or-set_at newest chain c (suc n) 0 (sym (is ∙ same)) (omega (arith, small, are.chains_are))
-          ∙ sym (ap (λ b. cond b (suc n) (last_in (is_in_chain texts chains c) n)) e)
-          )
-      newest_at c h (inr (e, apart)) = rw (add-one n) (
-          get_or-set_other newest chain c (suc n) 0 (λ same. apart (sym (same ∙ is)))
-          ∙ are.newest_is c h ∙ sym (ap (λ b. cond b (suc n) (last_in (is_in_chain texts chains c) n)) e)
-          )
-
-      older_at : (i : ℕ) → (i < n) ⊎ (n ≤ i) → i < n + 1 → get_or (set older n (get_or newest chain 0)) i 0
-          ≡ last_in (is_in_chain texts chains (chain_of chains (get_or texts i []))) i
-      older_at i (inl before) h =
-          get_or-set_other older n i (get_or newest chain 0) 0 (omega arith) ∙ are.older_is i before
-      older_at i (inr at) h =
-          let same : i ≡ n = omega arith in
-          get_or-set_at older n i (get_or newest chain 0) 0 same (omega (arith, within, are.size))
-          ∙ are.newest_is chain small ∙ ap (λ c. last_in (is_in_chain texts chains c) n) is
-          ∙ ap (λ k. last_in (is_in_chain texts chains (chain_of chains (get_or texts k []))) k) (sym same)
-
-  pub linked_later : (text : List ℕ) (newest older : List ℕ) → AreLinked texts (length texts) chains newest older
-      → AreLinked (texts ++ text ∷ []) (length texts) chains newest (older ++ 0 ∷ [])
-  linked_later text newest older are = record {
-    size = omega (arith, are.size, length-append {A = List ℕ}, length-append {A = ℕ});
-    some_chains = are.some_chains;
-    chains_are = are.chains_are;
-    newest_is = λ c h. are.newest_is c h ∙ same c (length texts) (omega arith);
-    older_is = λ i h. get_or_append_left older (0 ∷ []) 0 i (omega (arith, h, are.size)) ∙ are.older_is i h
-        ∙ same (chain_of chains (get_or texts i [])) i (omega arith)
-        ∙ ap (λ x. last_in (is_in_chain (texts ++ text ∷ []) chains (chain_of chains x)) i) (sym (get_or_append_left texts
-        (text ∷ []) [] i h));
-  }
-    where
-      same : (c n : ℕ) → n ≤ length texts
-          → last_in (is_in_chain texts chains c) n ≡ last_in (is_in_chain (texts ++ text ∷ []) chains c) n
-      same c n few = last_same (is_in_chain texts chains c) (is_in_chain (texts ++ text ∷ []) chains c) n
-          (λ i h. ap (λ x. chain_of chains x == c) (sym (get_or_append_left texts (text ∷ []) [] i (omega (arith, h, few)))))
+  abbrev at : ℕ → ℕ
+  at = chain_at texts chains
 
   pub none_linked : (newest older : List ℕ) → newest ≡ replicate chains 0 → 0 < chains → length older ≡ length texts
       → AreLinked texts 0 (length newest) newest older
@@ -118,123 +59,140 @@ module _ (texts : List (List ℕ)) (chains : ℕ) where
         size = size;
         some_chains = omega (arith, many, some);
         chains_are = refl;
-        newest_is = λ c h. ap (λ xs. get_or xs c 0) none ∙ get_or-replicate chains c 0 0 (omega (arith, h, many));
-        older_is = λ i h. absurd (omega arith);
+        newest_is = λ c h. no_link (chain_at texts (length newest)) c 0 (get_or newest c 0) (ap (λ xs. get_or xs c 0) none
+            ∙ get_or-replicate chains c 0 0 (omega (arith, h, many)));
+        older_is = λ k h. absurd (omega arith);
       }
 
-module _ (p : List ℕ → Bool) (xs : List (List ℕ)) where
-  position_at : (i : ℕ) → i < length xs → ((k : ℕ) → k < i → p (get_or xs k []) ≡ false) → p (get_or xs i []) ≡ true
-      → position p xs ≡ Some i
-  position_at i h before at =
-      ap (λ n. cond (ltb n (length xs)) (Some n) None) (position_or_len_is p xs i [] (omega arith) before (λ _. at))
-      ∙ ap (λ b. cond b (Some i) None) (lt-ltb i (length xs) h)
+  pub linked_more : (n chain : ℕ) (newest older : List ℕ) → AreLinked texts n chains newest older → n < length texts
+      → chain < chains → chain ≡ chain_at texts chains n
+      → AreLinked texts (n + 1) chains (set newest chain (n + 1)) (set older n (get_or newest chain 0))
+  linked_more n chain newest older are within small is = record {
+    size = length-set older n (get_or newest chain 0) ∙ are.size;
+    some_chains = are.some_chains;
+    chains_are = length-set newest chain (n + 1) ∙ are.chains_are;
+    newest_is = λ c h. elim (eqb_tells chain c) [
+      | inl same ↦ subst (IsLink at c (n + 1))
+        (sym (get_or-set_at newest chain c (n + 1) 0 (sym same.1) (omega (arith, small, are.chains_are))))
+        (new_link at c n (sym is ∙ same.1))
+      | inr other ↦ subst (IsLink at c (n + 1)) (sym (get_or-set_other newest chain c (n + 1) 0 (λ e. other.1 (sym e))))
+        (link_stays at c n (get_or newest c 0) (λ e. other.1 (is ∙ e)) (are.newest_is c h))
+    ];
+    older_is = λ k h. elim (cases_lt k n) [
+      | inl before ↦ subst (IsLink at (at k) k) (sym (get_or-set_other older n k (get_or newest chain 0) 0 (omega arith)))
+        (are.older_is k before)
+      | inr last ↦
+        let same : k ≡ n = omega arith in
+        let read = get_or-set_at older n k (get_or newest chain 0) 0 same (omega (arith, within, are.size)) in
+        subst (λ l. IsLink at (at k) k l) (sym read) (subst (λ j. IsLink at (at j) j (get_or newest chain 0)) (sym same)
+          (subst (λ c. IsLink at c n (get_or newest chain 0)) is (are.newest_is chain small)))
+    ];
+  }
 
-  position_none : ((k : ℕ) → k < length xs → p (get_or xs k []) ≡ false) → position p xs ≡ None
-  position_none all =
-      ap (λ n. cond (ltb n (length xs)) (Some n) None)
-      (position_or_len_is p xs (length xs) [] (omega arith) all (λ h. absurd (omega arith)))
-      ∙ ap (λ b. cond b (Some (length xs)) None) (le-ltb (length xs) (length xs) (omega arith))
-
-  none_pass : position p xs ≡ None → (k : ℕ) → k < length xs → p (get_or xs k []) ≡ false
-  none_pass none k h = go (cases_lt (position_or_len p xs) (length xs))
+  pub linked_later : (text newest older : List ℕ) → AreLinked texts (length texts) chains newest older
+      → AreLinked (texts ++ text ∷ []) (length texts) chains newest (older ++ 0 ∷ [])
+  linked_later text newest older are = record {
+    size = omega (arith, are.size, length-append {A = List ℕ}, length-append {A = ℕ});
+    some_chains = are.some_chains;
+    chains_are = are.chains_are;
+    newest_is = λ c h. same_link at (chain_at (texts ++ text ∷ []) chains) c (length texts) (get_or newest c 0) same
+        (are.newest_is c h);
+    older_is = λ k h. rw (get_or_append_left older (0 ∷ []) 0 k (omega (arith, h, are.size)), sym (same k h))
+        (same_link at (chain_at (texts ++ text ∷ []) chains) (at k) k (get_or older k 0) (λ j l. same j (omega arith))
+        (are.older_is k h));
+  }
     where
-      go : (position_or_len p xs < length xs) ⊎ (length xs ≤ position_or_len p xs) → p (get_or xs k []) ≡ false
-      go (inl some) = let is = ap (λ b. cond b (Some (position_or_len p xs)) None) (lt-ltb (position_or_len p xs) (length xs)
-          some) in absurd (none-some (position_or_len p xs) (sym none ∙ is))
-      go (inr past) = fails_before_first p xs k [] (omega arith)
+      same : (k : ℕ) → k < length texts → at k ≡ chain_at (texts ++ text ∷ []) chains k
+      same k h = ap (chain_of chains) (sym (get_or_append_left texts (text ∷ []) [] k h))
+
+-- A walk down the chain of a text. The next text of the chain is the one at the link. The texts from there on are other
+-- texts.
+pub record IsWalk (texts : List (List ℕ)) (text : List ℕ) (chains link : ℕ) : Type 0 where
+  pub within : link ≤ length texts
+  pub there : (number : ℕ) → link ≡ number + 1 → chain_at texts chains number ≡ chain_of chains text
+  pub others : (number : ℕ) → link ≤ number → number < length texts → get_or texts number [] ≢ text
 
 module _ (texts : List (List ℕ)) (text : List ℕ) (chains : ℕ) where
-  abbrev is_here : ℕ → Bool
-  is_here = is_in_chain texts chains (chain_of chains text)
-
-  -- A walk down the chain of a text. `link` is one more than the number of the next text of the chain, or 0. The texts
-  -- from `link` on are other texts.
-  pub record IsWalk (link : ℕ) : Type 0 where
-    pub within : link ≤ length texts
-    pub there : last_in is_here link ≡ link
-    pub others : (i : ℕ) → link ≤ i → i < length texts → bytes_eq text (get_or texts i []) ≡ false
-
-  other : (i : ℕ) → is_here i ≡ false → bytes_eq text (get_or texts i []) ≡ false
-  other i apart = go (bytes_eq text (get_or texts i [])) refl
-    where
-      go : (b : Bool) → bytes_eq text (get_or texts i []) ≡ b → b ≡ false
-      go true e =
-          let same = (bytes_eq-Decides text (get_or texts i [])).0 e in
-          let here = eq-eqb (chain_of chains (get_or texts i [])) (chain_of chains text) (ap (chain_of chains) (sym same)) in
-          sym here ∙ apart
-      go false e = refl
-
   module _ {newest older : List ℕ} (are : AreLinked texts (length texts) chains newest older) where
-    pub walk_begins : (link : ℕ) → chain_of chains text < chains → link ≡ get_or newest (chain_of chains text) 0
-        → IsWalk link
+    pub walk_begins : (link : ℕ) → chain_of chains text < chains → get_or newest (chain_of chains text) 0 ≡ link
+        → IsWalk texts text chains link
     walk_begins link small e =
-        let is = e ∙ are.newest_is (chain_of chains text) small in
+        let is = subst (IsLink (chain_at texts chains) (chain_of chains text) (length texts)) e (are.newest_is _ small) in
         record {
-          within = omega (arith, is, last_within is_here (length texts));
-          there = ap (last_in is_here) is ∙ last_stays is_here (length texts) ∙ sym is;
-          others = λ i low h. other i (none_after is_here (length texts) i (omega (arith, is, low)) h);
+          within = is.within;
+          there = is.there;
+          others = λ k low h same. is.others k low h (ap (chain_of chains) same);
         }
 
-    pub walk_goes_on : (number next : ℕ) → IsWalk (suc number) → bytes_eq text (get_or texts number []) ≡ false
-        → next ≡ get_or older number 0 → IsWalk next × (next ≤ number)
-    walk_goes_on number next walk test e = (
-      record {
-        within = omega (arith, walk.within, small);
-        there = ap (last_in is_here) is ∙ last_stays is_here number ∙ sym is;
-        others = λ i low h. at i low h (cases_lt i number) (cases_lt number i);
-      },
-      small,
-    )
-      where
-        here : chain_of chains (get_or texts number []) ≡ chain_of chains text
-        here = eqb-true (chain_of chains (get_or texts number [])) (chain_of chains text) (last_passes is_here number walk.there)
+    pub walk_goes_on : (number link next : ℕ) → link ≡ number + 1 → IsWalk texts text chains link
+        → get_or texts number [] ≢ text → get_or older number 0 ≡ next → IsWalk texts text chains next × (next < link)
+    walk_goes_on number link next one walk other e =
+        let is = subst (IsLink (chain_at texts chains) (chain_at texts chains number) number) e
+          (are.older_is number (omega (arith, one, walk.within))) in
+        let here = walk.there number one in (
+          record {
+            within = omega (arith, is.within, one, walk.within);
+            there = λ k e. is.there k e ∙ here;
+            others = λ k low h same. elim (cases_lt k number) [
+              | inl before ↦ is.others k low before (ap (chain_of chains) same ∙ sym here)
+              | inr past ↦ elim (cases_lt number k) [
+                | inl after ↦ walk.others k (omega arith) h same
+                | inr last ↦ other (ap (λ j. get_or texts j []) (omega arith) ∙ same)
+              ]
+            ];
+          },
+          omega (arith, is.within, one),
+        )
 
-        is : next ≡ last_in is_here number
-        is = e ∙ are.older_is number walk.within ∙ ap (λ c. last_in (is_in_chain texts chains c) number) here
+  pub not_found : IsWalk texts text chains 0 → number_in texts text ≡ None
+  not_found walk = go (number_in texts text) refl
+    where
+      go : (o : Option ℕ) → number_in texts text ≡ o → o ≡ None
+      go None is = refl
+      go (Some k) is =
+          let at = position-Some (bytes_eq text) texts k [] is in
+          absurd (walk.others k (omega arith) at.0 (sym ((bytes_eq-Decides text (get_or texts k [])).0 at.1)))
 
-        small : next ≤ number
-        small = omega (arith, is, last_within is_here number)
+none_pass : (texts : List (List ℕ)) (text : List ℕ) → number_in texts text ≡ None → (k : ℕ) → k < length texts
+    → get_or texts k [] ≢ text
+none_pass texts text none k h same = go (cases_lt first (length texts))
+  where
+    first : ℕ
+    first = position_or_len (bytes_eq text) texts
 
-        at : (i : ℕ) → next ≤ i → i < length texts → (i < number) ⊎ (number ≤ i) → (number < i) ⊎ (i ≤ number)
-            → bytes_eq text (get_or texts i []) ≡ false
-        at i low h (inl before) _ = other i (none_after is_here number i (omega (arith, is, low)) before)
-        at i low h (inr past) (inl after) = walk.others i (omega arith) h
-        at i low h (inr past) (inr last) = ap (λ k. bytes_eq text (get_or texts k [])) (omega arith) ∙ test
+    go : (position_or_len (bytes_eq text) texts < length texts) ⊎ (length texts ≤ position_or_len (bytes_eq text) texts) → ⊥
+    go (inl some) = let is = ap (λ b. cond b (Some (position_or_len (bytes_eq text) texts)) None) (lt-ltb (position_or_len (bytes_eq text) texts) (length texts)
+        some) in none-some (position_or_len (bytes_eq text) texts) (sym none ∙ is)
+    go (inr past) = not_from_Decides (bytes_eq text (get_or texts k [])) (bytes_eq-Decides text (get_or texts k []))
+        (fails_before_first (bytes_eq text) texts k [] (omega arith)) (sym same)
 
-  pub not_found : IsWalk 0 → number_in texts text ≡ None
-  not_found walk = position_none (bytes_eq text) texts (λ k h. walk.others k (omega arith) h)
-
-pub found : (texts : List (List ℕ)) (text : List ℕ) (number : ℕ) → AreDistinct texts → number < length texts
-    → bytes_eq text (get_or texts number []) ≡ true → number_in texts text ≡ Some number
-found texts text number are h e =
-    ap (number_in texts) ((bytes_eq-Decides text (get_or texts number [])).0 e) ∙ are number h
-
-module _ (p : List ℕ → Bool) (xs : List (List ℕ)) (x : List ℕ) where
-  stays : (k : ℕ) → k < length xs → p (get_or (xs ++ x ∷ []) k []) ≡ p (get_or xs k [])
-  stays k h = ap p (get_or_append_left xs (x ∷ []) [] k h)
-
-  position_later : (i : ℕ) → position p xs ≡ Some i → position p (xs ++ x ∷ []) ≡ Some i
-  position_later i is =
-      let at = position-Some p xs i [] is in
-      position_at p (xs ++ x ∷ []) i (omega (arith, at.0, length-append xs (x ∷ [])))
-      (λ k h. stays k (omega (arith, h, at.0)) ∙ at.2 k h) (stays i at.0 ∙ at.1)
-
-  position_new : position p xs ≡ None → p x ≡ true → position p (xs ++ x ∷ []) ≡ Some (length xs)
-  position_new none passes =
-      position_at p (xs ++ x ∷ []) (length xs) (omega (arith, length-append xs (x ∷ [])))
-      (λ k h. stays k h ∙ none_pass p xs none k h) (ap p (get_or-append_seam xs x [] []) ∙ passes)
+pub found : (texts : List (List ℕ)) (text : List ℕ) (k : ℕ) → AreDistinct texts → k < length texts
+    → get_or texts k [] ≡ text → number_in texts text ≡ Some k
+found texts text k are h same = go (number_in texts text) refl
+  where
+    go : (o : Option ℕ) → number_in texts text ≡ o → o ≡ Some k
+    go None none = absurd (none_pass texts text none k h same)
+    go (Some j) is =
+        let at = position-Some (bytes_eq text) texts j [] is in
+        let first = (bytes_eq-Decides text (get_or texts j [])).0 at.1 in
+        ap Some (elim (cases_lt j k) [
+          | inl less ↦ absurd (are j k less h (sym (same ∙ first)))
+          | inr past ↦ elim (cases_lt k j) [
+            | inl less ↦ absurd (are k j less at.0 (same ∙ first))
+            | inr low ↦ omega arith
+          ]
+        ])
 
 pub distinct_more : (texts : List (List ℕ)) (text : List ℕ) → AreDistinct texts → number_in texts text ≡ None
     → AreDistinct (texts ++ text ∷ [])
-distinct_more texts text are none i h = go (cases_lt i (length texts))
+distinct_more texts text are none k later less h same =
+    elim (cases_lt later (length texts)) [
+      | inl before ↦ are k later less before (left k (omega arith) ∙ same ∙ sym (left later before))
+      | inr past ↦
+        let last : later ≡ length texts = omega (arith, h, past, length-append texts (text ∷ [])) in
+        none_pass texts text none k (omega arith) (left k (omega arith) ∙ same
+          ∙ ap (λ i. get_or (texts ++ text ∷ []) i []) last ∙ get_or-append_seam texts text [] [])
+    ]
   where
-    go : (i < length texts) ⊎ (length texts ≤ i) → number_in (texts ++ text ∷ []) (get_or (texts ++ text ∷ []) i []) ≡ Some i
-    go (inl before) =
-        let t = get_or texts i [] in
-        ap (number_in (texts ++ text ∷ [])) (get_or_append_left texts (text ∷ []) [] i before)
-        ∙ position_later (bytes_eq t) texts text i (are i before)
-    go (inr past) =
-        let last : i ≡ length texts = omega (arith, h, past, length-append texts (text ∷ [])) in
-        ap (λ k. number_in (texts ++ text ∷ []) (get_or (texts ++ text ∷ []) k [])) last
-        ∙ ap (number_in (texts ++ text ∷ [])) (get_or-append_seam texts text [] [])
-        ∙ position_new (bytes_eq text) texts text none ((bytes_eq-Decides text text).1 refl) ∙ ap Some (sym last)
+    left : (i : ℕ) → i < length texts → get_or texts i [] ≡ get_or (texts ++ text ∷ []) i []
+    left i h = sym (get_or_append_left texts (text ∷ []) [] i h)

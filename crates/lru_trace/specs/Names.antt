@@ -1,5 +1,5 @@
 -- The texts of keys, and their numbers.
-use Rattle.std.specs.Prelude.{◌≡◌, ℕ, zero, suc, ◌-◌, ◌/◌, ◌%◌, ◌^◌, ◌≤◌, ◌<◌, ◌==◌, Bool, cond, List, [], ◌∷◌, take, drop, length, get_or, Option, Some, bit_xor}
+use Rattle.std.specs.Prelude.{◌≡◌, ◌≢◌, ℕ, ◌+◌, ◌-◌, ◌/◌, ◌%◌, ◌^◌, ◌≤◌, ◌<◌, List, [], ◌∷◌, take, drop, length, get_or, Option, bit_xor}
 use Rattle.std.specs.List.{position}
 use Rattle.std.specs.Str.{bytes_eq}
 use Rattle.lru_trace.specs.Samples.{hash}
@@ -21,17 +21,20 @@ AreEnds start (end ∷ ends) last = (start ≤ end) × AreEnds end ends last
 unfoldable pub chain_of : ℕ → List ℕ → ℕ
 chain_of chains text = bit_xor (hash text) (hash text / 2 ^ 32) % chains
 
--- one more than the last of the numbers below `n` that passes the test; 0 if none does
-abbrev pub last_in : (ℕ → Bool) → ℕ → ℕ
-last_in test zero = 0
-last_in test (suc n) = cond (test n) (suc n) (last_in test n)
+-- A link is 0, or one more than the number of a text. This link leads to the last of the first `n` texts that stands in
+-- the chain; it is 0 if none of them does.
+pub record IsLink (chain_at : ℕ → ℕ) (chain n link : ℕ) : Type 0 where
+  pub within : link ≤ n
+  pub there : (number : ℕ) → link ≡ number + 1 → chain_at number ≡ chain
+  pub others : (number : ℕ) → link ≤ number → number < n → chain_at number ≢ chain
 
 module _ (texts : List (List ℕ)) where
   abbrev pub AreDistinct : Type 0
-  AreDistinct = (number : ℕ) → number < length texts → number_in texts (get_or texts number []) ≡ Some number
+  AreDistinct = (number later : ℕ) → number < later → later < length texts
+      → get_or texts number [] ≢ get_or texts later []
 
-  abbrev pub is_in_chain : ℕ → ℕ → ℕ → Bool
-  is_in_chain chains chain number = chain_of chains (get_or texts number []) == chain
+  abbrev pub chain_at : ℕ → ℕ → ℕ
+  chain_at chains number = chain_of chains (get_or texts number [])
 
   -- the first `n` texts stand in chains: `newest` leads to the last text of each chain, and `older` from each text to the
   -- text before it in its chain
@@ -39,9 +42,9 @@ module _ (texts : List (List ℕ)) where
     pub size : length older ≡ length texts
     pub some_chains : 0 < chains
     pub chains_are : length newest ≡ chains
-    pub newest_is : (chain : ℕ) → chain < chains → get_or newest chain 0 ≡ last_in (is_in_chain chains chain) n
+    pub newest_is : (chain : ℕ) → chain < chains → IsLink (chain_at chains) chain n (get_or newest chain 0)
     pub older_is : (number : ℕ) → number < n
-        → get_or older number 0 ≡ last_in (is_in_chain chains (chain_of chains (get_or texts number []))) number
+        → IsLink (chain_at chains) (chain_at chains number) number (get_or older number 0)
 
   -- what is known of `Names` (src/names.rt)
   pub record AreNames (newest older : List ℕ) : Type 0 where

@@ -140,7 +140,7 @@ impl Names {
         let mut link = self.newest[chain_of(text, self.newest.len())] as usize;
         while link > 0 {
             let number = link - 1;
-            if text == self.texts.get(number) {
+            if self.texts.get(number) == text {
                 return Some(number);
             }
             link = self.older[number] as usize;

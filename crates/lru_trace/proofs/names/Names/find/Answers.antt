@@ -1,6 +1,8 @@
-use Rattle.std.proofs.Common.{◌≡◌, ◌-◌, ◌≤◌, ◌<◌, suc, false, length, get_or, arith, refl, sym, ap, subst, ◌∙◌, Some}
-use Rattle.std.specs.Str.{bytes_eq}
+use Rattle.std.proofs.Common.{◌≡◌, ◌-◌, ◌+◌, ◌<◌, length, get_or, arith, refl, sym, ap, subst, ◌∙◌}
+use Rattle.std.proofs.lemmas.Bool.Decides.{not_from_Decides}
 use Rattle.std.proofs.lemmas.List.{get_or_read_under}
+use Rattle.std.proofs.lemmas.Slice.Eq.{bytes_eq-Decides}
+use Rattle.std.specs.Str.{bytes_eq}
 use Rattle.lru_trace.specs.Names.{number_in, chain_of}
 use Rattle.lru_trace.proofs.NamesChains.{IsWalk, walk_begins, walk_goes_on, found, not_found}
 use Rattle.lru_trace.proofs.names.Names.find.Goals.{After-index-in-loop-link}
@@ -15,8 +17,8 @@ loop-link-init c =
     let chain = c.chain_of.ensures.is ∙ ap (λ n. chain_of n text) size in
     let small : c.chain_of.result < chains = omega (arith, c.chain_of.ensures.within, size) in
     walk_begins v.texts text chains c.self.invariant.linked c.index.result.now (omega (arith, chain, small))
-    (get_or_read_under v.newest.items c.chain_of.result chains c.index.result.now 0 c.index.ensures small refl
-    ∙ ap (λ k. get_or v.newest.items k 0) chain)
+    (sym (get_or_read_under v.newest.items c.chain_of.result chains c.index.result.now 0 c.index.ensures small refl
+    ∙ ap (λ k. get_or v.newest.items k 0) chain))
 
 pub get-requires : goal.get-requires
 get-requires c = omega (arith, c.loop-link.invariant.within, c.loop-link-test.true)
@@ -30,16 +32,14 @@ goes_on : (c : After-index-in-loop-link) → let next = c.index-in-loop-link.res
 goes_on c =
     let v = c.self.inside in
     let text = c.as_bytes-text.result.now in
-    let chains = length v.newest.items in
     let number = c.loop-link.link - 1 in
-    let one : c.loop-link.link ≡ suc number = omega (arith, c.loop-link-test.true) in
-    let small : number < length v.older.items = omega (arith, c.loop-link.invariant.within, c.self.invariant.linked.size, one) in
-    let next = walk_goes_on v.texts text chains c.self.invariant.linked number c.index-in-loop-link.result.now
-    (subst (IsWalk v.texts text chains) one c.loop-link.invariant)
-    (ap (bytes_eq text) (sym c.get.ensures) ∙ sym c.if-eq.ensures)
-    (get_or_read_under v.older.items number (length v.older.items) c.index-in-loop-link.result.now 0
-    c.index-in-loop-link.ensures small refl) in
-    (next.0, omega (arith, next.1, one))
+    let next = c.index-in-loop-link.result.now in
+    let many = length v.older.items in
+    let small : number < many = omega (arith, c.loop-link.invariant.within, c.loop-link-test.true, c.self.invariant.linked.size) in
+    walk_goes_on v.texts text (length v.newest.items) c.self.invariant.linked number c.loop-link.link next
+    (omega (arith, c.loop-link-test.true)) c.loop-link.invariant
+    (λ same. not_from_Decides _ (bytes_eq-Decides c.get.result.now text) (sym c.if-eq.ensures) (c.get.ensures ∙ same))
+    (sym (get_or_read_under v.older.items number many next 0 c.index-in-loop-link.ensures small refl))
 
 pub loop-link-preserved : goal.loop-link-preserved
 loop-link-preserved c = (goes_on (goal.at.loop-link-preserved c).After-index-in-loop-link).0
@@ -49,18 +49,15 @@ loop-link-smaller c = (goes_on (goal.at.loop-link-smaller c).After-index-in-loop
 
 pub returns-then-eq : goal.returns-then-eq
 returns-then-eq c =
-    let v = c.self.inside in
     let text = c.as_bytes-text.result.now in
-    let number = c.loop-link.link - 1 in
-    sym (found v.texts text number c.self.invariant.distinct (omega (arith, c.loop-link.invariant.within, c.loop-link-test.true))
-    (ap (bytes_eq text) (sym c.get.ensures) ∙ sym c.if-eq.ensures))
+    sym (found c.self.inside.texts text (c.loop-link.link - 1) c.self.invariant.distinct
+    (omega (arith, c.loop-link.invariant.within, c.loop-link-test.true))
+    (sym c.get.ensures ∙ (bytes_eq-Decides c.get.result.now text).0 (sym c.if-eq.ensures)))
     ∙ (λ i. number_in (c.self.view_is i) (c.as_bytes-text.ensures.value i))
 
 pub returns : goal.returns
 returns c =
-    let v = c.self.inside in
-    let text = c.as_bytes-text.result.now in
-    let chains = length v.newest.items in
+    let (texts, text, chains) = (c.self.inside.texts, c.as_bytes-text.result.now, length c.self.inside.newest.items) in
     let ended : c.loop-link.link ≡ 0 = omega (arith, c.loop-link-test.false) in
-    sym (not_found v.texts text chains (subst (IsWalk v.texts text chains) ended c.loop-link.invariant))
+    sym (not_found texts text chains (subst (IsWalk texts text chains) ended c.loop-link.invariant))
     ∙ (λ i. number_in (c.self.view_is i) (c.as_bytes-text.ensures.value i))
