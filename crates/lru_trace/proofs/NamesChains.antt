@@ -1,4 +1,4 @@
-use Rattle.std.proofs.Common.{◌≡◌, ◌≢◌, ℕ, ◌+◌, ◌≤◌, ◌<◌, Bool, true, false, cond, List, [], ◌∷◌, ◌++◌, length, get_or, set}
+use Rattle.std.proofs.Common.{◌≡◌, ◌≢◌, ℕ, ◌+◌, ◌≤◌, ◌<◌, cond, List, [], ◌∷◌, ◌++◌, length, get_or, set}
 use Rattle.std.proofs.Common.{replicate, Option, Some, None, refl, sym, ap, ◌∙◌, arith, inl, inr, ◌⊎◌, subst}
 use Rattle.std.proofs.Math.Seq.{get_or-append_seam}
 use Rattle.std.proofs.lemmas.Bool.{cases_lt, lt-ltb}
@@ -73,18 +73,18 @@ module _ (texts : List (List ℕ)) (chains : ℕ) where
     chains_are = length-set newest chain (n + 1) ∙ are.chains_are;
     newest_is = λ c h. elim (eqb_tells chain c) [
       | inl same ↦ subst (IsLink at c (n + 1))
-        (sym (get_or-set_at newest chain c (n + 1) 0 (sym same.1) (omega (arith, small, are.chains_are))))
-        (new_link at c n (sym is ∙ same.1))
+          (sym (get_or-set_at newest chain c (n + 1) 0 (sym same.1) (omega (arith, small, are.chains_are))))
+          (new_link at c n (sym is ∙ same.1))
       | inr other ↦ subst (IsLink at c (n + 1)) (sym (get_or-set_other newest chain c (n + 1) 0 (λ e. other.1 (sym e))))
-        (link_stays at c n (get_or newest c 0) (λ e. other.1 (is ∙ e)) (are.newest_is c h))
+          (link_stays at c n (get_or newest c 0) (λ e. other.1 (is ∙ e)) (are.newest_is c h))
     ];
     older_is = λ k h. elim (cases_lt k n) [
       | inl before ↦ subst (IsLink at (at k) k) (sym (get_or-set_other older n k (get_or newest chain 0) 0 (omega arith)))
-        (are.older_is k before)
+          (are.older_is k before)
       | inr last ↦
-        let same : k ≡ n = omega arith in
-        let read = get_or-set_at older n k (get_or newest chain 0) 0 same (omega (arith, within, are.size)) in
-        subst (λ l. IsLink at (at k) k l) (sym read) (subst (λ j. IsLink at (at j) j (get_or newest chain 0)) (sym same)
+          let same : k ≡ n = omega arith in
+          let read = get_or-set_at older n k (get_or newest chain 0) 0 same (omega (arith, within, are.size)) in
+          subst (λ l. IsLink at (at k) k l) (sym read) (subst (λ j. IsLink at (at j) j (get_or newest chain 0)) (sym same)
           (subst (λ c. IsLink at c n (get_or newest chain 0)) is (are.newest_is chain small)))
     ];
   }
@@ -128,7 +128,7 @@ module _ (texts : List (List ℕ)) (text : List ℕ) (chains : ℕ) where
         → get_or texts number [] ≢ text → get_or older number 0 ≡ next → IsWalk texts text chains next × (next < link)
     walk_goes_on number link next one walk other e =
         let is = subst (IsLink (chain_at texts chains) (chain_at texts chains number) number) e
-          (are.older_is number (omega (arith, one, walk.within))) in
+        (are.older_is number (omega (arith, one, walk.within))) in
         let here = walk.there number one in (
           record {
             within = omega (arith, is.within, one, walk.within);
@@ -144,8 +144,8 @@ module _ (texts : List (List ℕ)) (text : List ℕ) (chains : ℕ) where
           omega (arith, is.within, one),
         )
 
-  pub not_found : IsWalk texts text chains 0 → number_in texts text ≡ None
-  not_found walk = go (number_in texts text) refl
+  pub not_found : (link : ℕ) → link ≡ 0 → IsWalk texts text chains link → number_in texts text ≡ None
+  not_found link ended walk = go (number_in texts text) refl
     where
       go : (o : Option ℕ) → number_in texts text ≡ o → o ≡ None
       go None is = refl
@@ -189,8 +189,8 @@ distinct_more texts text are none k later less h same =
     elim (cases_lt later (length texts)) [
       | inl before ↦ are k later less before (left k (omega arith) ∙ same ∙ sym (left later before))
       | inr past ↦
-        let last : later ≡ length texts = omega (arith, h, past, length-append texts (text ∷ [])) in
-        none_pass texts text none k (omega arith) (left k (omega arith) ∙ same
+          let last : later ≡ length texts = omega (arith, h, past, length-append texts (text ∷ [])) in
+          none_pass texts text none k (omega arith) (left k (omega arith) ∙ same
           ∙ ap (λ i. get_or (texts ++ text ∷ []) i []) last ∙ get_or-append_seam texts text [] [])
     ]
   where

@@ -1,6 +1,6 @@
 //! The texts of keys.
 ghost use Rattle.std.specs.Prelude.{◌≡◌, ◌+◌, ◌^◌, ◌<◌, ◌≤◌, [], ◌∷◌, ◌++◌, length, get_or, OnOk, OnErr, IfOk, None};
-ghost use Rattle.lru_trace.specs.Names.{number_in, chain_of, AreLinked};
+ghost use Rattle.lru_trace.specs.Names.{number_in, texts, AreEnds, chain_of, AreLinked};
 
 use crate::samples::hash;
 use std::alloc::{AllocError, Global};
@@ -26,12 +26,20 @@ impl Model for Texts {
     ghost invariant = { λ t. AreEnds 0 t.ends.items (length t.bytes.items) };
 }
 
-/// Returns where a text starts.
 fn start_of(ends: &[usize], number: usize) -> usize
     requires { number ≤ length ends.now }
     ensures { result ≡ get_or (0 ∷ ends.now) number 0 }
 {
     if number == 0 { 0 } else { ends[number - 1] }
+}
+
+#[tactic(auto, using(crate::proofs::NamesTexts::text_at))]
+fn text_of<'a>(bytes: &'a [u8], ends: &[usize], number: usize) -> &'a [u8]
+    requires within { number < length ends.now }
+    requires are { AreEnds 0 ends.now (length bytes.now) }
+    ensures { result.now ≡ get_or (texts 0 ends.now bytes.now) number [] }
+{
+    &bytes[start_of(ends, number)..ends[number]]
 }
 
 impl Texts {
@@ -54,7 +62,7 @@ impl Texts {
         requires { number < length self.now }
         ensures { result.now ≡ get_or self.now number [] }
     {
-        &self.bytes[start_of(&self.ends, number)..self.ends[number]]
+        text_of(&self.bytes, &self.ends, number)
     }
 
     fn push(&mut self, text: &[u8]) -> Result<(), AllocError>

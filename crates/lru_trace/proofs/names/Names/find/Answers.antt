@@ -1,8 +1,7 @@
-use Rattle.std.proofs.Common.{◌≡◌, ◌-◌, ◌+◌, ◌<◌, length, get_or, arith, refl, sym, ap, subst, ◌∙◌}
+use Rattle.std.proofs.Common.{◌≡◌, ◌-◌, ◌<◌, length, get_or, arith, refl, sym, ap, ◌∙◌}
 use Rattle.std.proofs.lemmas.Bool.Decides.{not_from_Decides}
 use Rattle.std.proofs.lemmas.List.{get_or_read_under}
 use Rattle.std.proofs.lemmas.Slice.Eq.{bytes_eq-Decides}
-use Rattle.std.specs.Str.{bytes_eq}
 use Rattle.lru_trace.specs.Names.{number_in, chain_of}
 use Rattle.lru_trace.proofs.NamesChains.{IsWalk, walk_begins, walk_goes_on, found, not_found}
 use Rattle.lru_trace.proofs.names.Names.find.Goals.{After-index-in-loop-link}
@@ -57,7 +56,6 @@ returns-then-eq c =
 
 pub returns : goal.returns
 returns c =
-    let (texts, text, chains) = (c.self.inside.texts, c.as_bytes-text.result.now, length c.self.inside.newest.items) in
-    let ended : c.loop-link.link ≡ 0 = omega (arith, c.loop-link-test.false) in
-    sym (not_found texts text chains (subst (IsWalk texts text chains) ended c.loop-link.invariant))
+    sym (not_found c.self.inside.texts c.as_bytes-text.result.now (length c.self.inside.newest.items) c.loop-link.link
+    (omega (arith, c.loop-link-test.false)) c.loop-link.invariant)
     ∙ (λ i. number_in (c.self.view_is i) (c.as_bytes-text.ensures.value i))
