@@ -36,5 +36,5 @@ invariant_of-self-2 c =
       few = omega (arith, number, c.if-number.false);
       linked = subst (λ n. AreLinked c.push.new.self n (length c.add_to_chain.new.newest) c.add_to_chain.new.newest c.add_to_chain.new.older) number
           c.add_to_chain.ensures;
-      distinct = subst AreDistinct (sym is) (distinct_more v.texts text c.self-2.invariant.distinct none);
+      distinct = subst AreDistinct (sym is) (distinct_more c.self-2.invariant text none);
     })
