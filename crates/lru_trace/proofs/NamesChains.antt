@@ -1,5 +1,5 @@
-use Rattle.std.proofs.Common.{◌≡◌, ◌≢◌, ℕ, ◌+◌, ◌-◌, ◌≤◌, ◌<◌, true, false, List, [], ◌∷◌, ◌++◌, length, get_or, set}
-use Rattle.std.proofs.Common.{replicate, Option, Some, None, refl, ap, arith}
+use Rattle.std.proofs.Common.{◌≡◌, ◌≢◌, ℕ, ◌+◌, ◌-◌, ◌*◌, ◌^◌, ◌≤◌, ◌<◌, true, false, List, [], ◌∷◌, ◌++◌, length, get_or, set}
+use Rattle.std.proofs.Common.{replicate, Option, Some, None, refl, sym, ap, subst, arith}
 use Rattle.std.proofs.Math.Seq.{get_or-append_seam}
 use Rattle.std.proofs.lemmas.Bool.Decides.{nat_tests}
 use Rattle.std.proofs.lemmas.Grind.{get_or-set_at, get_or_default_zero, common_steps}
@@ -10,19 +10,11 @@ use Rattle.std.proofs.lemmas.Slice.Eq.{bytes_eq-Decides}
 use Rattle.std.specs.Str.{bytes_eq}
 use Rattle.lru_trace.specs.Names.{number_in, chain_of, chain_at, IsLink, AreDistinct, AreLinked, AreNames}
 
-module _ (texts : List (List ℕ)) (chains : ℕ) where
-  pub none_linked : (newest older : List ℕ) → newest ≡ replicate chains 0 → 0 < chains → length older ≡ length texts
-      → AreLinked texts 0 (length newest) newest older
-  none_linked newest older none some size = grind (arith, common_steps)
-
-  pub linked_more : (n chain : ℕ) (newest older : List ℕ) → AreLinked texts n chains newest older → n < length texts
-      → chain < chains → chain ≡ chain_at texts chains n
-      → AreLinked texts (n + 1) chains (set newest chain (n + 1)) (set older n (get_or newest chain 0))
-  linked_more n chain newest older are within small is = grind (arith, length-set, get_or-set_at, get_or-set_other)
-
-  pub linked_later : (text newest older : List ℕ) → AreLinked texts (length texts) chains newest older
-      → AreLinked (texts ++ text ∷ []) (length texts) chains newest (older ++ 0 ∷ [])
-  linked_later text newest older are = grind (arith, length-append, get_or_append_left)
+pub linked_more : (texts : List (List ℕ)) (n chain : ℕ) (newest older : List ℕ)
+    → AreLinked texts n (length newest) newest older → n < length texts → chain < length newest
+    → chain ≡ chain_at texts (length newest) n
+    → AreLinked texts (n + 1) (length newest) (set newest chain (n + 1)) (set older n (get_or newest chain 0))
+linked_more texts n chain newest older are within small is = grind (arith, length-set, get_or-set_at, get_or-set_other)
 
 -- A walk down the chain of a text. The next text of the chain is the one at the link. The texts from there on are other
 -- texts.
@@ -30,6 +22,17 @@ pub record IsWalk (texts : List (List ℕ)) (text : List ℕ) (chains link : ℕ
   pub within : link ≤ length texts
   pub there : (number : ℕ) → link ≡ number + 1 → chain_at texts chains number ≡ chain_of chains text
   pub others : (number : ℕ) → link ≤ number → number < length texts → get_or texts number [] ≢ text
+
+module _ {texts : List (List ℕ)} {newest older : List ℕ} (are : AreNames texts newest older) where
+  -- with new chains that contain no texts
+  pub none_linked : {chains : ℕ} {fresh : List ℕ} → chains ≡ length newest → fresh ≡ replicate (2 * chains) 0
+      → AreLinked texts 0 (length fresh) fresh older
+  none_linked size none = let linked = are.linked in grind (arith, common_steps)
+
+  -- with new chains that contain all texts
+  pub all_linked : {now : List (List ℕ)} {n : ℕ} {newest_now older_now : List ℕ} → now ≡ texts → n ≡ length texts
+      → AreLinked now n (length newest_now) newest_now older_now → AreNames now newest_now older_now
+  all_linked is all linked = grind arith
 
 module _ {texts : List (List ℕ)} {newest older : List ℕ} (are : AreNames texts newest older) (text : List ℕ) where
   pub walk_begins : {chains chain link : ℕ} → chains ≡ length newest → chain ≡ chain_of chains text → chain < chains
@@ -62,10 +65,24 @@ module _ {texts : List (List ℕ)} {newest older : List ℕ} (are : AreNames tex
   not_found None walk ended is = refl
   not_found (Some k) walk ended is = let at = named k is in absurd (walk.others k (omega arith) at.0 at.1)
 
-  pub distinct_more : number_in texts text ≡ None → AreDistinct (texts ++ text ∷ [])
+  distinct_more : number_in texts text ≡ None → AreDistinct (texts ++ text ∷ [])
   distinct_more none k later less h same =
       let other = unnamed none in
       let distinct = are.distinct in
       let end = get_or-append_seam texts text [] [] in
       let left = λ (i : ℕ). get_or_append_left texts (text ∷ []) [] i in
       grind (arith, length-append)
+
+  pub linked_later : {now : List (List ℕ)} {n : ℕ} {newest_now older_now : List ℕ} → now ≡ texts ++ text ∷ []
+      → n ≡ length texts → newest_now ≡ newest → older_now ≡ older ++ 0 ∷ []
+      → AreLinked now n (length newest_now) newest_now older_now
+  linked_later is all same more = let linked = are.linked in grind (arith, length-append, get_or_append_left)
+
+  pub named_more : {now : List (List ℕ)} {n : ℕ} {newest_now older_now : List ℕ} → now ≡ texts ++ text ∷ []
+      → number_in texts text ≡ None → n ≡ length texts → n < 2 ^ 32 - 1
+      → AreLinked now (n + 1) (length newest_now) newest_now older_now → AreNames now newest_now older_now
+  named_more is none all few linked = record {
+    few = grind (arith, length-append);
+    linked = grind (arith, length-append);
+    distinct = subst AreDistinct (sym is) (distinct_more none);
+  }
