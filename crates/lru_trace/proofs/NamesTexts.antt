@@ -42,8 +42,11 @@ text_more start (end ∷ ends) bytes text are =
     let more = text_more end ends bytes text are.1 in
     ((are.0, more.0), (λ i. first i ∷ more.1 i))
 
-pub pushed : (ends bytes text ends_now bytes_now : List ℕ) (end : ℕ) → bytes_now ≡ bytes ++ text
-    → ends_now ≡ ends ++ end ∷ [] → end ≡ length bytes_now → AreEnds 0 ends (length bytes)
+pub pushed : (ends bytes text : List ℕ) {reserved ends_now bytes_now : List ℕ} {end : ℕ} → AreEnds 0 ends (length bytes)
+    → reserved ≡ ends → bytes_now ≡ bytes ++ text → end ≡ length bytes_now → ends_now ≡ reserved ++ end ∷ []
     → AreEnds 0 ends_now (length bytes_now) × (texts 0 ends_now bytes_now ≡ texts 0 ends bytes ++ text ∷ [])
-pushed ends bytes text ends_now bytes_now end b e at are =
-    rw (e, at, b) (text_more 0 ends bytes text are)
+pushed ends bytes text are kept put at is = rw (is, kept, at, put) (text_more 0 ends bytes text are)
+
+pub bounds : (ends bytes : List ℕ) {number start : ℕ} → AreEnds 0 ends (length bytes) → number < length ends
+    → start ≡ get_or (0 ∷ ends) number 0 → let end = get_or ends number 0 in (start ≤ end) × (end ≤ length bytes)
+bounds ends bytes {number} are h is = let at = text_at 0 ends bytes number are h in (omega (arith, is, at.1), at.2)

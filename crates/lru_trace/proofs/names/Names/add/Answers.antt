@@ -21,9 +21,9 @@ pub invariant_of-self-2 : goal.invariant_of-self-2
 invariant_of-self-2 c =
     let before = (goal.at.invariant_of-self-2 c).After-push_reserved in
     let newest = with_items_is c.self-2.inside.newest c.add_to_chain.new.newest
-      (omega (arith, c.add_to_chain.auto.newest, c.deref_mut.ensures.len)) in
+    (omega (arith, c.add_to_chain.auto.newest, c.deref_mut.ensures.len)) in
     let older = with_items_is c.push_reserved.new.self c.add_to_chain.new.older
-      (omega (arith, c.add_to_chain.auto.older, c.deref_mut-2.ensures.len)) in
+    (omega (arith, c.add_to_chain.auto.older, c.deref_mut-2.ensures.len)) in
     rw (newest, older) (named_more c.self-2.invariant c.as_bytes.result.now c.in_ok-push.ensures.ok
     ((λ i. number_in (texts_are before i) (c.as_bytes.ensures.value i)) ∙ c.requires) (number_is before)
     (omega (arith, c.if-number.false)) c.add_to_chain.ensures)

@@ -22,9 +22,9 @@ pub loop-number-preserved : goal.loop-number-preserved
 loop-number-preserved c =
     let s = c.loop-number in
     let newest = with_items_is s.newest c.add_to_chain.new.newest
-      (omega (arith, c.add_to_chain.auto.newest, c.deref_mut.ensures.len)) in
+    (omega (arith, c.add_to_chain.auto.newest, c.deref_mut.ensures.len)) in
     let older = with_items_is s.self-inside.older c.add_to_chain.new.older
-      (omega (arith, c.add_to_chain.auto.older, c.deref_mut-in-loop-number.ensures.len)) in
+    (omega (arith, c.add_to_chain.auto.older, c.deref_mut-in-loop-number.ensures.len)) in
     (s.invariant.0, rw (newest, older) c.add_to_chain.ensures)
 
 pub invariant_of-self : goal.invariant_of-self
