@@ -11,9 +11,9 @@ use Rattle.std.specs.Str.{bytes_eq}
 use Rattle.lru_trace.specs.Names.{number_in, chain_of, chain_at, IsLink, AreDistinct, AreLinked, AreNames}
 
 pub linked_more : (texts : List (List ℕ)) (n chain : ℕ) (newest older : List ℕ)
-    → AreLinked texts n (length newest) newest older → n < length texts → chain < length newest
+    → AreLinked texts n newest older → n < length texts → chain < length newest
     → chain ≡ chain_at texts (length newest) n
-    → AreLinked texts (n + 1) (length newest) (set newest chain (n + 1)) (set older n (get_or newest chain 0))
+    → AreLinked texts (n + 1) (set newest chain (n + 1)) (set older n (get_or newest chain 0))
 linked_more texts n chain newest older are within small is = grind (arith, length-set, get_or-set_at, get_or-set_other)
 
 -- A walk down the chain of a text. The next text of the chain is the one at the link. The texts from there on are other
@@ -26,12 +26,12 @@ pub record IsWalk (texts : List (List ℕ)) (text : List ℕ) (chains link : ℕ
 module _ {texts : List (List ℕ)} {newest older : List ℕ} (are : AreNames texts newest older) where
   -- with new chains that contain no texts
   pub none_linked : {chains : ℕ} {fresh : List ℕ} → chains ≡ length newest → fresh ≡ replicate (2 * chains) 0
-      → AreLinked texts 0 (length fresh) fresh older
+      → AreLinked texts 0 fresh older
   none_linked size none = let linked = are.linked in grind (arith, common_steps)
 
   -- with new chains that contain all texts
   pub all_linked : {now : List (List ℕ)} {n : ℕ} {newest_now older_now : List ℕ} → now ≡ texts → n ≡ length texts
-      → AreLinked now n (length newest_now) newest_now older_now → AreNames now newest_now older_now
+      → AreLinked now n newest_now older_now → AreNames now newest_now older_now
   all_linked is all linked = grind arith
 
 module _ {texts : List (List ℕ)} {newest older : List ℕ} (are : AreNames texts newest older) (text : List ℕ) where
@@ -75,12 +75,12 @@ module _ {texts : List (List ℕ)} {newest older : List ℕ} (are : AreNames tex
 
   pub linked_later : {now : List (List ℕ)} {n : ℕ} {newest_now older_now : List ℕ} → now ≡ texts ++ text ∷ []
       → n ≡ length texts → newest_now ≡ newest → older_now ≡ older ++ 0 ∷ []
-      → AreLinked now n (length newest_now) newest_now older_now
+      → AreLinked now n newest_now older_now
   linked_later is all same more = let linked = are.linked in grind (arith, length-append, get_or_append_left)
 
   pub named_more : {now : List (List ℕ)} {n : ℕ} {newest_now older_now : List ℕ} → now ≡ texts ++ text ∷ []
       → number_in texts text ≡ None → n ≡ length texts → n < 2 ^ 32 - 1
-      → AreLinked now (n + 1) (length newest_now) newest_now older_now → AreNames now newest_now older_now
+      → AreLinked now (n + 1) newest_now older_now → AreNames now newest_now older_now
   named_more is none all few linked = record {
     few = grind (arith, length-append);
     linked = grind (arith, length-append);

@@ -38,16 +38,16 @@ module _ (texts : List (List ℕ)) where
 
   -- the first `n` texts stand in chains: `newest` leads to the last text of each chain, and `older` from each text to the
   -- text before it in its chain
-  pub record AreLinked (n chains : ℕ) (newest older : List ℕ) : Type 0 where
+  pub record AreLinked (n : ℕ) (newest older : List ℕ) : Type 0 where
     pub size : length older ≡ length texts
-    pub some_chains : 0 < chains
-    pub chains_are : length newest ≡ chains
-    pub newest_is : (chain : ℕ) → chain < chains → IsLink (chain_at chains) chain n (get_or newest chain 0)
+    pub some_chains : 0 < length newest
+    pub newest_is : (chain : ℕ) → chain < length newest
+        → IsLink (chain_at (length newest)) chain n (get_or newest chain 0)
     pub older_is : (number : ℕ) → number < n
-        → IsLink (chain_at chains) (chain_at chains number) number (get_or older number 0)
+        → IsLink (chain_at (length newest)) (chain_at (length newest) number) number (get_or older number 0)
 
   -- what is known of `Names` (src/names.rt)
   pub record AreNames (newest older : List ℕ) : Type 0 where
     pub few : length texts < 2 ^ 32
-    pub linked : AreLinked (length texts) (length newest) newest older
+    pub linked : AreLinked (length texts) newest older
     pub distinct : AreDistinct

@@ -118,8 +118,8 @@ fn chain_of(text: &[u8], chains: usize) -> usize
 fn add_to_chain(texts: &Texts, number: usize, newest: &mut [u32], older: &mut [u32])
     requires few { number + 1 < 2 ^ 32 }
     requires within { number < length texts.now }
-    requires linked { AreLinked texts.now number (length newest.old) newest.old older.old }
-    ensures { AreLinked texts.now (number + 1) (length newest.new) newest.new older.new }
+    requires linked { AreLinked texts.now number newest.old older.old }
+    ensures { AreLinked texts.now (number + 1) newest.new older.new }
 {
     let chain = chain_of(texts.get(number), newest.len());
     older[number] = newest[chain];
