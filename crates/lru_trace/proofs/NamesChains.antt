@@ -8,7 +8,7 @@ use Rattle.std.proofs.lemmas.List.Quantifiers.{position-Some}
 use Rattle.std.proofs.lemmas.List.Sums.{fails_before_first}
 use Rattle.std.proofs.lemmas.Slice.Eq.{bytes_eq-Decides}
 use Rattle.std.specs.Str.{bytes_eq}
-use Rattle.lru_trace.specs.Names.{number_in, chain_of, chain_at, IsLink, AreDistinct, AreLinked, AreNames}
+use Rattle.lru_trace.specs.Names.{number_in, chain_of, chain_at, AreDistinct, AreLinked, AreNames}
 
 pub linked_more : (texts : List (List ℕ)) (n chain : ℕ) (newest older : List ℕ)
     → AreLinked texts n newest older → n < length texts → chain < length newest

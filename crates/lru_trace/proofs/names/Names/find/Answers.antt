@@ -1,4 +1,4 @@
-use Rattle.std.proofs.Common.{◌<◌, length, arith, refl, sym, ◌∙◌}
+use Rattle.std.proofs.Common.{◌<◌, length, arith, ◌∙◌}
 use Rattle.lru_trace.specs.Names.{number_in}
 use Rattle.lru_trace.proofs.NamesChains.{IsWalk, walk_begins, walk_goes_on, found, not_found}
 use Rattle.lru_trace.proofs.names.Names.find.Goals.{After-index-in-loop-link}
