@@ -20,6 +20,8 @@ pub mod SizedSteps
 pub mod SizedKeys
 pub mod SizedRecency
 pub mod SizedTotals
+pub mod NamesTexts
+pub mod NamesChains
 pub mod Marks
 pub mod PlaceSteps
 pub mod PlaceNumbers

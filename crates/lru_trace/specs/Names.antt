@@ -1,7 +1,6 @@
 -- The texts of keys, and their numbers.
-use Rattle.std.specs.Prelude.{◌≡◌, ℕ, ◌-◌, ◌/◌, ◌%◌, ◌^◌, ◌≤◌, ◌<◌, List, [], ◌∷◌, take, drop, length, get_or, Option, bit_xor}
+use Rattle.std.specs.Prelude.{◌≡◌, ◌≢◌, ℕ, ◌+◌, ◌-◌, ◌/◌, ◌%◌, ◌^◌, ◌≤◌, ◌<◌, List, [], ◌∷◌, take, drop, length, get_or, Option, bit_xor}
 use Rattle.std.specs.List.{position}
-use Rattle.std.specs.List.Sorted.{IsNonDecreasing}
 use Rattle.std.specs.Str.{bytes_eq}
 use Rattle.lru_trace.specs.Samples.{hash}
 
@@ -13,3 +12,42 @@ number_in names text = position (bytes_eq text) names
 abbrev pub texts : ℕ → List ℕ → List ℕ → List (List ℕ)
 texts start [] bytes = []
 texts start (end ∷ ends) bytes = take (end - start) (drop start bytes) ∷ texts end ends bytes
+
+-- the texts from `start` on end at these `ends`, and the last at `last`
+abbrev pub AreEnds : ℕ → List ℕ → ℕ → Type 0
+AreEnds start [] last = start ≡ last
+AreEnds start (end ∷ ends) last = (start ≤ end) × AreEnds end ends last
+
+unfoldable pub chain_of : ℕ → List ℕ → ℕ
+chain_of chains text = bit_xor (hash text) (hash text / 2 ^ 32) % chains
+
+-- A link is 0, or one more than the number of a text. This link leads to the last of the first `n` texts that stands in
+-- the chain; it is 0 if none of them does.
+pub record IsLink (chain_at : ℕ → ℕ) (chain n link : ℕ) : Type 0 where
+  pub within : link ≤ n
+  pub there : (number : ℕ) → link ≡ number + 1 → chain_at number ≡ chain
+  pub others : (number : ℕ) → link ≤ number → number < n → chain_at number ≢ chain
+
+module _ (texts : List (List ℕ)) where
+  abbrev pub AreDistinct : Type 0
+  AreDistinct = (number later : ℕ) → number < later → later < length texts
+      → get_or texts number [] ≢ get_or texts later []
+
+  abbrev pub chain_at : ℕ → ℕ → ℕ
+  chain_at chains number = chain_of chains (get_or texts number [])
+
+  -- the first `n` texts stand in chains: `newest` leads to the last text of each chain, and `older` from each text to the
+  -- text before it in its chain
+  pub record AreLinked (n : ℕ) (newest older : List ℕ) : Type 0 where
+    pub size : length older ≡ length texts
+    pub some_chains : 0 < length newest
+    pub newest_is : (chain : ℕ) → chain < length newest
+        → IsLink (chain_at (length newest)) chain n (get_or newest chain 0)
+    pub older_is : (number : ℕ) → number < n
+        → IsLink (chain_at (length newest)) (chain_at (length newest) number) number (get_or older number 0)
+
+  -- what is known of `Names` (src/names.rt)
+  pub record AreNames (newest older : List ℕ) : Type 0 where
+    pub few : length texts < 2 ^ 32
+    pub linked : AreLinked (length texts) newest older
+    pub distinct : AreDistinct
