@@ -16,8 +16,7 @@ pub linked_more : (texts : List (List ℕ)) (n chain : ℕ) (newest older : List
     → AreLinked texts (n + 1) (set newest chain (n + 1)) (set older n (get_or newest chain 0))
 linked_more texts n chain newest older are within small is = grind (arith, length-set, get_or-set_at, get_or-set_other)
 
--- A walk down the chain of a text. The next text of the chain is the one at the link. The texts from there on are other
--- texts.
+-- A walk down the chain of a text has come to this link, and all texts that it leaves out are other texts.
 pub record IsWalk (texts : List (List ℕ)) (text : List ℕ) (chains link : ℕ) : Type 0 where
   pub within : link ≤ length texts
   pub there : (number : ℕ) → link ≡ number + 1 → chain_at texts chains number ≡ chain_of chains text

@@ -18,17 +18,19 @@ abbrev pub AreEnds : ℕ → List ℕ → ℕ → Type 0
 AreEnds start [] last = start ≡ last
 AreEnds start (end ∷ ends) last = (start ≤ end) × AreEnds end ends last
 
+-- the chain of a text, if there are this many chains
 unfoldable pub chain_of : ℕ → List ℕ → ℕ
 chain_of chains text = bit_xor (hash text) (hash text / 2 ^ 32) % chains
 
--- A link is 0, or one more than the number of a text. This link leads to the last of the first `n` texts that stands in
--- the chain; it is 0 if none of them does.
+-- A link leads to the last text in a chain, among the first `n` texts. It is one more than the number of this text, and 0
+-- if the chain contains none of these texts.
 pub record IsLink (chain_at : ℕ → ℕ) (chain n link : ℕ) : Type 0 where
   pub within : link ≤ n
   pub there : (number : ℕ) → link ≡ number + 1 → chain_at number ≡ chain
   pub others : (number : ℕ) → link ≤ number → number < n → chain_at number ≢ chain
 
 module _ (texts : List (List ℕ)) where
+  -- no text equals a later text
   abbrev pub AreDistinct : Type 0
   AreDistinct = (number later : ℕ) → number < later → later < length texts
       → get_or texts number [] ≢ get_or texts later []
@@ -36,8 +38,8 @@ module _ (texts : List (List ℕ)) where
   abbrev pub chain_at : ℕ → ℕ → ℕ
   chain_at chains number = chain_of chains (get_or texts number [])
 
-  -- the first `n` texts stand in chains: `newest` leads to the last text of each chain, and `older` from each text to the
-  -- text before it in its chain
+  -- The first `n` texts stand in chains. `newest` has a link for each chain, and `older` has, for each text, a link to the
+  -- text before it in its chain.
   pub record AreLinked (n : ℕ) (newest older : List ℕ) : Type 0 where
     pub size : length older ≡ length texts
     pub some_chains : 0 < length newest

@@ -6,6 +6,7 @@ use crate::samples::hash;
 use std::alloc::{AllocError, Global};
 use std::marker::Model;
 
+/// The number of chains at first.
 const FEWEST: usize = 16;
 
 /// Texts that stand one after another in one block. `ends` says where each text ends.
@@ -26,6 +27,7 @@ impl Model for Texts {
     ghost invariant = { λ t. AreEnds 0 t.ends.items (length t.bytes.items) };
 }
 
+/// Returns where a text starts. It starts where the text before it ends.
 fn start_of(ends: &[usize], number: usize) -> usize
     requires { number ≤ length ends.now }
     ensures { result ≡ get_or (0 ∷ ends.now) number 0 }

@@ -1,7 +1,6 @@
-use Rattle.std.proofs.Common.{◌<◌, length, arith, ◌∙◌}
+use Rattle.std.proofs.Common.{arith, ◌∙◌}
 use Rattle.lru_trace.specs.Names.{number_in}
-use Rattle.lru_trace.proofs.NamesChains.{IsWalk, walk_begins, walk_goes_on, found, not_found}
-use Rattle.lru_trace.proofs.names.Names.find.Goals.{After-index-in-loop-link}
+use Rattle.lru_trace.proofs.NamesChains.{walk_begins, walk_goes_on, found, not_found}
 use Rattle.lru_trace.proofs.names.Names.find.Goals as goal
 
 pub loop-link-init : goal.loop-link-init
@@ -16,17 +15,15 @@ pub index-requires-in-loop-link : goal.index-requires-in-loop-link
 index-requires-in-loop-link c = let v = c.self.inside in
     omega (arith, c.loop-link.invariant.within, c.loop-link-test.true, c.self.invariant.linked.size, v.older.ok.0)
 
-goes_on : (c : After-index-in-loop-link) → let next = c.index-in-loop-link.result.now in
-    IsWalk c.self.inside.texts c.as_bytes-text.result.now (length c.self.inside.newest.items) next × (next < c.loop-link.link)
-goes_on c =
-    walk_goes_on c.self.invariant c.as_bytes-text.result.now c.loop-link.invariant c.loop-link-test.true c.get.ensures
-    c.if-eq.ensures c.index-in-loop-link.ensures
-
 pub loop-link-preserved : goal.loop-link-preserved
-loop-link-preserved c = (goes_on (goal.at.loop-link-preserved c).After-index-in-loop-link).0
+loop-link-preserved c =
+    (walk_goes_on c.self.invariant c.as_bytes-text.result.now c.loop-link.invariant c.loop-link-test.true c.get.ensures
+    c.if-eq.ensures c.index-in-loop-link.ensures).0
 
 pub loop-link-smaller : goal.loop-link-smaller
-loop-link-smaller c = (goes_on (goal.at.loop-link-smaller c).After-index-in-loop-link).1
+loop-link-smaller c =
+    (walk_goes_on c.self.invariant c.as_bytes-text.result.now c.loop-link.invariant c.loop-link-test.true c.get.ensures
+    c.if-eq.ensures c.index-in-loop-link.ensures).1
 
 pub returns-then-eq : goal.returns-then-eq
 returns-then-eq c =
