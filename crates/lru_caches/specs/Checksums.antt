@@ -1,12 +1,12 @@
 -- The checksum of a block: the last 8 bytes of the block.
 use Rattle.std.specs.Prelude.{ℕ, ◌-◌, List, [], ◌∷◌, ◌++◌, length, take, map}
 use Rattle.std.specs.Int.{w64, to_le_bytes}
-use Rattle.lru_limits.specs.Mixing.{seeded, written, closed}
+use Rattle.lru_limits.specs.Mixing.{seeded, written as mixed, closed}
 use Rattle.lru_caches.specs.Files.{Event, unread, was_read, unwritten, written, unsynced, synced}
 
 -- the hash of these bytes, made by the hasher with the default seeds
 unfoldable pub hash_of : List ℕ → ℕ
-hash_of bytes = closed (written (seeded (1 ∷ 2 ∷ 3 ∷ 4 ∷ [])) bytes)
+hash_of bytes = closed (mixed (seeded (1 ∷ 2 ∷ 3 ∷ 4 ∷ [])) bytes)
 
 abbrev pub with_tail : List ℕ → ℕ → List ℕ
 with_tail block number = take (length block - 8) block ++ to_le_bytes w64 number

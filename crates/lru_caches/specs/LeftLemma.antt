@@ -15,17 +15,18 @@ fits_same : (same : Bool) {kept block : Option (List ℕ)} (then-kept then-block
 fits_same true then-kept then-block now was = now
 fits_same false then-kept then-block now was = was
 
+read_fits : (same : Bool) (bytes : List ℕ) {kept block : Option (List ℕ)} → Fits kept block
+    → Fits kept (if same then or_else block bytes else block)
+read_fits true bytes was = λ x is. ap (λ o. or_else o bytes) (was x is)
+read_fits false bytes was = was
+
 none_fits : (block : Option (List ℕ)) → Fits None block
 none_fits block x is = absurd (none-some x is)
 
 pub left_fits : (events : List Event) (n : ℕ) → Fits (left events n) (known events n)
 left_fits [] n = λ x is. is
 left_fits (unread m ∷ earlier) n = left_fits earlier n
-left_fits (was_read m bytes ∷ earlier) n = go (nat_eq n m)
-  where
-    go : (same : Bool) → Fits (left earlier n) (if same then or_else (known earlier n) bytes else known earlier n)
-    go true x is = ap (λ o. or_else o bytes) (left_fits earlier n x is)
-    go false = left_fits earlier n
+left_fits (was_read m bytes ∷ earlier) n = read_fits (nat_eq n m) bytes (left_fits earlier n)
 left_fits (unwritten m bytes ∷ earlier) n = fits_same (nat_eq n m) None None (none_fits None) (left_fits earlier n)
 left_fits (written m bytes ∷ earlier) n =
     fits_same (nat_eq n m) None (Some bytes) (none_fits (Some bytes)) (left_fits earlier n)
