@@ -3,8 +3,7 @@ use Rattle.std.proofs.Common.{take, map, ◌++◌}
 use Rattle.std.specs.Option.{option_map}
 use Rattle.std.specs.Prelude.{Option, IfSome, is_some, Vec}
 use Rattle.std.proofs.Common.{set, sum, get_or, Some, None, refl, sym, subst, ap, ◌∙◌, arith}
-use Rattle.std.specs.Prelude.{◌^◌, ◌-◌, not, ◌||◌, nat_eq, nat_le, String, sum_by}
-use Rattle.std.specs.Global.{Global}
+use Rattle.std.specs.Prelude.{◌^◌, ◌-◌, not, ◌||◌, nat_eq, nat_le, sum_by}
 use Rattle.std.specs.Prelude.{Result, Ok, Err, OnErr, IfErr}
 use Rattle.std.specs.Result.{IsErr, IsErrAnd}
 use Rattle.std.specs.Set.{remove_key}
@@ -126,7 +125,7 @@ module _ {warm trace : List (List ℕ)} {v : Counted} (of : IsOf warm trace v) w
   abbrev warm_past : List ℕ
   warm_past = past_after [] of.before
 
-  pub of_names : (names : List (String Global × ℕ))
+  pub of_names : (names : List (List ℕ))
       → ((x : List ℕ) (n : ℕ) → number_in v.names x ≡ Some n → number_in names x ≡ Some n)
       → IsOf warm trace (record v { names = names })
   of_names names keeps = record {
