@@ -7,6 +7,7 @@ use Rattle.std.specs.Option.{unwrap_or, option_map}
 use Rattle.std.specs.Str.{bytes_eq}
 use Rattle.lru_theory.specs.Traces.{is_in, recency, past_after}
 use Rattle.lru_theory.specs.Budgets.{misses_within}
+use Rattle.lru_trace.specs.Counted.{AreAdded}
 use Rattle.lru_trace.specs.Names.{number_in}
 use Rattle.std.specs.Set.{remove_key}
 use Rattle.lru_trace.specs.Slots.{Recent, position, weight_in}
@@ -84,7 +85,7 @@ pub record IsSized (names : List (List ℕ)) (recent : Recent) (limits counts : 
     (references total : ℕ) : Type 0 where
   pub numbered : length names ≡ recent.keys
   pub aligned : length recent.weights ≡ recent.keys
-  pub within : (number : ℕ) → is_in nat_eq number recent.recency ≡ true → number < recent.keys
+  pub within : AreAdded recent
   pub known : (key : List ℕ) (number : ℕ) → number_in names key ≡ Some number → is_in nat_eq number recent.recency ≡ true
   pub whole : total ≡ sum_by (weight_in recent.weights) recent.recency
   pub small : total < 2 ^ 64
