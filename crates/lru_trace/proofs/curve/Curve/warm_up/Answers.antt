@@ -5,10 +5,6 @@ use Rattle.lru_trace.specs.Names.{number_in}
 use Rattle.lru_trace.proofs.CurveSteps.{renamed, recounted, always_err, of_warm}
 use Rattle.lru_trace.proofs.curve.Curve.warm_up.Goals as goal
 
-pub returns-in_err-number-clause-err : goal.returns-in_err-number-clause-err
-returns-in_err-number-clause-err c = always_err c.from_residual.result (λ warm past of.
-    renamed warm past c.args.self.now c.number_of.new.self c.number_of.ensures.rest c.number_of.ensures.others of)
-
 pub returns-in_err-make_count-clause-err : goal.returns-in_err-make_count-clause-err
 returns-in_err-make_count-clause-err c = always_err c.from_residual-in_err-make_count.result (λ warm past of.
     recounted warm past c.number_of.new.self c.make_count.new.self c.make_count.ensures.rest c.make_count.ensures.hits
