@@ -52,16 +52,12 @@ abbrev pub exceeds : Option ℕ → ℕ → Bool
 exceeds None limit = true
 exceeds (Some need) limit = nat_lt limit need
 
-abbrev pub KeepsSizes : Sized → Sized → Type 0
-KeepsSizes old new = (key : List ℕ) (number : ℕ) → number_in old.names key ≡ Some number →
-    weight_in new.sizes number ≡ weight_in old.sizes number
-
 -- A reference to the key was made (the curve changed from `old` to `new`), but is not yet counted.
 pub record Made (key : List ℕ) (bytes : ℕ) (need : Option ℕ) (old new : Sized) : Type 0 where
   pub number : ℕ
   pub named : number_in new.names key ≡ Some number
   pub others : (other : List ℕ) (n : ℕ) → number_in old.names other ≡ Some n → number_in new.names other ≡ Some n
-  pub sizes : KeepsSizes old new
+  pub sizes : (other : List ℕ) (n : ℕ) → number_in old.names other ≡ Some n → weight_in new.sizes n ≡ weight_in old.sizes n
   pub first : number_in old.names key ≡ None → weight_in new.sizes number ≡ bytes
   pub only : (other : List ℕ) (n : ℕ) → number_in new.names other ≡ Some n → number_in old.names other ≡ None → other ≡ key
   pub recency : new.recency ≡ number ∷ remove_key (nat_eq number) old.recency
