@@ -179,7 +179,7 @@ impl ByteCurve {
 
     fn count(&mut self, need: Option<u64>)
         requires { self.old.references < 2 ^ 64 - 1 }
-        ensures counts { (at : ℕ) × (at ≤ length self.old.limits)
+        ensures counts { (at : ℕ) × (at < length self.old.counts)
             × ((i : ℕ) → i < length self.old.limits → nat_lt i at ≡ exceeds need (get_or self.old.limits i 0))
             × (self.new ≡ record self.old {
               counts = set self.old.counts at (get_or self.old.counts at 0 + 1);

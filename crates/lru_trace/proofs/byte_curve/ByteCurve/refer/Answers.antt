@@ -12,14 +12,7 @@ returns-clause-ok c = λ warm trace of.
     let limits : c.make.new.self.limits ≡ c.args.self.now.limits = ap (λ v. v.limits) c.make.ensures.rest in
     let below = subst (λ ls. (i : ℕ) → i < length ls → nat_lt i counts.0 ≡ exceeds c.in_ok-need.need (get_or ls i 0))
     limits counts.2 in
-    let within : counts.0 < length c.args.self.now.counts = omega (
-      arith,
-      counts.1,
-      ap length limits,
-      c.self.invariant.long,
-      ap (λ v. length v.counts) c.self.view_is,
-      ap (λ v. length v.limits) c.self.view_is,
-    ) in
+    let within = subst (λ cs. counts.0 < length cs) (ap (λ v. v.counts) c.make.ensures.rest) counts.1 in
     let same = counts.3 ∙ ap {A = Sized} {B = Sized} (λ v. record v {
       counts = set v.counts counts.0 (get_or v.counts counts.0 0 + 1);
       references = v.references + 1;
