@@ -90,9 +90,9 @@ pub all_added : (key : ℕ) (old new : Recent) → AreAdded old → new.recency 
     → key < new.keys → old.keys ≤ new.keys → AreAdded new
 all_added key old new within recency inside more = λ n e. elim
     (was_in key n old.recency (ap (is_in nat_eq n) (sym recency) ∙ e)) [
-  | inl same ↦ omega (arith, same)
-  | inr h ↦ omega (arith, within n h)
-]
+      | inl same ↦ omega (arith, same)
+      | inr h ↦ omega (arith, within n h)
+    ]
 
 pub absent : (n : ℕ) (xs : List ℕ) → ((m : ℕ) → is_in nat_eq m xs ≡ true → m < n) → is_in nat_eq n xs ≡ false
 absent n xs within = go (is_in nat_eq n xs) refl
