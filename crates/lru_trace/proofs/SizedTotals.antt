@@ -14,7 +14,7 @@ use Rattle.lru_theory.proofs.LongerTraces.{past_more}
 use Rattle.lru_trace.specs.Names.{number_in}
 use Rattle.lru_trace.specs.Sized.{Sized, IsSizedOf, bytes_of, first_size, size_in, total_of}
 use Rattle.lru_trace.specs.Slots.{weight_in}
-use Rattle.lru_trace.proofs.Numbered.{Named, named_from, all_named, recency_named}
+use Rattle.lru_trace.proofs.Numbered.{Named, all_named, recency_named}
 use Rattle.lru_trace.proofs.SizedCosts.{sum_named}
 use Rattle.lru_trace.proofs.SizedSteps.{found_still, first_is}
 
@@ -81,7 +81,8 @@ module _ {warm trace : List (List ℕ × ℕ)} {old : Sized} (of : IsSizedOf war
     pub counted_large : 2 ^ 64 ≤ bytes_of (warm ++ (trace ++ one))
     counted_large = subst (λ references. 2 ^ 64 ≤ bytes_of references) (append_assoc warm trace one) bytes_more
 
-pub warm_large : {warm : List (List ℕ × ℕ)} {old : Sized} → IsSizedOf warm [] old → (key : List ℕ) (bytes : ℕ) → number_in old.names key ≡ None → 2 ^ 64 ≤ total_of old + bytes
+pub warm_large : {warm : List (List ℕ × ℕ)} {old : Sized} → IsSizedOf warm [] old
+    → (key : List ℕ) (bytes : ℕ) → number_in old.names key ≡ None → 2 ^ 64 ≤ total_of old + bytes
     → 2 ^ 64 ≤ bytes_of ((warm ++ (key, bytes) ∷ []) ++ [])
 warm_large {warm} of key bytes absent large =
     subst (λ references. 2 ^ 64 ≤ bytes_of references) (sym (append-nil (warm ++ (key, bytes) ∷ [])))

@@ -1,10 +1,9 @@
-use Rattle.std.proofs.Common.{◌≡◌, ℕ, ◌+◌, ◌<◌, ◌++◌, ◌∷◌, [], Some, None, length, refl, sym, ap, ◌∙◌, subst, arith, nat_eq}
+use Rattle.std.proofs.Common.{◌≡◌, ◌+◌, ◌<◌, ◌++◌, ◌∷◌, [], Some, None, refl, sym, ap, ◌∙◌, subst, arith, nat_eq}
 use Rattle.std.proofs.Common.{inl, inr, false, rules}
 use Rattle.std.specs.Prelude.{sum_by, ◌^◌}
 use Rattle.std.specs.Set.{remove_key}
 use Rattle.lru_theory.specs.Traces.{is_in}
 use Rattle.lru_trace.specs.Names.{number_in}
-use Rattle.lru_trace.specs.Sized.{Made}
 use Rattle.lru_trace.specs.Slots.{weight_in}
 use Rattle.lru_trace.proofs.Numbered.{small, found_more, kept_more, cases}
 use Rattle.lru_trace.proofs.SizedKeys.{sum_added, size_kept, size_added, absent}
