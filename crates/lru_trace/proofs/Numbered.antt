@@ -208,7 +208,8 @@ module _ (names : List (List ℕ)) where
         let ns = past_after (past_after [] before) numbers in
         length_named (recency bytes_eq past) (recency nat_eq ns) (recency_named past ns all_named)
 
-    pub warm_misses_named : (n : ℕ) → misses bytes_eq n (past_after [] warm) trace ≡ misses nat_eq n (past_after [] before) numbers
+    pub warm_misses_named : (n : ℕ)
+        → misses bytes_eq n (past_after [] warm) trace ≡ misses nat_eq n (past_after [] before) numbers
     warm_misses_named n = misses_named n (past_after [] warm) (past_after [] before) trace numbers warm_named
         (named_from number trace numbers named)
 

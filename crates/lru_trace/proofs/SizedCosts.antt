@@ -47,8 +47,8 @@ module _ (names : List (List ℕ)) where
 
   module _ (warm trace : List (List ℕ)) (before numbers : List ℕ) (warmed : map number warm ≡ map Some before)
       (named : map number trace ≡ map Some numbers) where
-    pub warm_within_named : (cost : List ℕ → ℕ) (weight : ℕ → ℕ) → ((x : List ℕ) (n : ℕ) → number x ≡ Some n → cost x ≡ weight n)
-        → (n : ℕ) → misses_within bytes_eq cost n (past_after [] warm) trace
+    pub warm_within_named : (cost : List ℕ → ℕ) (weight : ℕ → ℕ)
+        → ((x : List ℕ) (n : ℕ) → number x ≡ Some n → cost x ≡ weight n) → (n : ℕ) → misses_within bytes_eq cost n (past_after [] warm) trace
         ≡ misses_within nat_eq weight n (past_after [] before) numbers
     warm_within_named cost weight same n = within_named cost weight same n (past_after [] warm) (past_after [] before)
         trace numbers (warm_named names warm trace before numbers warmed named) (named_from number trace numbers named)
@@ -61,7 +61,8 @@ module _ (names : List (List ℕ)) where
         let cost : List ℕ → ℕ = λ x. unwrap_or (option_map old (number x)) 0 in
         let of_old : (x : List ℕ) (k : ℕ) → number x ≡ Some k → cost x ≡ old k =
         λ x k e. ap (λ o. unwrap_or (option_map old o) 0) e in
-        sym (warm_within_named cost new (λ x k e. of_old x k e ∙ sym (same x k e)) n) ∙ warm_within_named cost old of_old n
+        sym (warm_within_named cost new (λ x k e. of_old x k e ∙ sym (same x k e)) n)
+        ∙ warm_within_named cost old of_old n
 
 pub within_more : {K : Type 0} (eq : K → K → Bool) (cost : K → ℕ) (n : ℕ) (past trace : List K) (key : K)
     → misses_within eq cost n past (trace ++ key ∷ [])

@@ -1,5 +1,5 @@
 use Rattle.std.proofs.Common.{◌≡◌, ℕ, ◌+◌, ◌<◌, ◌^◌, true, List, [], ◌∷◌, ◌++◌, length, Some}
-use Rattle.std.proofs.Common.{sym, ap, ◌∙◌, arith, inl, inr}
+use Rattle.std.proofs.Common.{sym, subst, ap, rules, ◌∙◌, arith, inl, inr}
 use Rattle.std.proofs.lemmas.Bool.{false≢true, eq-eqb}
 use Rattle.std.proofs.lemmas.List.{length_push}
 use Rattle.std.proofs.lemmas.Option.{none-some}
@@ -12,7 +12,8 @@ use Rattle.lru_trace.specs.Slots.{Recent, weight_in}
 use Rattle.lru_trace.proofs.Numbered.{cases}
 use Rattle.lru_trace.proofs.SizedKeys.{all_added, moved_sum, moved_in, sum_added}
 
-pub none_named : {A : Type 0} (names : List (List ℕ)) → names ≡ [] → (key : List ℕ) (n : ℕ) → number_in names key ≡ Some n → A
+pub none_named : {A : Type 0} (names : List (List ℕ)) → names ≡ [] → (key : List ℕ) (n : ℕ)
+    → number_in names key ≡ Some n → A
 none_named names none key n e = absurd (none-some n (ap (λ them. number_in them key) (sym none) ∙ e))
 
 pub none_in : {A : Type 0} (xs : List ℕ) → xs ≡ [] → (n : ℕ) → is_in nat_eq n xs ≡ true → A
@@ -22,17 +23,10 @@ module _ {names : List (List ℕ)} {old : Recent} {limits counts : List ℕ} {re
     (is : IsSized names old limits counts references total) (new : Recent) where
   pub unmoved : new.recency ≡ old.recency → new.keys ≡ old.keys → new.weights ≡ old.weights
       → IsSized names new limits counts references total
-  unmoved recency keys weights = record {
-    numbered = is.numbered ∙ sym keys;
-    aligned = ap length weights ∙ is.aligned ∙ sym keys;
-    within = λ n e. omega (arith, is.within n (ap (is_in nat_eq n) (sym recency) ∙ e), keys);
-    known = λ key n e. ap (is_in nat_eq n) recency ∙ is.known key n e;
-    whole = is.whole ∙ sym (λ i. sum_by (weight_in (weights i)) (recency i));
-    small = is.small;
-    rising = is.rising;
-    long = is.long;
-    counted = is.counted;
-  }
+  unmoved recency keys weights =
+      let kept = subst (λ r. IsSized names r limits counts references total)
+      (λ i. record old { recency = sym recency i; keys = sym keys i; weights = sym weights i }) is in
+      search rules
 
   module _ (number : ℕ) where
     pub moved : is_in nat_eq number old.recency ≡ true

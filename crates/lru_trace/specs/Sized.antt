@@ -57,7 +57,8 @@ pub record Made (key : List ℕ) (bytes : ℕ) (need : Option ℕ) (old new : Si
   pub number : ℕ
   pub named : number_in new.names key ≡ Some number
   pub others : (other : List ℕ) (n : ℕ) → number_in old.names other ≡ Some n → number_in new.names other ≡ Some n
-  pub sizes : (other : List ℕ) (n : ℕ) → number_in old.names other ≡ Some n → weight_in new.sizes n ≡ weight_in old.sizes n
+  pub sizes : (other : List ℕ) (n : ℕ) → number_in old.names other ≡ Some n →
+      weight_in new.sizes n ≡ weight_in old.sizes n
   pub first : number_in old.names key ≡ None → weight_in new.sizes number ≡ bytes
   pub only : (other : List ℕ) (n : ℕ) → number_in new.names other ≡ Some n → number_in old.names other ≡ None → other ≡ key
   pub recency : new.recency ≡ number ∷ remove_key (nat_eq number) old.recency

@@ -13,9 +13,9 @@ use Rattle.lru_trace.proofs.byte_curve.ByteCurve.misses.Goals as goal
 pub returns-then-index-limit-clause-all : goal.returns-then-index-limit-clause-all
 returns-then-index-limit-clause-all c = λ warm trace of.
     let now : IsSizedOf warm trace _ = subst (IsSizedOf warm trace) (sym c.self.view_is) of in
-    let same = warm_within_named c.self.inside.names (keys_of warm) (keys_of trace) now.before now.numbers now.warmed now.named
-    (size_in (warm ++ trace)) (weight_in c.self.inside.distances.weights) (λ x n e. ap (λ o. unwrap_or o 0) (now.sized x n e))
-    c.args.limit in
+    let same = warm_within_named c.self.inside.names (keys_of warm) (keys_of trace) now.before now.numbers now.warmed
+    now.named (size_in (warm ++ trace)) (weight_in c.self.inside.distances.weights)
+    (λ x n e. ap (λ o. unwrap_or o 0) (now.sized x n e)) c.args.limit in
     let i = c.loop-i.i in
     let limits = c.self.inside.limits in
     let counts = c.self.inside.counts.items in

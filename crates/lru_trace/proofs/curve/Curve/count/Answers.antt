@@ -60,8 +60,9 @@ invariant_of-self-2 c =
     let room = spare at.After-self in
     let inside = small c.self.inside.names c.args.key.now c.args.number
     (ap (λ v. number_in v.names c.args.key.now) c.self.view_is ∙ c.requires.number) in
-    let within = all_added c.args.number c.self.inside.distances c.refer.new.self is.within c.in_ok-distance.ensures.recency
-    (omega (arith, inside, is.numbered, c.in_ok-distance.ensures.keys)) (omega (arith, c.in_ok-distance.ensures.keys)) in
+    let within = all_added c.args.number c.self.inside.distances c.refer.new.self is.within
+    c.in_ok-distance.ensures.recency (omega (arith, inside, is.numbered, c.in_ok-distance.ensures.keys))
+    (omega (arith, c.in_ok-distance.ensures.keys)) in
     let numbered = is.numbered ∙ sym c.in_ok-distance.ensures.keys in
     elim c.match-branch-2.branch [
       | in-Some w ↦

@@ -7,7 +7,8 @@ use Rattle.lru_trace.proofs.curve.Curve.misses.Goals as goal
 pub returns-clause-all : goal.returns-clause-all
 returns-clause-all c = λ warm trace of.
     let now : IsOf warm trace _ = subst (IsOf warm trace) (sym c.self.view_is) of in
-    let same = warm_misses_named c.self.inside.names warm trace now.before now.numbers now.warmed now.named c.args.places in
+    let same = warm_misses_named c.self.inside.names warm trace now.before now.numbers now.warmed now.named
+    c.args.places in
     let hits = now.hits c.args.places in
     let xs = c.deref.result.now in
     let m : c.min-places.result ≡ min c.args.places (length xs) =

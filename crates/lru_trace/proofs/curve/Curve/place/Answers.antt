@@ -20,8 +20,8 @@ still_added : (c : In_ok-refer) → AreAdded c.refer.new.self
 still_added c =
     let (key, named) = c.requires.number in
     let inside = small c.self.inside.names key c.args.number (ap (λ v. number_in v.names key) c.self.view_is ∙ named) in
-    all_added c.args.number c.self.inside.distances c.refer.new.self c.self.invariant.within c.in_ok-refer.ensures.recency
-    (omega (arith, inside, c.self.invariant.numbered, c.in_ok-refer.ensures.keys))
+    all_added c.args.number c.self.inside.distances c.refer.new.self c.self.invariant.within
+    c.in_ok-refer.ensures.recency (omega (arith, inside, c.self.invariant.numbered, c.in_ok-refer.ensures.keys))
     (omega (arith, c.in_ok-refer.ensures.keys))
 
 is_placed : (c : After-is_none) → is_some (place c.args.number c.self.inside.distances.recency) ≡ not c.is_none.result

@@ -29,4 +29,5 @@ returns-clause-ok c = on_ok_weaker c.place.result (λ same warm of.
 
 pub returns-clause-err : goal.returns-clause-err
 returns-clause-err c = on_err_weaker c.place.result (λ same warm past of.
-    subst (IsOf warm past) (sym same) (made (goal.at.returns-clause-err c).After-make_count warm past of)) c.place.ensures.err
+    subst (IsOf warm past) (sym same) (made (goal.at.returns-clause-err c).After-make_count warm past of))
+    c.place.ensures.err
