@@ -3,8 +3,7 @@ use Rattle.std.proofs.Common.{take, map, ◌++◌}
 use Rattle.std.specs.Option.{option_map}
 use Rattle.std.specs.Prelude.{Option, IfSome, is_some, Vec}
 use Rattle.std.proofs.Common.{set, sum, get_or, Some, None, refl, sym, subst, ap, ◌∙◌, arith}
-use Rattle.std.specs.Prelude.{◌^◌, ◌-◌, not, ◌||◌, nat_eq, nat_le, String, sum_by}
-use Rattle.std.specs.Global.{Global}
+use Rattle.std.specs.Prelude.{◌^◌, ◌-◌, not, ◌||◌, nat_eq, nat_le, sum_by}
 use Rattle.std.specs.Prelude.{Result, Ok, Err, OnErr, IfErr}
 use Rattle.std.specs.Result.{IsErr, IsErrAnd}
 use Rattle.std.specs.Set.{remove_key}
@@ -126,32 +125,25 @@ module _ {warm trace : List (List ℕ)} {v : Counted} (of : IsOf warm trace v) w
   abbrev warm_past : List ℕ
   warm_past = past_after [] of.before
 
-  pub of_names : (names : List (String Global × ℕ))
-      → ((x : List ℕ) (n : ℕ) → number_in v.names x ≡ Some n → number_in names x ≡ Some n)
-      → IsOf warm trace (record v { names = names })
-  of_names names keeps = record {
-    before = of.before;
-    numbers = of.numbers;
-    warmed = named_on (number_in v.names) (number_in names) keeps warm of.before of.warmed;
-    named = named_on (number_in v.names) (number_in names) keeps trace of.numbers of.named;
-    order = of.order;
-    hits = of.hits;
-    all = of.all;
-    kept = of.kept;
-  }
-
-  pub of_counts : (counts : List ℕ) → ((n : ℕ) → sum (take n counts) ≡ sum (take n v.counts))
-      → IsOf warm trace (record v { counts = counts })
-  of_counts counts same = record {
-    before = of.before;
-    numbers = of.numbers;
-    warmed = of.warmed;
-    named = of.named;
-    order = of.order;
-    hits = λ n. ap (λ m. misses nat_eq n warm_past of.numbers + m) (same n) ∙ of.hits n;
-    all = of.all;
-    kept = of.kept;
-  }
+  -- the key got a number, and then a count was made
+  pub of_made : (named new : Counted) → named ≡ record v { names = named.names }
+      → ((x : List ℕ) (n : ℕ) → number_in v.names x ≡ Some n → number_in named.names x ≡ Some n)
+      → new ≡ record named { counts = new.counts } → ((n : ℕ) → sum (take n new.counts) ≡ sum (take n named.counts))
+      → IsOf warm trace new
+  of_made named new renamed keeps recounted same =
+      let is : new ≡ record v { names = named.names; counts = new.counts } =
+      recounted ∙ (λ i. record (renamed i) { counts = new.counts }) in
+      subst (IsOf warm trace) (sym is) (record {
+        before = of.before;
+        numbers = of.numbers;
+        warmed = named_on (number_in v.names) (number_in named.names) keeps warm of.before of.warmed;
+        named = named_on (number_in v.names) (number_in named.names) keeps trace of.numbers of.named;
+        order = of.order;
+        hits = λ n. ap (λ m. misses nat_eq n warm_past of.numbers + m)
+            (same n ∙ ap (λ w. sum (take n w.counts)) renamed) ∙ of.hits n;
+        all = of.all;
+        kept = of.kept;
+      })
 
   module _ (key : List ℕ) (number : ℕ) (is : number_in v.names key ≡ Some number) where
     abbrev past : List ℕ
@@ -253,15 +245,6 @@ module _ {warm : List (List ℕ)} {v : Counted} (of : IsOf warm [] v) where
     all = of.all;
     kept = subst (λ ns. IfSome v.kept (λ kept. kept ≡ ns)) none_counted of.kept;
   }
-
-pub renamed : (warm past : List (List ℕ)) (old new : Counted) → new ≡ record old { names = new.names }
-    → ((x : List ℕ) (n : ℕ) → number_in old.names x ≡ Some n → number_in new.names x ≡ Some n)
-    → IsOf warm past old → IsOf warm past new
-renamed warm past old new rest keeps of = subst (IsOf warm past) (sym rest) (of_names of new.names keeps)
-
-pub recounted : (warm past : List (List ℕ)) (old new : Counted) → new ≡ record old { counts = new.counts }
-    → ((n : ℕ) → sum (take n new.counts) ≡ sum (take n old.counts)) → IsOf warm past old → IsOf warm past new
-recounted warm past old new rest same of = subst (IsOf warm past) (sym rest) (of_counts of new.counts same)
 
 pub always_err : {A E P : Type 0} (r : Result A E) → P → OnErr r P
 always_err (Ok x) p = tt

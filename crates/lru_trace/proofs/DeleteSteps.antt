@@ -14,9 +14,8 @@ use Rattle.lru_theory.specs.Inclusion.{KeyCall, refers, promotes, removes, clear
 use Rattle.lru_theory.specs.Places.{keys_in, place_of, freed, vacated, place_call, place_calls, call_fault, call_faults}
 use Rattle.lru_theory.specs.Traces.{is_in}
 use Rattle.lru_theory.proofs.Places.{keys_referred, keys_freed, found_within}
-use Rattle.lru_trace.specs.Deletes.{number_in}
 use Rattle.lru_trace.specs.Deletes.{Deleting, IsDeleteOf, IsSame, AreNumbers, cache_of, counted_at, missed_calls}
-use Rattle.lru_trace.specs.Deletes.{places_of, referred}
+use Rattle.lru_trace.specs.Deletes.{number_in, places_of, referred}
 use Rattle.lru_trace.proofs.Numbered.{counted}
 use Rattle.lru_trace.proofs.PlaceNumbers.{renumbered}
 

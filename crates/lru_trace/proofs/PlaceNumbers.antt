@@ -16,8 +16,7 @@ use Rattle.std.specs.Prelude.{◌||◌, nat_eq, IfSome}
 use Rattle.std.specs.Str.{bytes_eq}
 use Rattle.lru_theory.specs.Places.{keys_in, contains_it, place_of, freed, vacated}
 use Rattle.lru_theory.specs.Traces.{is_in}
-use Rattle.lru_trace.specs.Deletes.{number_in}
-use Rattle.lru_trace.specs.Deletes.{AreNumbers}
+use Rattle.lru_trace.specs.Deletes.{AreNumbers, number_in}
 use Rattle.lru_trace.specs.Places.{owns, Freed, Referred}
 use Rattle.lru_trace.proofs.Marks.{never}
 use Rattle.lru_trace.proofs.Numbered.{same_test}

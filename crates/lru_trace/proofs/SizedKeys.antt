@@ -7,7 +7,8 @@ use Rattle.std.proofs.lemmas.List.Sums.{sum_by-cons}
 use Rattle.std.specs.Prelude.{◌||◌, nat_eq, sum_by}
 use Rattle.std.specs.Set.{remove_key}
 use Rattle.lru_theory.specs.Traces.{is_in, since}
-use Rattle.lru_trace.specs.Slots.{weight_in}
+use Rattle.lru_trace.specs.Counted.{AreAdded}
+use Rattle.lru_trace.specs.Slots.{Recent, weight_in}
 use Rattle.lru_theory.proofs.Nexts.{without_absent}
 
 module _ (size : ℕ → ℕ) (key : ℕ) where
@@ -85,6 +86,21 @@ module _ (key other : ℕ) where
       go true same e = inl (eqb-true other key same)
       go false apart e = inr (less xs e)
 
+pub all_added : (key : ℕ) (old new : Recent) → AreAdded old → new.recency ≡ key ∷ remove_key (nat_eq key) old.recency
+    → key < new.keys → old.keys ≤ new.keys → AreAdded new
+all_added key old new within recency inside more = λ n e. elim
+    (was_in key n old.recency (ap (is_in nat_eq n) (sym recency) ∙ e)) [
+      | inl same ↦ omega (arith, same)
+      | inr h ↦ omega (arith, within n h)
+    ]
+
+pub absent : (n : ℕ) (xs : List ℕ) → ((m : ℕ) → is_in nat_eq m xs ≡ true → m < n) → is_in nat_eq n xs ≡ false
+absent n xs within = go (is_in nat_eq n xs) refl
+  where
+    go : (b : Bool) → is_in nat_eq n xs ≡ b → b ≡ false
+    go false e = refl
+    go true e = absurd (omega (arith, within n e))
+
 pub sum_alike : (f g : ℕ → ℕ) (xs : List ℕ) → ((n : ℕ) → is_in nat_eq n xs ≡ true → f n ≡ g n) → sum_by f xs ≡ sum_by g xs
 sum_alike f g [] same = refl
 sum_alike f g (x ∷ xs) same = omega (
@@ -113,20 +129,13 @@ module _ (sizes : List ℕ) (bytes : ℕ) where
     pub sum_kept : sum_by (weight_in (sizes ++ bytes ∷ [])) xs ≡ sum_by (weight_in sizes) xs
     sum_kept = sum_alike (weight_in (sizes ++ bytes ∷ [])) (weight_in sizes) xs (λ n e. size_kept n (within n e))
 
-    pub absent : is_in nat_eq (length sizes) xs ≡ false
-    absent = go (is_in nat_eq (length sizes) xs) refl
-      where
-        go : (b : Bool) → is_in nat_eq (length sizes) xs ≡ b → b ≡ false
-        go false e = refl
-        go true e = absurd (omega (arith, within (length sizes) e))
-
     pub sum_added : (n : ℕ) → n ≡ length sizes
         → sum_by (weight_in (sizes ++ bytes ∷ [])) (n ∷ remove_key (nat_eq n) xs) ≡ sum_by (weight_in sizes) xs + bytes
     sum_added n e = omega (
       arith,
       sum_by-cons (weight_in (sizes ++ bytes ∷ [])) n (remove_key (nat_eq n) xs),
       ap (sum_by (weight_in (sizes ++ bytes ∷ [])))
-          (without_absent nat_eq_equiv n xs (ap (λ m. is_in nat_eq m xs) e ∙ absent)),
+          (without_absent nat_eq_equiv n xs (ap (λ m. is_in nat_eq m xs) e ∙ absent (length sizes) xs within)),
       sum_kept,
       size_added n e,
     )

@@ -16,10 +16,10 @@ use Rattle.lru_theory.specs.Traces.{is_in, since, recency, past_after}
 use Rattle.lru_theory.specs.Budgets.{misses_within, is_far_within}
 use Rattle.lru_theory.proofs.LongerTraces.{past_more}
 use Rattle.lru_theory.proofs.Lists.{is_in_recency, since_recency}
-use Rattle.lru_trace.specs.Counted.{AreNumbered, number_in}
+use Rattle.lru_trace.specs.Names.{number_in}
 use Rattle.lru_trace.specs.Sized.{Sized, IsSizedOf, Made, first_size, need_of, exceeds}
 use Rattle.lru_trace.specs.Slots.{weight_in}
-use Rattle.lru_trace.proofs.Numbered.{Named, none_named, named_from, named_on, past_named, counted}
+use Rattle.lru_trace.proofs.Numbered.{Named, none_named, named_from, named_on, counted}
 use Rattle.lru_trace.proofs.SizedCosts.{reweighed, within_more}
 
 module _ (limits : List ℕ) (need : ℕ) where
@@ -85,8 +85,7 @@ far_is size number past limit =
     go true behind = refl
     go false behind = refl
 
-module _ {warm trace : List (List ℕ × ℕ)} {old : Sized} (of : IsSizedOf warm trace old) {keys : ℕ}
-    (are : AreNumbered old.names keys) where
+module _ {warm trace : List (List ℕ × ℕ)} {old : Sized} (of : IsSizedOf warm trace old) where
   abbrev number : List ℕ → Option ℕ
   number = number_in old.names
 
@@ -95,29 +94,6 @@ module _ {warm trace : List (List ℕ × ℕ)} {old : Sized} (of : IsSizedOf war
 
   abbrev past : List ℕ
   past = past_after warm_past of.numbers
-
-  same_misses : (sizes : List ℕ)
-      → ((key : List ℕ) (n : ℕ) → number key ≡ Some n → weight_in sizes n ≡ weight_in old.sizes n) → (limit : ℕ)
-      → misses_within nat_eq (weight_in sizes) limit warm_past of.numbers
-      ≡ misses_within nat_eq (weight_in old.sizes) limit warm_past of.numbers
-  same_misses sizes same limit = reweighed number are.apart (weight_in old.sizes) (weight_in sizes) same limit
-      (past_after [] (keys_of warm)) warm_past (keys_of trace) of.numbers
-      (past_named number are.apart [] [] (keys_of warm) of.before tt (named_from number (keys_of warm) of.before of.warmed))
-      (named_from number (keys_of trace) of.numbers of.named)
-
-  pub of_sizes : (sizes : List ℕ)
-      → ((key : List ℕ) (n : ℕ) → number key ≡ Some n → weight_in sizes n ≡ weight_in old.sizes n)
-      → IsSizedOf warm trace (record old { sizes = sizes })
-  of_sizes sizes same = record {
-    before = of.before;
-    numbers = of.numbers;
-    warmed = of.warmed;
-    named = of.named;
-    sized = λ key n e. of.sized key n e ∙ ap Some (sym (same key n e));
-    order = of.order;
-    hits = λ i h. ap (λ m. m + sum (take (i + 1) old.counts)) (same_misses sizes same (get_or old.limits i 0)) ∙ of.hits i h;
-    all = of.all;
-  }
 
   pub first_is : (key : List ℕ) (bytes : ℕ) → number key ≡ None
       → first_size ((warm ++ trace) ++ (key, bytes) ∷ []) key ≡ Some bytes
@@ -193,13 +169,13 @@ module _ {warm trace : List (List ℕ × ℕ)} {old : Sized} (of : IsSizedOf war
               of.hits i h,
               within_more nat_eq (weight_in new.sizes) limit warm_past of.numbers made.number,
               ap (λ b. cond {A = ℕ} b 1 0) far,
-              same_misses new.sizes made.sizes limit,
+              reweighed old.names (keys_of warm) (keys_of trace) of.before of.numbers of.warmed of.named
+                  (weight_in old.sizes) (weight_in new.sizes) made.sizes limit,
               counted at (i + 1) old.counts within,
             )
 
-module _ {warm : List (List ℕ × ℕ)} {old : Sized} (of : IsSizedOf warm [] old) {keys : ℕ}
-    (are : AreNumbered old.names keys) (key : List ℕ) (bytes : ℕ) (need : Option ℕ) (new : Sized)
-    (made : Made key bytes need old new) where
+module _ {warm : List (List ℕ × ℕ)} {old : Sized} (of : IsSizedOf warm [] old) (key : List ℕ) (bytes : ℕ)
+    (need : Option ℕ) (new : Sized) (made : Made key bytes need old new) where
   none_counted : of.numbers ≡ []
   none_counted = none_named of.numbers of.named
 
@@ -216,7 +192,7 @@ module _ {warm : List (List ℕ × ℕ)} {old : Sized} (of : IsSizedOf warm [] o
     named = refl;
     sized = λ other n e. ap (λ refs. first_size refs other) (append-nil (warm ++ (key, bytes) ∷ []))
         ∙ ap (λ refs. first_size (refs ++ (key, bytes) ∷ []) other) (sym (append-nil warm))
-        ∙ sized_more of are key bytes need new made other n e;
+        ∙ sized_more of key bytes need new made other n e;
     order = made.recency ∙ ap (λ xs. made.number ∷ remove_key (nat_eq made.number) xs)
         (of.order ∙ ap (λ ns. recency nat_eq (past_after (past_after [] of.before) ns)) none_counted)
         ∙ ap (recency nat_eq) (sym (past_more [] of.before made.number));

@@ -11,10 +11,10 @@ use Rattle.std.specs.Set.{remove_key}
 use Rattle.std.specs.Str.{bytes_eq}
 use Rattle.lru_theory.specs.Traces.{recency, past_after}
 use Rattle.lru_theory.proofs.LongerTraces.{past_more}
-use Rattle.lru_trace.specs.Counted.{AreNumbered, number_in}
+use Rattle.lru_trace.specs.Names.{number_in}
 use Rattle.lru_trace.specs.Sized.{Sized, IsSizedOf, bytes_of, first_size, size_in, total_of}
 use Rattle.lru_trace.specs.Slots.{weight_in}
-use Rattle.lru_trace.proofs.Numbered.{Named, named_from, past_named, recency_named}
+use Rattle.lru_trace.proofs.Numbered.{Named, all_named, recency_named}
 use Rattle.lru_trace.proofs.SizedCosts.{sum_named}
 use Rattle.lru_trace.proofs.SizedSteps.{found_still, first_is}
 
@@ -33,8 +33,7 @@ unnamed_out number key none (y ∷ xs) (n ∷ ns) h = go (bytes_eq key y) refl (
     go true e ih = absurd (none-some n (sym none ∙ ap number ((bytes_eq-Decides key y).0 e) ∙ h.0))
     go false e ih = ap (λ l. y ∷ l) ih
 
-module _ {warm trace : List (List ℕ × ℕ)} {old : Sized} (of : IsSizedOf warm trace old) {keys : ℕ}
-    (are : AreNumbered old.names keys) where
+module _ {warm trace : List (List ℕ × ℕ)} {old : Sized} (of : IsSizedOf warm trace old) where
   abbrev number : List ℕ → Option ℕ
   number = number_in old.names
 
@@ -45,18 +44,14 @@ module _ {warm trace : List (List ℕ × ℕ)} {old : Sized} (of : IsSizedOf war
   past = past_after [] (keys_of (warm ++ trace))
 
   named : Named number (recency bytes_eq past) (recency nat_eq numbers)
-  named =
-      let before = past_named number are.apart [] [] (keys_of warm) of.before tt
-      (named_from number (keys_of warm) of.before of.warmed) in
-      let all = past_named number are.apart (past_after [] (keys_of warm)) (past_after [] of.before) (keys_of trace)
-      of.numbers before (named_from number (keys_of trace) of.numbers of.named) in
-      recency_named number are.apart past numbers (subst (λ xs. Named number xs numbers)
-      (sym (ap (past_after []) (map-append (λ e. e.0) warm trace) ∙ past_on [] (keys_of warm) (keys_of trace))) all)
+  named = recency_named old.names past numbers (subst (λ xs. Named number xs numbers)
+      (sym (ap (past_after []) (map-append (λ e. e.0) warm trace) ∙ past_on [] (keys_of warm) (keys_of trace)))
+      (all_named old.names (keys_of warm) (keys_of trace) of.before of.numbers of.warmed of.named))
 
   sum_is : (references : List (List ℕ × ℕ))
       → ((x : List ℕ) (n : ℕ) → number x ≡ Some n → first_size references x ≡ Some (weight_in old.sizes n))
       → sum_by (size_in references) (recency bytes_eq past) ≡ total_of old
-  sum_is references same = sum_named number are.apart (size_in references) (weight_in old.sizes)
+  sum_is references same = sum_named old.names (size_in references) (weight_in old.sizes)
       (λ x n e. ap (λ o. unwrap_or o 0) (same x n e)) (recency bytes_eq past) (recency nat_eq numbers) named
       ∙ ap (sum_by (weight_in old.sizes)) (sym of.order)
 
@@ -80,15 +75,15 @@ module _ {warm trace : List (List ℕ × ℕ)} {old : Sized} (of : IsSizedOf war
           sum_by-cons size key (remove_key (bytes_eq key) (recency bytes_eq past)),
           ap (sum_by size) (unnamed_out number key absent (recency bytes_eq past) (recency nat_eq numbers) named),
           sum_is references (λ x n e. found_still (bytes_eq x) (warm ++ trace) one (weight_in old.sizes n) (of.sized x n e)),
-          ap (λ o. unwrap_or o 0) (first_is of are key bytes absent),
+          ap (λ o. unwrap_or o 0) (first_is of key bytes absent),
         )
 
     pub counted_large : 2 ^ 64 ≤ bytes_of (warm ++ (trace ++ one))
     counted_large = subst (λ references. 2 ^ 64 ≤ bytes_of references) (append_assoc warm trace one) bytes_more
 
-pub warm_large : {warm : List (List ℕ × ℕ)} {old : Sized} → IsSizedOf warm [] old → {keys : ℕ} → AreNumbered old.names keys
+pub warm_large : {warm : List (List ℕ × ℕ)} {old : Sized} → IsSizedOf warm [] old
     → (key : List ℕ) (bytes : ℕ) → number_in old.names key ≡ None → 2 ^ 64 ≤ total_of old + bytes
     → 2 ^ 64 ≤ bytes_of ((warm ++ (key, bytes) ∷ []) ++ [])
-warm_large {warm} of are key bytes absent large =
+warm_large {warm} of key bytes absent large =
     subst (λ references. 2 ^ 64 ≤ bytes_of references) (sym (append-nil (warm ++ (key, bytes) ∷ [])))
-    (counted_large of are key bytes absent large)
+    (counted_large of key bytes absent large)

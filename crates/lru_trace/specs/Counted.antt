@@ -1,6 +1,6 @@
 -- The miss-ratio curve of a trace, computed while the references are counted.
-use Rattle.std.specs.Prelude.{◌≡◌, ℕ, ◌+◌, ◌≤◌, List, [], length, map, take, sum, Option, Some, IfSome, nat_eq}
-use Rattle.lru_theory.specs.Traces.{recency, misses, past_after}
+use Rattle.std.specs.Prelude.{◌≡◌, ℕ, ◌+◌, ◌≤◌, ◌<◌, List, [], length, map, take, sum, Option, Some, IfSome, nat_eq, true}
+use Rattle.lru_theory.specs.Traces.{is_in, recency, misses, past_after}
 use Rattle.lru_trace.specs.Names.{number_in}
 use Rattle.lru_trace.specs.Slots.{Recent}
 
@@ -26,9 +26,14 @@ pub record IsOf (warm trace : List (List ℕ)) (curve : Counted) : Type 0 where
   pub all : curve.references ≡ length trace
   pub kept : IfSome curve.kept (λ kept. kept ≡ numbers)
 
+-- all referenced keys were added
+abbrev pub AreAdded : Recent → Type 0
+AreAdded recent = (number : ℕ) → is_in nat_eq number recent.recency ≡ true → number < recent.keys
+
 pub record IsCounted (names : List (List ℕ)) (recent : Recent) (counts : List ℕ) (first references : ℕ)
     : Type 0 where
   pub numbered : length names ≡ recent.keys
+  pub within : AreAdded recent
   pub firsts : first ≡ length recent.recency
   pub few : first ≤ length counts
   pub total : sum counts ≤ references

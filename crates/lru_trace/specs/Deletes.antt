@@ -2,13 +2,13 @@
 use Rattle.std.specs.Prelude.{◌≡◌, ℕ, ◌+◌, ◌≤◌, ◌<◌, List, [], ◌∷◌, length, take, sum, set, get_or, nat_eq, true, String}
 use Rattle.std.specs.Prelude.{Option, Some, None, IfSome, ◌==◌, if◌then◌else◌, map}
 use Rattle.std.specs.Global.{Global}
+use Rattle.std.specs.Map.{lookup}
 use Rattle.std.specs.Option.{option_map}
 use Rattle.std.specs.Str.{bytes_eq}
+use Rattle.std.specs.String.{string_bytes}
 use Rattle.lru_theory.specs.Inclusion.{KeyCall, refers, promotes, removes, clears, looks, after_calls}
 use Rattle.lru_theory.specs.Places.{keys_in, place_of, vacated, place_calls, call_faults}
 use Rattle.lru_theory.specs.Traces.{is_in}
-use Rattle.std.specs.Map.{lookup}
-use Rattle.std.specs.String.{string_bytes}
 
 -- the call that a line makes: a delete if the size is 0, and otherwise a reference
 abbrev pub call_of : List ℕ × ℕ → KeyCall (List ℕ)

@@ -7,6 +7,7 @@ use Rattle.std.specs.Option.{unwrap_or, option_map}
 use Rattle.std.specs.Str.{bytes_eq}
 use Rattle.lru_theory.specs.Traces.{is_in, recency, past_after}
 use Rattle.lru_theory.specs.Budgets.{misses_within}
+use Rattle.lru_trace.specs.Counted.{AreAdded}
 use Rattle.lru_trace.specs.Names.{number_in}
 use Rattle.std.specs.Set.{remove_key}
 use Rattle.lru_trace.specs.Slots.{Recent, position, weight_in}
@@ -51,16 +52,13 @@ abbrev pub exceeds : Option ℕ → ℕ → Bool
 exceeds None limit = true
 exceeds (Some need) limit = nat_lt limit need
 
-abbrev pub KeepsSizes : Sized → Sized → Type 0
-KeepsSizes old new = (key : List ℕ) (number : ℕ) → number_in old.names key ≡ Some number →
-    weight_in new.sizes number ≡ weight_in old.sizes number
-
 -- A reference to the key was made (the curve changed from `old` to `new`), but is not yet counted.
 pub record Made (key : List ℕ) (bytes : ℕ) (need : Option ℕ) (old new : Sized) : Type 0 where
   pub number : ℕ
   pub named : number_in new.names key ≡ Some number
   pub others : (other : List ℕ) (n : ℕ) → number_in old.names other ≡ Some n → number_in new.names other ≡ Some n
-  pub sizes : KeepsSizes old new
+  pub sizes : (other : List ℕ) (n : ℕ) → number_in old.names other ≡ Some n →
+      weight_in new.sizes n ≡ weight_in old.sizes n
   pub first : number_in old.names key ≡ None → weight_in new.sizes number ≡ bytes
   pub only : (other : List ℕ) (n : ℕ) → number_in new.names other ≡ Some n → number_in old.names other ≡ None → other ≡ key
   pub recency : new.recency ≡ number ∷ remove_key (nat_eq number) old.recency
@@ -84,7 +82,7 @@ pub record IsSized (names : List (List ℕ)) (recent : Recent) (limits counts : 
     (references total : ℕ) : Type 0 where
   pub numbered : length names ≡ recent.keys
   pub aligned : length recent.weights ≡ recent.keys
-  pub within : (number : ℕ) → is_in nat_eq number recent.recency ≡ true → number < recent.keys
+  pub within : AreAdded recent
   pub known : (key : List ℕ) (number : ℕ) → number_in names key ≡ Some number → is_in nat_eq number recent.recency ≡ true
   pub whole : total ≡ sum_by (weight_in recent.weights) recent.recency
   pub small : total < 2 ^ 64

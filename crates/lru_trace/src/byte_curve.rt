@@ -6,7 +6,7 @@ ghost use Rattle.std.specs.Map.{keys_of};
 ghost use Rattle.std.specs.Set.{remove_key};
 ghost use Rattle.lru_theory.specs.Traces.{is_in};
 ghost use Rattle.lru_trace.specs.Names.{number_in};
-ghost use Rattle.lru_trace.specs.Sized.{IsSizedOf, Made, KeepsSizes, exceeds, need_of, missed_within, bytes_of, total_of};
+ghost use Rattle.lru_trace.specs.Sized.{IsSizedOf, Made, exceeds, need_of, missed_within, bytes_of, total_of};
 ghost use Rattle.lru_trace.specs.Rows.{keys};
 ghost use Rattle.lru_trace.specs.Slots.{weight_in};
 
@@ -136,8 +136,7 @@ impl ByteCurve {
     fn add(&mut self, key: &str, bytes: u64) -> Result<(), SizeError>
         requires { number_in self.old.names key.now ≡ None }
         ensures made { OnOk result (Made key.now bytes None self.old self.new) }
-        ensures sizes { OnErr result (KeepsSizes self.old self.new) }
-        ensures err { OnErr result (self.new ≡ record self.old { sizes = self.new.sizes }) }
+        ensures err { OnErr result (self.new ≡ self.old) }
         ensures large { IfErr result (λ e. e ≡ SizeError.TooLarge → (number_in self.old.names key.now ≡ None)
             × (2 ^ 64 ≤ total_of self.old + bytes)) }
         ensures rest { self.new ≡ record self.old {
@@ -162,8 +161,7 @@ impl ByteCurve {
 
     fn make(&mut self, key: &str, bytes: u64) -> Result<Option<u64>, SizeError>
         ensures made { IfOk result (λ need. Made key.now bytes need self.old self.new) }
-        ensures sizes { OnErr result (KeepsSizes self.old self.new) }
-        ensures err { OnErr result (self.new ≡ record self.old { sizes = self.new.sizes }) }
+        ensures err { OnErr result (self.new ≡ self.old) }
         ensures large { IfErr result (λ e. e ≡ SizeError.TooLarge → (number_in self.old.names key.now ≡ None)
             × (2 ^ 64 ≤ total_of self.old + bytes)) }
         ensures rest { self.new ≡ record self.old {
@@ -181,7 +179,7 @@ impl ByteCurve {
 
     fn count(&mut self, need: Option<u64>)
         requires { self.old.references < 2 ^ 64 - 1 }
-        ensures counts { (at : ℕ) × (at ≤ length self.old.limits)
+        ensures counts { (at : ℕ) × (at < length self.old.counts)
             × ((i : ℕ) → i < length self.old.limits → nat_lt i at ≡ exceeds need (get_or self.old.limits i 0))
             × (self.new ≡ record self.old {
               counts = set self.old.counts at (get_or self.old.counts at 0 + 1);

@@ -109,6 +109,7 @@ impl Curve {
         ensures others { (other : List ℕ) (number : ℕ) → number_in self.old.names other ≡ Some number →
             number_in self.new.names other ≡ Some number }
         ensures rest { self.new ≡ record self.old { names = self.new.names } }
+        ensures err { OnErr result (self.new ≡ self.old) }
     {
         if let Some(number) = self.names.find(key) {
             return Ok(number);

@@ -4,7 +4,7 @@ use Rattle.lru_theory.specs.Traces.{is_in, since}
 use Rattle.lru_trace.specs.Slots.{weight_in, position}
 use Rattle.std.proofs.lemmas.Option.{same_Some}
 use Rattle.lru_trace.proofs.SizedKeys.{needs_few, moved_sum}
-use Rattle.lru_trace.proofs.SizedRecency.{moved}
+use Rattle.lru_trace.proofs.SizedRecency.{moved, unmoved}
 use Rattle.lru_trace.proofs.byte_curve.ByteCurve.find.Goals as goal
 
 pub refer-requires-clause-key : goal.refer-requires-clause-key
@@ -33,6 +33,10 @@ overflow_add-result c =
     let is = same_Some c.in-Some.behind (sum_by (weight_in d.weights) (since nat_eq c.args.number d.recency))
     (sym c.in-Some.is ∙ c.in_ok-behind.ensures.distance ∙ behind) in
     omega (arith, few, is, c.weight-size.ensures, c.self.invariant.whole, c.self.invariant.small)
+
+pub invariant_of-self : goal.invariant_of-self
+invariant_of-self c = unmoved c.self.invariant c.refer.new.self c.in_err-behind.ensures.err c.refer.ensures.keys
+    c.refer.ensures.weights
 
 pub invariant_of-self-2 : goal.invariant_of-self-2
 invariant_of-self-2 c =

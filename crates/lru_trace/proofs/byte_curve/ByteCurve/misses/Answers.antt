@@ -5,24 +5,17 @@ use Rattle.std.specs.Map.{keys_of}
 use Rattle.std.specs.Option.{unwrap_or}
 use Rattle.lru_theory.specs.Budgets.{misses_within}
 use Rattle.lru_theory.specs.Traces.{past_after}
-use Rattle.lru_trace.specs.Names.{number_in}
 use Rattle.lru_trace.specs.Sized.{IsSizedOf, size_in}
 use Rattle.lru_trace.specs.Slots.{weight_in}
-use Rattle.lru_trace.proofs.Numbered.{past_named, named_from}
-use Rattle.lru_trace.proofs.SizedCosts.{within_named}
+use Rattle.lru_trace.proofs.SizedCosts.{warm_within_named}
 use Rattle.lru_trace.proofs.byte_curve.ByteCurve.misses.Goals as goal
 
 pub returns-then-index-limit-clause-all : goal.returns-then-index-limit-clause-all
 returns-then-index-limit-clause-all c = λ warm trace of.
     let now : IsSizedOf warm trace _ = subst (IsSizedOf warm trace) (sym c.self.view_is) of in
-    let number = number_in c.self.inside.numbers.entries in
-    let apart = c.self.invariant.numbered.apart in
-    let before = past_named number apart [] [] (keys_of warm) now.before tt
-    (named_from number (keys_of warm) now.before now.warmed) in
-    let same = within_named number apart (size_in (warm ++ trace)) (weight_in c.self.inside.distances.weights)
-    (λ x n e. ap (λ o. unwrap_or o 0) (now.sized x n e)) c.args.limit (past_after [] (keys_of warm))
-    (past_after [] now.before) (keys_of trace) now.numbers before
-    (named_from number (keys_of trace) now.numbers now.named) in
+    let same = warm_within_named c.self.inside.names (keys_of warm) (keys_of trace) now.before now.numbers now.warmed
+    now.named (size_in (warm ++ trace)) (weight_in c.self.inside.distances.weights)
+    (λ x n e. ap (λ o. unwrap_or o 0) (now.sized x n e)) c.args.limit in
     let i = c.loop-i.i in
     let limits = c.self.inside.limits in
     let counts = c.self.inside.counts.items in

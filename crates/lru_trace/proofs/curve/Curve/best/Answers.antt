@@ -10,7 +10,6 @@ pub returns-in_ok-new-in-Some-clause-all : goal.returns-in_ok-new-in-Some-clause
 returns-in_ok-new-in-Some-clause-all c = λ warm trace of.
     let now : IsOf warm trace _ = subst (IsOf warm trace) (sym c.self.view_is) of in
     let numbers : c.in-Some.kept.items ≡ now.numbers = rw c.in-Some.is at now.kept in
-    let number = number_in c.self.inside.numbers.entries in
     c.in_ok-new-in-Some.ensures ∙ ap (next_times nat_eq 0) (c.deref.ensures.value ∙ numbers)
-    ∙ sym (next_times_named number c.self.invariant.numbered.apart 0 trace now.numbers
-    (named_from number trace now.numbers now.named))
+    ∙ sym (next_times_named c.self.inside.names 0 trace now.numbers
+    (named_from (number_in c.self.inside.names) trace now.numbers now.named))

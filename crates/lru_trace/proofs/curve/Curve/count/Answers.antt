@@ -1,7 +1,10 @@
 use Rattle.std.proofs.Common.{◌≡◌, ◌+◌, ◌<◌, set, sum, length, sym, ap, ◌∙◌, subst, arith}
 use Rattle.std.proofs.lemmas.List.{get_or_read, length-set}
 use Rattle.std.specs.Option.{option_map}
-use Rattle.lru_trace.specs.Counted.{IsOf, number_in, AreNumbered}
+use Rattle.lru_trace.specs.Counted.{IsOf}
+use Rattle.lru_trace.specs.Names.{number_in}
+use Rattle.lru_trace.proofs.Numbered.{small}
+use Rattle.lru_trace.proofs.SizedKeys.{all_added}
 use Rattle.lru_trace.proofs.CurveSteps.{place, plain_fits, plain_place, of_found, of_first, found_length}
 use Rattle.lru_trace.proofs.CurveSteps.{first_length, entry_few, sum_counted}
 use Rattle.lru_trace.proofs.curve.Curve.count.Goals.{After-self, In_ok-distance, in-Some, in-None}
@@ -55,7 +58,12 @@ invariant_of-self-2 c =
     let recency = c.self.inside.distances.recency in
     let counts = c.self.inside.counts.items in
     let room = spare at.After-self in
-    let numbered = subst (AreNumbered c.self.inside.numbers.entries) (sym c.in_ok-distance.ensures.keys) is.numbered in
+    let inside = small c.self.inside.names c.args.key.now c.args.number
+    (ap (λ v. number_in v.names c.args.key.now) c.self.view_is ∙ c.requires.number) in
+    let within = all_added c.args.number c.self.inside.distances c.refer.new.self is.within
+    c.in_ok-distance.ensures.recency (omega (arith, inside, is.numbered, c.in_ok-distance.ensures.keys))
+    (omega (arith, c.in_ok-distance.ensures.keys)) in
+    let numbered = is.numbered ∙ sym c.in_ok-distance.ensures.keys in
     elim c.match-branch-2.branch [
       | in-Some w ↦
           let long = found_length c.args.number w.in-Some.distance recency (placed at.In_ok-distance ∙ w.in-Some.is) in
@@ -65,6 +73,7 @@ invariant_of-self-2 c =
           w.in-Some.distance (omega (arith, long.1, room)) in
           rw w.self-inside-is (record {
             numbered = numbered;
+            within = within;
             firsts = is.firsts ∙ sym long.0 ∙ ap length (sym c.in_ok-distance.ensures.recency);
             few = omega (arith, is.few, length-set counts w.in-Some.distance (w.index_mut.result.now + 1));
             total = omega (arith, more, is.total);
@@ -74,6 +83,7 @@ invariant_of-self-2 c =
           let long = first_length c.args.number recency (placed at.In_ok-distance ∙ w.in-None.is) in
           rw w.self-inside-is (record {
             numbered = numbered;
+            within = within;
             firsts = omega (arith, is.firsts, long, ap length c.in_ok-distance.ensures.recency);
             few = omega (arith, is.firsts, room);
             total = omega (arith, is.total);

@@ -3,8 +3,7 @@ use Rattle.std.proofs.lemmas.Map.Text.{hash_map_updates_text}
 use Rattle.std.specs.Map.{update}
 use Rattle.std.specs.Str.{bytes_eq}
 use Rattle.lru_theory.specs.Places.{freed}
-use Rattle.lru_trace.specs.Deletes.{number_in}
-use Rattle.lru_trace.specs.Deletes.{AreNumbers, IsDeleteOf, places_of}
+use Rattle.lru_trace.specs.Deletes.{AreNumbers, IsDeleteOf, number_in, places_of}
 use Rattle.lru_trace.proofs.DeleteSteps.{of_removed, of_warm_removed}
 use Rattle.lru_trace.proofs.PlaceNumbers.{removed_numbers, removed_within, removed_apart, absent_freed, freed_long}
 use Rattle.lru_trace.proofs.delete_curve.DeleteCurve.delete.Goals.{In_default, In-Some, After-remove}

@@ -7,8 +7,7 @@ use Rattle.std.specs.Str.{bytes_eq}
 use Rattle.std.specs.String.{string_bytes}
 use Rattle.lru_theory.specs.Places.{keys_in, place_of}
 use Rattle.lru_theory.specs.Traces.{is_in}
-use Rattle.lru_trace.specs.Deletes.{number_in}
-use Rattle.lru_trace.specs.Deletes.{AreNumbers}
+use Rattle.lru_trace.specs.Deletes.{AreNumbers, number_in}
 use Rattle.lru_trace.proofs.CurveSteps.{always_err}
 use Rattle.lru_trace.proofs.PlaceNumbers.{reordered, referred_numbers, referred_within, referred_apart, referred_long}
 use Rattle.lru_trace.proofs.PlaceNumbers.{found_at, within_at}

@@ -1,6 +1,5 @@
 use Rattle.std.proofs.Common.{[], refl, sym, ◌∙◌, subst}
-use Rattle.lru_trace.specs.Deletes.{number_in}
-use Rattle.lru_trace.specs.Deletes.{IsDeleteOf, places_of}
+use Rattle.lru_trace.specs.Deletes.{IsDeleteOf, number_in, places_of}
 use Rattle.lru_trace.proofs.PlaceNumbers.{long_numbers}
 use Rattle.lru_trace.proofs.delete_curve.DeleteCurve.places.Goals as goal
 
