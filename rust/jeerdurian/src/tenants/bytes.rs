@@ -60,6 +60,9 @@ where
     S: BuildHasher + Copy,
 {
     /// Makes a cache without tenants, with this hasher of names and keys. Cost: `O(1)`, and no memory.
+    ///
+    /// Each tenant's map gets a copy of the hasher, so `S` must be `Copy`. [`RandomState`] is `Copy`, but std's
+    /// `RandomState` and `BuildHasherDefault` are not.
     pub fn with_hasher(hasher: S, limit: u64) -> Self {
         ByteTenants { bytes: proved::ByteTenants::with_hasher(Global, hasher, limit) }
     }

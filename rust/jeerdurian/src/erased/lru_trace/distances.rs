@@ -60,7 +60,7 @@ impl Distances {
         Ok(key)
     }
 
-    /// Removes the key that was added last. It must not be in the log.
+    /// Removes the key that was added last, if it was not referenced.
     pub fn remove_key(&mut self) {
         self.slots.pop();
         self.weights.truncate(self.slots.len());
