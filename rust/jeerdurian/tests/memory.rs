@@ -199,7 +199,7 @@ fn caches_out_of_memory_return_errors() {
     };
     errs(3, tenants, |cache| cache.open(3, 9).is_ok() || cache.contains(&3, &0).is_ok());
     errs(2, tenants, |cache| cache.put(&0, 1, 1).is_ok());
-    errs(4, || Curve::new().unwrap(), |curve| curve.refer("a").is_ok());
+    errs(5, || Curve::new().unwrap(), |curve| curve.refer("a").is_ok());
 }
 
 /// Page caches that are closed or discarded; tenants that evict, and are closed or dropped; curves with repeated

@@ -200,7 +200,7 @@ fn reasons_of_trace() {
 }
 
 /// The statuses of `trace`, except the status for an unknown argument. A directory cannot be read, a full device cannot
-/// be written, and 400,000 keys do not fit in 30 megabytes.
+/// be written, and 2,000,000 keys do not fit in 30 megabytes.
 #[cfg(target_os = "linux")]
 #[test]
 fn statuses_of_trace() {
@@ -210,7 +210,7 @@ fn statuses_of_trace() {
     assert_eq!(status_of_trace(&cases, "/dev/null"), Some(2));
     assert_eq!(status_of_trace(&cases.join("cycle"), "/dev/full"), Some(2));
     let many = Path::new(env!("CARGO_TARGET_TMPDIR")).join("many_keys");
-    fs::write(&many, (0..400_000).map(|key| format!("{key}\n")).collect::<String>()).unwrap();
+    fs::write(&many, (0..2_000_000).map(|key| format!("{key}\n")).collect::<String>()).unwrap();
     for form in ["--best", "--csv", "--svg"] {
         let mut limited = Command::new("sh");
         limited.args(["-c", "ulimit -v 30000; exec \"$0\" \"$1\"", env!("CARGO_BIN_EXE_trace"), form]);
