@@ -97,8 +97,8 @@ impl<B: Copy, D: BlockDevice<B>> PageCache<B, D, RandomState> {
     ///
     /// If strangers choose the block numbers, call `with_hasher`.
     ///
-    /// The blocks lie in the table, which grows by doubling. In a trial, the cache took up to about 4.2 times the memory
-    /// of its pages, and up to 6.2 times while its table grew.
+    /// The blocks lie in the table, which grows by doubling. In a trial, the cache took up to about 4.2 times the
+    /// memory of its pages, and up to 6.2 times while its table grew.
     ///
     /// Cost: `O(1)`, and no memory.
     ///

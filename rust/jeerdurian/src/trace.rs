@@ -280,8 +280,8 @@ pub fn report_with_best(mut reader: impl BufRead, mut writer: impl Write) -> Res
 ///
 /// # Errors
 ///
-/// As for `report`, and with `Policies::Best` as for `report_with_best`. `TooLarge`: the sizes of all keys sum to 2^64 or
-/// more.
+/// As for `report`, and with `Policies::Best` as for `report_with_best`. `TooLarge`: the sizes of all keys sum to 2^64
+/// or more.
 ///
 /// ```
 /// use jeerdurian::trace::{Column, Form, Options, Policies, TraceEnd, report_as};

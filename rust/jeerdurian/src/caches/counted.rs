@@ -122,8 +122,8 @@ impl<K: Eq + Hash, V, L: Limiter<K, V>, S: BuildHasher> CountedMap<K, V, L, S> {
         self.counted.map().peek_newest().map(|(_, value)| value)
     }
 
-    /// Does what `LruMap::insert` does, and counts the insert: as an insertion if it returns true, and as a rejection if
-    /// it returns false. If memory runs out, it returns false, and counts only the evicted entries. Cost: as
+    /// Does what `LruMap::insert` does, and counts the insert: as an insertion if it returns true, and as a rejection
+    /// if it returns false. If memory runs out, it returns false, and counts only the evicted entries. Cost: as
     /// [`LruMap::insert`].
     pub fn insert<'a>(&mut self, key: L::KeyToInsert<'a>, value: V) -> bool
     where

@@ -87,8 +87,8 @@ impl<K: Eq + Hash, V, F: Fn(&K) -> V, L: Admission<K, V>, S: BuildHasher> Memo<K
         &self.memo.limiter().0
     }
 
-    /// Returns what the function returns at a key: a clone of the stored result if there is one, otherwise the result of
-    /// a call, and stores the result.
+    /// Returns a clone of the stored result of a key. If there is none, calls the function, stores its result, and
+    /// returns a clone of the result.
     ///
     /// If the memo runs out of memory, or a limit prevents storing the result, the result is returned anyway.
     ///
@@ -184,9 +184,9 @@ impl<K: Eq + Hash, V, F: Fn(&K) -> V, L: Admission<K, V>, S: BuildHasher> Memo<K
 
     /// Sets a new limiter, and drops the oldest results while it is over its limit. Returns the old limiter.
     ///
-    /// The running total of a new limiter, such as `ByCost`, must begin as the total cost of the stored results, because
-    /// the limiter is not notified of them: `ByCost::new(10)` would count them as 0. `limiter().with_limit(10)` begins
-    /// with the right total.
+    /// The running total of a new limiter, such as `ByCost`, must begin as the total cost of the stored results,
+    /// because the limiter is not notified of them: `ByCost::new(10)` would count them as 0. `limiter().with_limit(10)`
+    /// begins with the right total.
     ///
     /// Cost: `O(1)` for each result that is dropped.
     ///
@@ -286,8 +286,8 @@ where
         self.loader.is_empty()
     }
 
-    /// Returns a clone of the stored value of a key. If there is none, calls the function, stores its value, and returns
-    /// a clone of the value, or the error.
+    /// Returns a clone of the stored value of a key. If there is none, calls the function, stores its value, and
+    /// returns a clone of the value, or the error.
     ///
     /// If the loader runs out of memory, or a limit prevents storing the value, the value is returned anyway.
     ///
@@ -309,8 +309,8 @@ where
         self.load_with(key, V::clone)
     }
 
-    /// Does what [`load`](Self::load) does, but lends the value to a closure instead of cloning it, and returns what the
-    /// closure returns.
+    /// Does what [`load`](Self::load) does, but lends the value to a closure instead of cloning it, and returns what
+    /// the closure returns.
     ///
     /// Cost: as `load`, with a call of the closure instead of a clone.
     ///

@@ -31,8 +31,8 @@ impl Best {
     ///
     /// Proved: no policy that stores each referenced key misses less often.
     ///
-    /// Cost: for n places, `O(log n)` for each reference. The memory is in proportion to the smaller of n and the number
-    /// of keys.
+    /// Cost: for n places, `O(log n)` for each reference. The memory is in proportion to the smaller of n and the
+    /// number of keys.
     ///
     /// ```
     /// # use jeerdurian::trace::Curve;
