@@ -52,7 +52,8 @@ def main():
             sys.exit(f"{__doc__}\nno folder of edits: {' '.join(unknown)}")
         crates = words
     print(f"edits of: {' '.join(crates) or 'no crate'}", flush=True)
-    sys.exit(max([status_of(crate) for crate in crates], default=0))
+    # The status of a command that was killed is negative.
+    sys.exit(max([abs(status_of(crate)) for crate in crates], default=0))
 
 
 if __name__ == "__main__":

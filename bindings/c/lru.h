@@ -305,22 +305,21 @@ void lru_bytes_set_budget(struct lru_bytes *lru, uint64_t budget);
 /* Removes all entries. The map keeps the memory of its table. */
 void lru_bytes_clear(struct lru_bytes *lru);
 
-/* The functions of the library take no null. These macros have the functions' names. Instead of a null whose length is
- * 0, they pass an address that nothing reads or writes. So lru_bytes_peek(&lru, key, len, NULL, 0) returns the length
- * of a value. A program that calls the functions by their addresses passes no null. */
+/* The functions of the library take no null. These macros have the functions' names. Instead of a null they pass an
+ * address at which no object is. A call with the length 0 reads and writes nothing there, so
+ * lru_bytes_peek(&lru, key, len, NULL, 0) returns the length of a value. A null with a length above 0 crashes, as a
+ * null does. A program that calls the functions by their addresses passes no null. */
 static inline const uint8_t *lru_bytes_in(const uint8_t *bytes) {
-    static const uint8_t none = 0;
-    return bytes ? bytes : &none;
+    return bytes ? bytes : (const uint8_t *)(uintptr_t)1;
 }
 
 static inline uint8_t *lru_bytes_out(uint8_t *bytes) {
-    static uint8_t none = 0;
-    return bytes ? bytes : &none;
+    return bytes ? bytes : (uint8_t *)(uintptr_t)1;
 }
 
+/* The address 8 is aligned. */
 static inline struct lru_entry *lru_entries_out(struct lru_entry *entries) {
-    static struct lru_entry none = {0, 0};
-    return entries ? entries : &none;
+    return entries ? entries : (struct lru_entry *)(uintptr_t)8;
 }
 
 #define lru_copy_newest(lru, entries, count) (lru_copy_newest)(lru, lru_entries_out(entries), count)

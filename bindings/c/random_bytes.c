@@ -362,6 +362,7 @@ int main(int count, char **words) {
     static const uint64_t budgets[] = {0, 63, 64, 100, 500, 2000, 5000, UINT64_MAX};
     long calls = count > 1 ? atol(words[1]) : 100000;
     if (lru_abi_version() != LRU_ABI_VERSION) return 1;
+    if ((uintptr_t)lru_bytes_in(NULL) != 1 || (uintptr_t)lru_bytes_out(NULL) != 1) return 1;
     for (int pass = 0; pass < 2; pass++) {
         fail_each = pass ? 3 : 0;
         for (size_t i = 0; i < sizeof budgets / sizeof *budgets; i++)

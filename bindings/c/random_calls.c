@@ -228,6 +228,7 @@ int main(int count, char **words) {
     static const uint32_t mosts[] = {0, 1, 2, 3, 7, 16, 33, MOST};
     long calls = count > 1 ? atol(words[1]) : 100000;
     if (lru_abi_version() != LRU_ABI_VERSION) return 1;
+    if ((uintptr_t)lru_entries_out(NULL) != 8) return 1;
     for (int pass = 0; pass < 2; pass++) {
         fail_each = pass ? 3 : 0;
         for (size_t i = 0; i < sizeof mosts / sizeof *mosts; i++)

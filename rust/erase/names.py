@@ -39,14 +39,15 @@ def imports(text):
 
 
 def docs(toks):
-    """Drops the code blocks of docs, which are Rattle, the paragraphs about these examples, and the empty lines above.
-    The erased tests contain each line of the code."""
-    out, end = [], None
+    """Drops the code blocks of docs, which are Rattle, the paragraphs about these examples and about contracts, and the
+    empty lines above. The erased tests contain each line of the code."""
+    out, end, above = [], None, ""
     for t in toks:
         line = re.sub("//[/!]", "", t.text).strip() if t.kind == "comment" else None
         if not is_trivia(t) or (end == "" and line == ""):
             end = None
-        if end != "```" and line is not None and re.match(r"```\w*$|In the examples", line):
+        begins = r"```\w*$|In the examples" if above else r"```\w*$|In the examples|Contracts "
+        if end != "```" and line is not None and re.match(begins, line):
             end = "```" if line[0] == "`" else ""
             drop_last(out, "ws")
             if out and out[-1].text in ("///", "//!"):
@@ -57,6 +58,8 @@ def docs(toks):
         else:
             drop_last(out, "ws")
             end = None if line == end else end
+        if line is not None or not is_trivia(t):
+            above = line or ""
     return out
 
 

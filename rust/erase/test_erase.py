@@ -67,6 +67,10 @@ CASES = [
     ("/// ```\n/// f(rt; 1)\n/// ```\nfn f() {}\n/// d\n/// ```text\n/// t\n/// ```\nfn g() {}", "fn f() {}\n/// d\nfn g() {}"),
     ("/// d\n///\n/// In the examples, a\n/// is b.\n///\n/// ```\n/// a\n/// ```\nfn f() {}", "/// d\nfn f() {}"),
     ("/// d\n///\n/// In the examples, a.\nfn f() {}", "/// d\nfn f() {}"),
+    # A paragraph about contracts, but not a line of another paragraph.
+    ("/// d\n///\n/// Contracts see a\n/// as b.\n///\n/// e\nfn f() {}", "/// d\n///\n/// e\nfn f() {}"),
+    ("/// Contracts see a.\nfn f() {}\n/// d\n/// Contracts see a.\nfn g() {}",
+     "fn f() {}\n/// d\n/// Contracts see a.\nfn g() {}"),
     # A destructor that changes other values alone.
     ("struct S<'a> { a: &'a u8, b: u64 } impl Drop for S<'_> { fn drop(self) { g(self.a); } }",
      "struct S<'a> { a: &'a u8, b: u64 } impl Drop for S<'_> { fn drop(&mut self) {"

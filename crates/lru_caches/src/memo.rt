@@ -113,6 +113,19 @@ impl<K: Eq + Hash, V, F: Fn(&K) -> V, L: Insertion<K, V, K>, S: KeyHasher<K>> Me
     {
         self.map.is_empty()
     }
+
+    /// Returns the limiter.
+    ///
+    /// Cost: `O(1)`.
+    ///
+    /// ```
+    /// assert_eq!(rt; squares.limiter().max_length(), 9);
+    /// ```
+    pub fn limiter(&self) -> &L
+        ensures { result.now ≡ self.now.map.limiter }
+    {
+        self.map.limiter()
+    }
 }
 
 impl<

@@ -171,7 +171,7 @@ fn of_memo(rt: HostRuntime) -> Result<(), Fail> {
     let held = (squares.answer(3), squares.len()) == (9, 1);
     let seeded = RandomState::with_seeds([5, 6, 7, 8]);
     let cubes = Memo::with_hasher(alloc, ByLength::new(9), seeded, |n: &u64| n.wrapping_pow(3));
-    let held = held & all!(cubes.is_empty());
+    let held = held & all!(cubes.is_empty(), squares.limiter().max_length() == 9);
     squares.clear();
     let held = held
         & all!((squares.answer_full(3), squares.answer_full(3)) == ((9, true), (9, false)));

@@ -19,7 +19,9 @@ use lru_limits::{Admission, Budgeted, Limiter, Summing};
 /// ```
 #[derive(Clone, Copy, Debug)]
 pub struct Counting<L> {
+    /// The limiter, which decides what the map accepts and evicts.
     pub limiter: L,
+    /// What the calls of the map counted.
     pub counts: Counts,
 }
 

@@ -17,8 +17,8 @@ use std::hash::Hash;
 
 /// Carries out the calls in order, and returns one answer for each.
 ///
-/// The answers to a tenant's calls depend only on these calls, with two exceptions: memory may run out, and `open` may
-/// return `OverTotal` if the cache has a total limit.
+/// Each call finds the named tenant as the previous call on this tenant left it (`each_tenant_has_its_own_run`). If the
+/// cache has a total limit, `open` may return `OverTotal`.
 ///
 /// ```
 /// let mut cache: TenantCache<u64, u64, u64> = TenantCache::new(alloc, [1, 2, 3, 4]);

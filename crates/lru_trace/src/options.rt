@@ -15,7 +15,9 @@ pub enum Form {
 /// A column of a line: the bytes behind the first `index` separators, up to the next separator.
 #[derive(Clone, Copy, Debug, PartialEq, Eq)]
 pub struct Column {
+    /// The number of columns before this column.
     pub index: usize,
+    /// The byte between two columns.
     pub separator: u8,
 }
 
@@ -34,13 +36,24 @@ pub enum Measure {
 #[derive(Clone, Copy, Debug, PartialEq, Eq)]
 pub enum Policies {
     /// LRU. The first `warm_up` references fill the caches, and are not counted.
-    Lru { warm_up: u64 },
+    Lru {
+        /// The number of references in the warm-up.
+        warm_up: u64,
+    },
     /// As `Lru`. A line that begins with a minus and a space deletes its key.
-    Deletes { warm_up: u64 },
+    Deletes {
+        /// The number of references in the warm-up.
+        warm_up: u64,
+    },
     /// LRU and the best possible policies. All caches begin with no keys.
     Best,
     /// LRU with limits of bytes, after a warm-up. The column `size` says how many bytes an entry takes.
-    Sized { warm_up: u64, size: Column },
+    Sized {
+        /// The number of references in the warm-up.
+        warm_up: u64,
+        /// The column of the sizes.
+        size: Column,
+    },
 }
 
 /// What `trace` reads and writes.
@@ -48,7 +61,9 @@ pub enum Policies {
 pub struct Options {
     /// The column that contains the key. Without a column the whole line is the key.
     pub column: Option<Column>,
+    /// The form of the report.
     pub form: Form,
+    /// The policies whose misses are counted.
     pub policies: Policies,
     /// A key is referenced only if the lowest `sample` bits of its hash are zero. A number above 20 means 20.
     pub sample: u32,

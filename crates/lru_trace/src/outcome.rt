@@ -8,18 +8,22 @@ use thiserror::Error;
 /// How a trace ends if nothing fails.
 #[derive(Clone, Copy, Debug, PartialEq, Eq)]
 pub enum TraceEnd {
+    /// The report was written.
     Done,
+    /// The input is empty, or its first line names no sizes. Nothing was written.
     NoSizes,
 }
 
 /// Why a trace stops early.
 #[derive(Clone, Copy, Debug, PartialEq, Eq, Error)]
 pub enum TraceError {
+    /// A read failed.
     #[error("read failed")]
     Read = 1,
     /// A write or the flush failed.
     #[error("write failed")]
     Write = 2,
+    /// Memory ran out.
     #[error("out of memory")]
     Memory = 3,
     /// The sizes of all keys sum to 2 ^ 64 or more.

@@ -13,49 +13,49 @@ pub struct OccupiedEntry<'a, K, V, L: Limiter<K, V>, S> {
 }
 
 impl<'a, K: Hash + PartialEq, V, L: Limiter<K, V>, S: BuildHasher> OccupiedEntry<'a, K, V, L, S> {
-    /// Returns the stored key, not the equal key of the look-up.
+    /// Returns the stored key, not the equal key of the look-up. Cost: `O(1)`.
     #[inline]
     pub fn key(&self) -> &K {
         self.entry.key()
     }
 
-    /// Returns the value.
+    /// Returns the value. Cost: `O(1)`.
     #[inline]
     pub fn get(&self) -> &V {
         self.entry.get()
     }
 
-    /// Lends the value for writing. The order of use stays. The limiter is not notified of writes.
+    /// Lends the value for writing. The order of use stays. The limiter is not notified of writes. Cost: `O(1)`.
     #[inline]
     pub fn get_mut(&mut self) -> &mut V {
         self.entry.get_mut()
     }
 
-    /// Lends the value for writing as long as the map is borrowed, as `get_mut` does.
+    /// Lends the value for writing as long as the map is borrowed, as `get_mut` does. Cost: `O(1)`.
     #[inline]
     pub fn into_mut(self) -> &'a mut V {
         self.entry.into_mut()
     }
 
-    /// Makes the entry the newest.
+    /// Makes the entry the newest. Cost: `O(1)`.
     #[inline]
     pub fn promote(&mut self) {
         self.entry.promote();
     }
 
-    /// Makes the entry the oldest, the next to be evicted.
+    /// Makes the entry the oldest, the next to be evicted. Cost: `O(1)`.
     #[inline]
     pub fn demote(&mut self) {
         self.entry.demote();
     }
 
-    /// Removes the entry. Returns the stored key and the value, as the limiter left them.
+    /// Removes the entry. Returns the stored key and the value, as the limiter left them. Cost: `O(1)`.
     #[inline]
     pub fn remove_entry(self) -> (K, V) {
         self.entry.remove_entry()
     }
 
-    /// Removes the entry. Returns the value, as the limiter left it.
+    /// Removes the entry. Returns the value, as the limiter left it. Cost: `O(1)`.
     #[inline]
     pub fn remove(self) -> V {
         // Not `.1`, so that the value is dropped, too, if the drop of the key panics.

@@ -41,7 +41,8 @@ where
     L: Limiter<K, V>,
 {
     /// Inserts as [`LruMap::insert`] does. Proved: `Ok(true)` means that the key is there, as the newest, within the
-    /// limit, and `Ok(false)` that it is not there. After an `Err`, only the oldest entries may be gone.
+    /// limit, and `Ok(false)` that it is not there. After an `Err`, only the oldest entries may be gone. Cost: as
+    /// [`LruMap::insert`].
     ///
     /// # Errors
     ///
@@ -56,7 +57,7 @@ where
     }
 
     /// Inserts as [`More::insert_full`](crate::More::insert_full) does. Proved: the same as for `insert`, and the
-    /// returned value.
+    /// returned value. Cost: as `insert`, plus the calls of the callback.
     ///
     /// # Errors
     ///
@@ -75,7 +76,7 @@ where
     }
 
     /// Lends the value of a key as the newest. If the key is absent, first inserts it. Proved: the same as for
-    /// `LruMap::get` and `insert`.
+    /// `LruMap::get` and `insert`. Cost: as `get` if the key is there, else as `insert`.
     ///
     /// # Errors
     ///
@@ -110,7 +111,7 @@ where
         }
     }
 
-    /// Clones the map as `clone` does. Proved: the same as for `More::try_clone`.
+    /// Clones the map as `clone` does. Proved: the same as for `More::try_clone`. Cost: as the `clone` of the map.
     ///
     /// # Errors
     ///
@@ -126,7 +127,7 @@ where
     }
 
     /// Moves the entries into the smallest table that holds them. Returns whether it moved them. Proved: the same as
-    /// for `More::shrink_to_fit`.
+    /// for `More::shrink_to_fit`. Cost: `O(1)` if the table stays, else `O(buckets)` and three allocations.
     ///
     /// # Errors
     ///

@@ -70,9 +70,9 @@ impl<K: Eq + Hash + Costed, V: Costed, const OVERHEAD: u64> Budget<K, V> for ByW
 /// The limiter `L` says what an entry costs (see [`Budget`]). The budgets of all tenants add up to at most the total
 /// limit, if [`set_total_limit`](Self::set_total_limit) set one.
 ///
-/// Proved: the cost of a tenant stays within its budget, and the sum of all costs within the total limit. What a call
-/// returns depends only on the calls of its tenant, except that memory may run out, and that `open` and `set_budget`
-/// depend on the total limit. The proofs assume that a cost never changes while its entry is stored.
+/// Proved: the cost of a tenant stays within its budget, and the sum of all costs within the total limit. Each call
+/// finds its tenant as the previous call on this tenant left it. The proofs assume that a cost never changes while its
+/// entry is stored.
 ///
 /// In the examples of the calls, `cache` has one open tenant, 1, with a budget of 3 and the entry (7, 2).
 pub struct TenantCache<N, K, V, L = ByCost, S = RandomState>
@@ -137,6 +137,9 @@ where
     S: BuildHasher + Copy,
 {
     /// Makes a cache without tenants and without a total limit, with this hasher of names and keys. It takes no memory.
+    ///
+    /// Each tenant's map gets a copy of the hasher, so `S` must be `Copy`. [`RandomState`] is `Copy`, but std's
+    /// `RandomState` and `BuildHasherDefault` are not.
     ///
     /// ```
     /// # use jeerdurian::{ByCost, RandomState, tenants::TenantCache};

@@ -262,7 +262,7 @@ pub fn report(mut reader: impl BufRead, mut writer: impl Write) -> Result<TraceE
 ///
 /// # Errors
 ///
-/// As for `report`.
+/// As for `report`, but if memory runs out for the misses of these policies, the program aborts.
 ///
 /// ```
 /// use jeerdurian::trace::{TraceEnd, report_with_best};
@@ -280,7 +280,8 @@ pub fn report_with_best(mut reader: impl BufRead, mut writer: impl Write) -> Res
 ///
 /// # Errors
 ///
-/// As for `report`. `TooLarge`: the sizes of all keys sum to 2^64 or more.
+/// As for `report`, and with `Policies::Best` as for `report_with_best`. `TooLarge`: the sizes of all keys sum to 2^64
+/// or more.
 ///
 /// ```
 /// use jeerdurian::trace::{Column, Form, Options, Policies, TraceEnd, report_as};

@@ -265,6 +265,19 @@ fn memos_count_the_bytes_of_their_entries() {
     }
 }
 
+/// A memo under `limiter().with_limit(..)` keeps its running total. Its values need only be `Clone`.
+#[test]
+fn memos_keep_their_total_under_a_new_limit() {
+    let text = |n: &u64| "x".repeat(*n as usize);
+    let mut memo = Memo::new(ByCost::new(30), text);
+    let mut loader = Loader::new(ByCost::new(30), |n: &u64| Ok::<_, ()>(text(n)));
+    assert_eq!((memo.answer_full(10), memo.answer_full(10)), ((text(&10), true), (text(&10), false)));
+    assert_eq!((memo.answer(12), memo.limiter().cost()), (text(&12), 22));
+    let old = memo.set_limiter(memo.limiter().with_limit(15));
+    assert_eq!((old.cost(), memo.len(), memo.limiter().cost()), (22, 1, 12));
+    assert_eq!((memo.get(&10), memo.get(&12), loader.load(7)), (None, Some(text(&12)), Ok(text(&7))));
+}
+
 /// Memos and loaders call their functions once for an answer that is not stored, also while they evict.
 #[test]
 fn memos_call_their_functions_once() {

@@ -52,6 +52,21 @@ fn an_insert_out_of_memory_returns_false_and_evicts_nothing() {
     refuse_each(14, 0, 3, |map| map.fallible().insert(500, [5; 2]).is_ok());
 }
 
+/// A new cache reserves memory for a small part of a large capacity, and for all of a small one.
+#[cfg(feature = "lru")]
+#[test]
+fn a_new_cache_of_lru_reserves_little() {
+    use jeerdurian::lru::LruCache;
+    let bytes = held();
+    let mut cache = LruCache::<u64, [u8; 4096]>::new(1_000_000);
+    assert!(held() - bytes < 150_000);
+    (0..100).for_each(|n| assert_eq!(cache.put(n, [0; 4096]), None));
+    let mut small = LruCache::<u64, u64>::new(1000);
+    let bytes = held();
+    (0..1000).for_each(|n| assert_eq!(small.put(n, n), None));
+    assert_eq!((held(), cache.len(), small.len()), (bytes, 100, 1000));
+}
+
 #[test]
 fn a_new_map_and_its_copy_take_no_memory() {
     let made = refused(1, || (Map::new(UnlimitedCompact).clone().len(), LruMap::<u8, u8, _>::new(Unlimited).len()));
@@ -184,7 +199,7 @@ fn caches_out_of_memory_return_errors() {
     };
     errs(3, tenants, |cache| cache.open(3, 9).is_ok() || cache.contains(&3, &0).is_ok());
     errs(2, tenants, |cache| cache.put(&0, 1, 1).is_ok());
-    errs(4, || Curve::new().unwrap(), |curve| curve.refer("a").is_ok());
+    errs(5, || Curve::new().unwrap(), |curve| curve.refer("a").is_ok());
 }
 
 /// Page caches that are closed or discarded; tenants that evict, and are closed or dropped; curves with repeated

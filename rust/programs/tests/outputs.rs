@@ -181,8 +181,26 @@ fn status_of_trace(input: &Path, output: &str) -> Option<i32> {
     run.stdin(File::open(input).unwrap()).stdout(output).status().unwrap().code()
 }
 
+/// `trace` says on standard error why it writes no output.
+#[test]
+fn reasons_of_trace() {
+    let cases = Path::new(env!("CARGO_MANIFEST_DIR")).join("../../crates/trace/cases");
+    let large = Path::new(env!("CARGO_TARGET_TMPDIR")).join("large");
+    fs::write(&large, "1\na,18446744073709551615\nb,1\n").unwrap();
+    for (arguments, input, status, reason) in [
+        (&[][..], cases.join("no_sizes"), 1, "trace: the first line has no sizes; try --help\n"),
+        (&["--column", "1", "--size-column", "2"], large, 5, "trace: the sizes of the keys are too large\n"),
+        (&["--sample", "21"], cases.join("cycle"), 4, "trace: an option cannot have the value 21; try --help\n"),
+    ] {
+        let mut run = Command::new(env!("CARGO_BIN_EXE_trace"));
+        let run = run.args(arguments).stdin(File::open(input).unwrap()).output().unwrap();
+        assert_eq!((run.status.code(), run.stdout.as_slice()), (Some(status), &b""[..]), "{arguments:?}");
+        assert_eq!(String::from_utf8_lossy(&run.stderr), reason, "{arguments:?}");
+    }
+}
+
 /// The statuses of `trace`, except the status for an unknown argument. A directory cannot be read, a full device cannot
-/// be written, and 400,000 keys do not fit in 30 megabytes.
+/// be written, and 2,000,000 keys do not fit in 30 megabytes.
 #[cfg(target_os = "linux")]
 #[test]
 fn statuses_of_trace() {
@@ -192,7 +210,7 @@ fn statuses_of_trace() {
     assert_eq!(status_of_trace(&cases, "/dev/null"), Some(2));
     assert_eq!(status_of_trace(&cases.join("cycle"), "/dev/full"), Some(2));
     let many = Path::new(env!("CARGO_TARGET_TMPDIR")).join("many_keys");
-    fs::write(&many, (0..400_000).map(|key| format!("{key}\n")).collect::<String>()).unwrap();
+    fs::write(&many, (0..2_000_000).map(|key| format!("{key}\n")).collect::<String>()).unwrap();
     for form in ["--best", "--csv", "--svg"] {
         let mut limited = Command::new("sh");
         limited.args(["-c", "ulimit -v 30000; exec \"$0\" \"$1\"", env!("CARGO_BIN_EXE_trace"), form]);

@@ -41,27 +41,28 @@ where
 }
 
 impl<K: Eq + Hash, V, L: Limiter<K, V>, S: BuildHasher> CountedMap<K, V, L, S> {
-    /// Counts the calls on this map from now on.
+    /// Counts the calls on this map from now on. Cost: `O(1)`.
     pub fn new(map: LruMap<K, V, L, S>) -> Self {
         CountedMap { counted: proved::CountedMap::new(map.map) }
     }
 
-    /// Returns the counts.
+    /// Returns the counts. Cost: `O(1)`.
     pub fn counts(&self) -> Counts {
         self.counted.counts()
     }
 
-    /// Returns the counts, and resets them to zero.
+    /// Returns the counts, and resets them to zero. Cost: `O(1)`.
     pub fn take_counts(&mut self) -> Counts {
         self.counted.take_counts()
     }
 
-    /// Returns the map, and drops the counts.
+    /// Returns the map, and drops the counts. Cost: `O(1)`.
     pub fn into_map(self) -> LruMap<K, V, L, S> {
         LruMap { map: self.counted.into_map() }
     }
 
-    /// Returns the entries, the newest first. The order stays, and nothing is counted.
+    /// Returns the entries, the newest first. The order stays, and nothing is counted. Cost: `O(1)`, and `O(1)` for
+    /// each step from either end.
     ///
     /// ```
     /// use jeerdurian::{ByLength, LruMap, caches::CountedMap};
@@ -75,7 +76,7 @@ impl<K: Eq + Hash, V, L: Limiter<K, V>, S: BuildHasher> CountedMap<K, V, L, S> {
         Iter::new(self.counted.map())
     }
 
-    /// Returns whether a key is there. The order stays, and nothing is counted.
+    /// Returns whether a key is there. The order stays, and nothing is counted. Cost: `O(1)` expected.
     ///
     /// ```
     /// # use jeerdurian::{ByLength, LruMap, caches::CountedMap};
@@ -86,7 +87,7 @@ impl<K: Eq + Hash, V, L: Limiter<K, V>, S: BuildHasher> CountedMap<K, V, L, S> {
         self.counted.map().contains(&Named(key))
     }
 
-    /// Returns the limiter.
+    /// Returns the limiter. Cost: `O(1)`.
     ///
     /// ```
     /// # use jeerdurian::{ByLength, LruMap, caches::CountedMap};
@@ -97,22 +98,23 @@ impl<K: Eq + Hash, V, L: Limiter<K, V>, S: BuildHasher> CountedMap<K, V, L, S> {
         &self.counted.map().limiter().0
     }
 
-    /// Returns the number of entries.
+    /// Returns the number of entries. Cost: `O(1)`.
     pub fn len(&self) -> usize {
         self.counted.map().len()
     }
 
-    /// Returns whether there are no entries.
+    /// Returns whether there are no entries. Cost: `O(1)`.
     pub fn is_empty(&self) -> bool {
         self.counted.map().is_empty()
     }
 
-    /// Returns the value of a key. The order stays, and nothing is counted.
+    /// Returns the value of a key. The order stays, and nothing is counted. Cost: `O(1)` expected.
     pub fn peek(&self, key: &(impl Hash + PartialEq<K> + ?Sized)) -> Option<&V> {
         self.counted.map().peek(&Named(key))
     }
 
-    /// Returns the value of a key, as the newest, and counts a hit. If the key is not there, counts a miss.
+    /// Returns the value of a key, as the newest, and counts a hit. If the key is not there, counts a miss. Cost:
+    /// `O(1)` expected.
     pub fn get(&mut self, key: &(impl Hash + PartialEq<K> + ?Sized)) -> Option<&V> {
         if !self.counted.promote(&Named(key)) {
             return None;
@@ -120,7 +122,9 @@ impl<K: Eq + Hash, V, L: Limiter<K, V>, S: BuildHasher> CountedMap<K, V, L, S> {
         self.counted.map().peek_newest().map(|(_, value)| value)
     }
 
-    /// Does what `LruMap::insert` does, and counts the insert.
+    /// Does what `LruMap::insert` does, and counts the insert: as an insertion if it returns true, and as a rejection
+    /// if it returns false. If memory runs out, it returns false, and counts only the evicted entries. Cost: as
+    /// [`LruMap::insert`].
     pub fn insert<'a>(&mut self, key: L::KeyToInsert<'a>, value: V) -> bool
     where
         L::KeyToInsert<'a>: Hash + PartialEq<K>,
@@ -128,7 +132,7 @@ impl<K: Eq + Hash, V, L: Limiter<K, V>, S: BuildHasher> CountedMap<K, V, L, S> {
         self.counted.insert(Offered(key), value).unwrap_or(false)
     }
 
-    /// Does what `LruMap::remove` does. A removal counts nothing.
+    /// Does what `LruMap::remove` does. A removal counts nothing. Cost: `O(1)` expected.
     pub fn remove(&mut self, key: &(impl Hash + PartialEq<K> + ?Sized)) -> Option<V> {
         self.counted.remove(&Named(key))
     }

@@ -169,6 +169,10 @@ file_device!(
 file_device!(
     /// A device of the blocks of a file, of `N` bytes each, with a checksum in the last 8 bytes of each block.
     ///
+    /// A write overwrites the last 8 bytes of the block with the checksum, so keep nothing there. A
+    /// [`PageCache`](super::PageCache) shows a written page with the caller's 8 bytes until the page is evicted; a
+    /// later read shows the checksum.
+    ///
     /// A read fails with `Damaged` if the checksum does not fit the block: the block is torn, damaged, written for
     /// another number, or not written by this device. The hash is public, so whoever can write the file can forge a
     /// block.

@@ -74,12 +74,25 @@ impl<K: Eq + Hash, V, F: Fn(&K) -> V, L: Admission<K, V>, S: BuildHasher> Memo<K
         self.memo.is_empty()
     }
 
-    /// Returns what the function returns at a key: the stored result if there is one, otherwise the result of a call,
-    /// which is then stored.
+    /// Returns the limiter.
+    ///
+    /// Cost: `O(1)`.
+    ///
+    /// ```
+    /// # use jeerdurian::{ByLength, caches::Memo};
+    /// let squares = Memo::new(ByLength::new(9), |n: &u64| n * n);
+    /// assert_eq!(squares.limiter().max_length(), 9);
+    /// ```
+    pub fn limiter(&self) -> &L {
+        &self.memo.limiter().0
+    }
+
+    /// Returns a clone of the stored result of a key. If there is none, calls the function, stores its result, and
+    /// returns a clone of the result.
     ///
     /// If the memo runs out of memory, or a limit prevents storing the result, the result is returned anyway.
     ///
-    /// Cost: a get; if no result is stored, also a call of the function and an insert.
+    /// Cost: a get and a clone; if no result is stored, also a call of the function and an insert.
     ///
     /// ```
     /// # use jeerdurian::{ByLength, caches::Memo};
@@ -93,12 +106,14 @@ impl<K: Eq + Hash, V, F: Fn(&K) -> V, L: Admission<K, V>, S: BuildHasher> Memo<K
     /// ```
     pub fn answer(&mut self, key: K) -> V
     where
-        V: Copy,
+        V: Clone,
     {
-        self.memo.answer(key)
+        self.answer_with(key, V::clone)
     }
 
     /// Does what [`answer`](Self::answer) does, and also returns whether it called the function.
+    ///
+    /// Cost: as `answer`; if no result is stored, also a second search.
     ///
     /// ```
     /// # use jeerdurian::{ByLength, caches::Memo};
@@ -107,13 +122,18 @@ impl<K: Eq + Hash, V, F: Fn(&K) -> V, L: Admission<K, V>, S: BuildHasher> Memo<K
     /// ```
     pub fn answer_full(&mut self, key: K) -> (V, bool)
     where
-        V: Copy,
+        V: Clone,
     {
-        self.memo.answer_full(key)
+        match self.get(&key) {
+            Some(value) => (value, false),
+            None => (self.answer(key), true),
+        }
     }
 
-    /// Does what [`answer`](Self::answer) does, but lends the result to a closure, and returns what the closure returns.
-    /// The values need not be `Copy`.
+    /// Does what [`answer`](Self::answer) does, but lends the result to a closure instead of cloning it, and returns
+    /// what the closure returns.
+    ///
+    /// Cost: as `answer`, with a call of the closure instead of a clone.
     ///
     /// ```
     /// # use jeerdurian::{ByLength, caches::Memo};
@@ -124,7 +144,9 @@ impl<K: Eq + Hash, V, F: Fn(&K) -> V, L: Admission<K, V>, S: BuildHasher> Memo<K
         self.memo.answer_with(key, read)
     }
 
-    /// Returns the stored result of a key, and makes it the newest. Does not call the function.
+    /// Returns a clone of the stored result of a key, and makes the result the newest. Does not call the function.
+    ///
+    /// Cost: `O(1)` expected, and a clone.
     ///
     /// ```
     /// # use jeerdurian::{ByLength, caches::Memo};
@@ -133,13 +155,13 @@ impl<K: Eq + Hash, V, F: Fn(&K) -> V, L: Admission<K, V>, S: BuildHasher> Memo<K
     /// ```
     pub fn get(&mut self, key: &(impl Hash + PartialEq<K> + ?Sized)) -> Option<V>
     where
-        V: Copy,
+        V: Clone,
     {
-        self.memo.get(&Named(key))
+        self.get_with(key, V::clone)
     }
 
-    /// Does what [`get`](Self::get) does, but lends the result to a closure, and returns what the closure returns.
-    /// The values need not be `Copy`.
+    /// Does what [`get`](Self::get) does, but lends the result to a closure instead of cloning it, and returns what the
+    /// closure returns.
     pub fn get_with<R>(&mut self, key: &(impl Hash + PartialEq<K> + ?Sized), read: impl FnOnce(&V) -> R) -> Option<R> {
         self.memo.get_with(&Named(key), read)
     }
@@ -162,12 +184,26 @@ impl<K: Eq + Hash, V, F: Fn(&K) -> V, L: Admission<K, V>, S: BuildHasher> Memo<K
 
     /// Sets a new limiter, and drops the oldest results while it is over its limit. Returns the old limiter.
     ///
+    /// The running total of a new limiter, such as `ByCost`, must begin as the total cost of the stored results,
+    /// because the limiter is not notified of them: `ByCost::new(10)` would count them as 0. `limiter().with_limit(10)`
+    /// begins with the right total.
+    ///
+    /// Cost: `O(1)` for each result that is dropped.
+    ///
     /// ```
     /// # use jeerdurian::{ByLength, caches::Memo};
     /// let mut squares = Memo::new(ByLength::new(9), |n: &u64| n * n);
     /// assert_eq!((squares.answer(3), squares.answer(4)), (9, 16));
     /// squares.set_limiter(ByLength::new(1));
     /// assert!(squares.len() == 1 && !squares.remove(&3) && squares.remove(&4));
+    /// ```
+    ///
+    /// ```
+    /// # use jeerdurian::{ByCost, caches::Memo};
+    /// let mut squares = Memo::new(ByCost::new(100), |n: &u64| n * n);
+    /// assert_eq!((squares.answer(3), squares.answer(4)), (9, 16));
+    /// squares.set_limiter(squares.limiter().with_limit(20));
+    /// assert_eq!((squares.len(), squares.limiter().cost()), (1, 16));
     /// ```
     pub fn set_limiter(&mut self, limiter: L) -> L {
         self.memo.set_limiter(Calls(limiter)).0
@@ -250,12 +286,12 @@ where
         self.loader.is_empty()
     }
 
-    /// Returns the stored value of a key. If there is none, calls the function, stores its value, and returns its
-    /// result.
+    /// Returns a clone of the stored value of a key. If there is none, calls the function, stores its value, and
+    /// returns a clone of the value, or the error.
     ///
     /// If the loader runs out of memory, or a limit prevents storing the value, the value is returned anyway.
     ///
-    /// Cost: a get; if no value is stored, also a call of the function and an insert.
+    /// Cost: a get and a clone; if no value is stored, also a call of the function and an insert.
     ///
     /// # Errors
     ///
@@ -268,13 +304,15 @@ where
     /// ```
     pub fn load(&mut self, key: K) -> Result<V, E>
     where
-        V: Copy,
+        V: Clone,
     {
-        self.loader.load(key)
+        self.load_with(key, V::clone)
     }
 
-    /// Does what [`load`](Self::load) does, but lends the result to a closure, and returns what the closure returns.
-    /// The values need not be `Copy`.
+    /// Does what [`load`](Self::load) does, but lends the value to a closure instead of cloning it, and returns what
+    /// the closure returns.
+    ///
+    /// Cost: as `load`, with a call of the closure instead of a clone.
     ///
     /// # Errors
     ///

@@ -45,7 +45,7 @@ where
 }
 
 impl<N: Eq + Hash + OwnedBytes, K: Eq + Hash + OwnedBytes, V: OwnedBytes> ByteTenants<N, K, V> {
-    /// Makes a cache without tenants, whose hashers have random seeds.
+    /// Makes a cache without tenants, whose hashers have random seeds. Cost: `O(1)`, and no memory.
     #[cfg(feature = "runtime-rng")]
     pub fn new(limit: u64) -> Self {
         Self::with_hasher(RandomState::default(), limit)
@@ -59,33 +59,37 @@ where
     V: OwnedBytes,
     S: BuildHasher + Copy,
 {
-    /// Makes a cache without tenants, with this hasher of names and keys.
+    /// Makes a cache without tenants, with this hasher of names and keys. Cost: `O(1)`, and no memory.
+    ///
+    /// Each tenant's map gets a copy of the hasher, so `S` must be `Copy`. [`RandomState`] is `Copy`, but std's
+    /// `RandomState` and `BuildHasherDefault` are not.
     pub fn with_hasher(hasher: S, limit: u64) -> Self {
         ByteTenants { bytes: proved::ByteTenants::with_hasher(Global, hasher, limit) }
     }
 
-    /// Returns the number of open tenants.
+    /// Returns the number of open tenants. Cost: `O(1)`.
     pub fn len(&self) -> usize {
         self.bytes.len()
     }
 
-    /// Returns whether no tenant is open.
+    /// Returns whether no tenant is open. Cost: `O(1)`.
     pub fn is_empty(&self) -> bool {
         self.bytes.len() == 0
     }
 
-    /// Returns the limit of all bytes.
+    /// Returns the limit of all bytes. Cost: `O(1)`.
     pub fn limit(&self) -> u64 {
         self.bytes.limit()
     }
 
     /// Returns how many bytes are left for the limit and the name of one more tenant, if the table of tenants does not
-    /// grow.
+    /// grow. Cost: `O(1)`.
     pub fn left(&self) -> u64 {
         self.bytes.left()
     }
 
-    /// Opens a tenant with an empty map, and reserves its limit until it is closed.
+    /// Opens a tenant with an empty map, and reserves its limit until it is closed. Cost: `O(1)` expected, amortised
+    /// over the tenants.
     ///
     /// # Errors
     ///
@@ -96,7 +100,8 @@ where
         self.bytes.open(name, limit)
     }
 
-    /// Inserts a key with a value. Returns whether the key is there then.
+    /// Inserts a key with a value. Returns whether the key is there then. Cost: `O(1)` expected, amortised over the
+    /// puts.
     ///
     /// # Errors
     ///
@@ -109,7 +114,7 @@ where
         self.bytes.put(&Borrowed(name), key, value)
     }
 
-    /// Returns a tenant's value of a key, and makes its entry the tenant's newest.
+    /// Returns a tenant's value of a key, and makes its entry the tenant's newest. Cost: `O(1)` expected.
     ///
     /// # Errors
     ///
@@ -124,7 +129,7 @@ where
         self.bytes.get(&Borrowed(name), &Borrowed(key))
     }
 
-    /// Returns a tenant's value of a key. The order stays.
+    /// Returns a tenant's value of a key. The order stays. Cost: `O(1)` expected.
     ///
     /// # Errors
     ///
@@ -139,7 +144,7 @@ where
         self.bytes.peek(&Borrowed(name), &Borrowed(key))
     }
 
-    /// Removes a key of a tenant. Returns its value.
+    /// Removes a key of a tenant. Returns its value. Cost: `O(1)` expected.
     ///
     /// # Errors
     ///
@@ -154,7 +159,8 @@ where
         self.bytes.remove(&Borrowed(name), &Borrowed(key))
     }
 
-    /// Closes a tenant and drops its entries. Returns the number of these entries.
+    /// Closes a tenant and drops its entries. Returns the number of these entries. Cost: `O(buckets)` of the tenant's
+    /// table.
     ///
     /// # Errors
     ///

@@ -75,6 +75,9 @@ where
 {
     /// Makes a pool without tenants, with this hasher of names and keys. It takes no memory.
     ///
+    /// Each tenant's map gets a copy of the hasher, so `S` must be `Copy`. [`RandomState`] is `Copy`, but std's
+    /// `RandomState` and `BuildHasherDefault` are not.
+    ///
     /// ```
     /// # use jeerdurian::{ByCost, RandomState, tenants::TenantPool};
     /// let pool: TenantPool<u64, u64, u64, ByCost, _> = TenantPool::with_hasher(RandomState::default(), 5);

@@ -43,7 +43,8 @@ pub trait BlockDevice<B> {
         true
     }
 
-    /// Returns the block that was last written at this number.
+    /// Returns the block that was last written at this number. A [`HashedFileDevice`](super::super::HashedFileDevice)
+    /// returns its checksum in place of the last 8 bytes that were written.
     ///
     /// # Errors
     ///

@@ -1,6 +1,4 @@
 // Erased from crates/group_table/src/table.rt: do not edit.
-//! Contracts describe a table by its `slots` (one for each bucket) and the counts of its `insertions`.
-
 #[allow(unused_imports)]
 use crate::rattle_std::prelude::*;
 

@@ -17,10 +17,11 @@ pub struct Counts {
     pub hits: u64,
     /// How many look-ups did not find their key.
     pub misses: u64,
-    /// The number of inserts that returned `Ok(true)`.
+    /// The number of inserts that left their key in the map.
     pub insertions: u64,
-    /// The number of inserts that returned `Ok(false)`, because the limiter rejected the entry, no table could hold the
-    /// entry, or the entry was evicted at once.
+    /// The number of inserts that did not leave their key in the map, because the limiter rejected the entry, no table
+    /// could hold the entry, or the entry was evicted at once. An insert that runs out of memory counts neither as an
+    /// insertion nor as a rejection.
     pub rejections: u64,
     /// The number of entries that were evicted by inserts of other keys.
     pub evictions: u64,

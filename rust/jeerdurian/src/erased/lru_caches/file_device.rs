@@ -33,9 +33,6 @@ impl ::core::fmt::Display for FileError {
 
 /// A device whose blocks are parts of a file. Each block has `N` bytes.
 ///
-/// Contracts see a record of the calls on the file (`specs/Files`), because nothing is proved about the bytes that an
-/// operating system returns or keeps. The record takes no memory.
-///
 /// [`HashedFileDevice`] also detects torn and damaged blocks.
 ///
 /// [`HashedFileDevice`]: crate::HashedFileDevice

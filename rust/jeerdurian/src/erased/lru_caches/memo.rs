@@ -46,6 +46,13 @@ impl<K: Eq + Hash, V, F: Fn(&K) -> V, L: Insertion<K, V, K>, S: KeyHasher<K>> Me
     pub fn is_empty(&self) -> bool {
         self.map.is_empty()
     }
+
+    /// Returns the limiter.
+    ///
+    /// Cost: `O(1)`.
+    pub fn limiter(&self) -> &L {
+        self.map.limiter()
+    }
 }
 
 impl<K: Eq + Hash, V: Copy, F: Fn(&K) -> V, L: Insertion<K, V, K>, S: KeyHasher<K>> Memo<K, V, F, L, S> {

@@ -11,7 +11,9 @@ use crate::erased::lru_limits::{Admission, Budgeted, Limiter, Summing};
 /// counts.
 #[derive(Clone, Copy, Debug)]
 pub struct Counting<L> {
+    /// The limiter, which decides what the map accepts and evicts.
     pub limiter: L,
+    /// What the calls of the map counted.
     pub counts: Counts,
 }
 

@@ -16,9 +16,6 @@ mod index;
 mod promoted;
 
 /// A table whose full buckets are in an order, newest first. `N` is the type of its links.
-///
-/// Contracts represent a table by its `slots`, the `order` of its full buckets, and its `insertions`. Only `move_to`
-/// computes hashes. The keys fit the table (`KeysFit`) if each entry was inserted with the hash of its key.
 pub struct OrderedTable<K, V, N: LinkType> {
     linked: LinkedTable<K, V, N>,
     // The bucket of the pending promotion: a promotion that is not yet written into the links. The next call that

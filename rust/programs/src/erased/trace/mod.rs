@@ -4,7 +4,7 @@
 #[allow(unused_imports)]
 use crate::rattle_std::prelude::*;
 
-use crate::erased::lru_trace::{Column, Form, Options, Policies, Progress, status, trace};
+use crate::erased::lru_trace::{Column, Form, Options, Policies, Progress, TraceEnd, TraceError, status, trace};
 use crate::rattle_std::env;
 use crate::rattle_std::io::{self, BufReader, BufWriter, IsTerminal};
 use crate::rattle_std::process::ExitCode;
@@ -166,7 +166,7 @@ pub(crate) fn main(rt: HostRuntime) -> ExitCode {
     };
     for argument in arguments.skip(1) {
         if !asked.take(argument.as_str()) {
-            return answer(&rt, argument.as_str());
+            return answer(&rt, asked.next, argument.as_str());
         }
     }
     if asked.next != Next::Word {
@@ -195,14 +195,33 @@ fn run(rt: &HostRuntime, options: Options) -> ExitCode {
     let end = trace(rt.alloc(), options, &mut reader, &mut writer, &mut progress);
     // After a failed write, dropping the buffer would write its bytes again.
     let (_output, _unwritten) = writer.into_parts();
+    explain(rt, &end);
     ExitCode::from(status(&end))
 }
 
-fn answer(rt: &HostRuntime, argument: &str) -> ExitCode {
+/// Writes to standard error why there is no output.
+fn explain(rt: &HostRuntime, end: &Result<TraceEnd, TraceError>) {
+    match end {
+        Ok(TraceEnd::Done) => {}
+        Ok(TraceEnd::NoSizes) => {
+            let _ = eprintln!(rt; "trace: the first line has no sizes; try --help");
+        }
+        Err(error) => {
+            let _ = eprintln!(rt; "trace: {error}");
+        }
+    }
+}
+
+/// Answers an argument that `take` refused when it expected `next`.
+fn answer(rt: &HostRuntime, next: Next, argument: &str) -> ExitCode {
     if argument == "--help" {
         let _ = print!(rt; "{HELP}");
         return ExitCode::SUCCESS;
     }
-    let _ = eprintln!(rt; "trace: unknown argument {argument}; try --help");
+    if next == Next::Word {
+        let _ = eprintln!(rt; "trace: unknown argument {argument}; try --help");
+    } else {
+        let _ = eprintln!(rt; "trace: an option cannot have the value {argument}; try --help");
+    }
     ExitCode::from(UNKNOWN)
 }
