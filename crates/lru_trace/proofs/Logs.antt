@@ -1,6 +1,6 @@
 -- A log, and what a reference changes.
 use Rattle.std.proofs.Common.{◌≡◌, ℕ, ◌+◌, ◌-◌, ◌*◌, ◌/◌, ◌<◌, ◌≤◌, true, false, List, [], ◌∷◌, ◌++◌, length, get_or, set}
-use Rattle.std.proofs.Common.{take, drop, map, sum, replicate}
+use Rattle.std.proofs.Common.{take, drop, sum, replicate}
 use Rattle.std.proofs.Common.{Option, Some, None, refl, sym, ap, ◌∙◌, subst, arith, inl, inr}
 use Rattle.std.specs.Prelude.{◌^◌, nat_eq, Vec, vec_capacity, sum_by}
 use Rattle.std.specs.List.{drop-map}

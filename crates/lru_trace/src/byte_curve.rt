@@ -19,6 +19,7 @@ use thiserror::Error;
 /// Why a reference was not made.
 #[derive(Clone, Copy, Debug, PartialEq, Eq, Error)]
 pub enum SizeError {
+    /// Memory ran out.
     #[error("out of memory")]
     Memory,
     /// The sizes of all keys would sum to 2 ^ 64 or more.

@@ -7,6 +7,7 @@ use std::alloc::{AllocError, Global};
 use std::marker::Model;
 
 /// The number of chains at first.
+/// The number of chains of new `Names`.
 const FEWEST: usize = 16;
 
 /// Texts that stand one after another in one block. `ends` says where each text ends.

@@ -1,8 +1,8 @@
-use Rattle.std.proofs.Common.{◌≡◌, refl, get_or, take, ap, ◌∙◌, arith}
+use Rattle.std.proofs.Common.{refl, get_or, ap, ◌∙◌, arith}
 use Rattle.std.specs.Prelude.{sum_by}
 use Rattle.std.proofs.lemmas.List.{take_all}
 use Rattle.std.proofs.lemmas.List.Sums.{sum_by_more, sum_by_more_le}
-use Rattle.lru_trace.specs.Slots.{held, slot_weight, weight_in, weight_of}
+use Rattle.lru_trace.specs.Slots.{slot_weight, weight_in, weight_of}
 use Rattle.lru_trace.proofs.Newest.{held_free, held_key}
 use Rattle.lru_trace.proofs.distances.sum_of.Goals.{then-number, else-number}
 use Rattle.lru_trace.proofs.distances.sum_of.Goals as goal

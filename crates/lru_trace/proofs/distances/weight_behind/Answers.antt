@@ -4,7 +4,7 @@ use Rattle.std.specs.List.{take-map, drop-map}
 use Rattle.std.proofs.lemmas.List.{length-map}
 use Rattle.std.proofs.lemmas.List.Sums.{sum-map, sum_by-take-le}
 use Rattle.lru_trace.specs.Slots.{slot_weight, weight_in, weights_of}
-use Rattle.lru_trace.proofs.Blocks.{block_within, near_and_far, fewer_from}
+use Rattle.lru_trace.proofs.Blocks.{near_and_far, fewer_from}
 use Rattle.lru_trace.proofs.distances.weight_behind.Goals.{After-min-end, After-weight_behind}
 use Rattle.lru_trace.proofs.distances.weight_behind.Goals as goal
 

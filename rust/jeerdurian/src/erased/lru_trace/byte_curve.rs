@@ -11,6 +11,7 @@ use crate::rattle_std::alloc::{AllocError, Global};
 /// Why a reference was not made.
 #[derive(Clone, Copy, Debug, PartialEq, Eq)]
 pub enum SizeError {
+    /// Memory ran out.
     Memory,
     /// The sizes of all keys would sum to 2 ^ 64 or more.
     TooLarge,

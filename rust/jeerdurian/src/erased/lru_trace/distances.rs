@@ -21,7 +21,7 @@ const NO_KEY: u32 = u32::MAX;
 ///
 /// Each reference writes its key to the next slot of a log, and frees the slot that its key had before. `blocks`
 /// contains the weight of each block of slots. If the log is full, the keys move to the front of a new log, which is
-/// about two thirds full. A key takes between 15 and 20 bytes, and 8 more if it has a weight.
+/// about two thirds full. A key takes about 15 bytes, and 8 more if it has a weight.
 
 pub struct Distances {
     log: Vec<u32>,

@@ -8,6 +8,7 @@ use crate::erased::lru_trace::samples::hash;
 use crate::rattle_std::alloc::{AllocError, Global};
 
 /// The number of chains at first.
+/// The number of chains of new `Names`.
 const FEWEST: usize = 16;
 
 /// Texts that stand one after another in one block. `ends` says where each text ends.

@@ -1,5 +1,5 @@
 use Rattle.std.proofs.Common.{◌≡◌, ◌+◌, ◌*◌, ◌/◌, ◌^◌, ◌<◌, false, ◌∷◌, length, get_or, set, sum, sym, ap, ◌∙◌, arith, nat_eq}
-use Rattle.std.specs.Prelude.{vec_len, sum_by}
+use Rattle.std.specs.Prelude.{sum_by}
 use Rattle.std.proofs.lemmas.List.{length-map, length-set}
 use Rattle.std.proofs.lemmas.List.Sums.{sum_by-cons, sum_by-set}
 use Rattle.lru_theory.specs.Traces.{is_in}

@@ -1,6 +1,6 @@
-use Rattle.std.proofs.Common.{◌≡◌, ℕ, ◌+◌, ◌*◌, ◌/◌, ◌-◌, ◌^◌, ◌<◌, ◌≤◌, Some, None, ◌∷◌, length, map, take, get_or, replicate}
+use Rattle.std.proofs.Common.{◌≡◌, ℕ, ◌+◌, ◌/◌, ◌^◌, ◌<◌, ◌≤◌, Some, None, ◌∷◌, length, take, get_or}
 use Rattle.std.proofs.Common.{sym, ap, subst, ◌∙◌, arith}
-use Rattle.std.specs.Prelude.{nat_eq, sum_by, vec_len, vec_capacity, slice_index_or}
+use Rattle.std.specs.Prelude.{nat_eq, sum_by, vec_len, vec_capacity}
 use Rattle.std.proofs.lemmas.List.{take_all, length-map, length-replicate, get_or-map}
 use Rattle.lru_theory.specs.Traces.{is_in}
 use Rattle.lru_trace.specs.Slots.{newest, live, held, weight_in}
