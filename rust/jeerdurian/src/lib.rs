@@ -36,7 +36,6 @@ extern crate std;
 
 mod rattle_std;
 
-#[allow(missing_docs)]
 mod erased;
 
 #[cfg(feature = "std")]
