@@ -221,8 +221,8 @@ fn caches_give_their_memory_back() {
     }
     drop(cache);
     let mut curve = Curve::new().unwrap();
-    let mut refer = |count| (0..count).for_each(|n| assert_eq!(curve.refer(&(n % 20).to_string()), Ok(())));
-    refer(200);
+    let mut refer = |count| (0..count).for_each(|n| assert_eq!(curve.refer(&(n % 500).to_string()), Ok(())));
+    refer(5_000);
     let used = held();
     refer(200_000);
     assert_eq!(held(), used);

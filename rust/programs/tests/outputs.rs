@@ -173,12 +173,13 @@ fn cases_of_trace() {
     assert!(cases > 10);
 }
 
-/// Runs `trace` on this input, with its output to this file, and returns its status.
+/// Runs `trace` on this input, with its output to this file, and returns its status and what it says of an error.
 #[cfg(target_os = "linux")]
-fn status_of_trace(input: &Path, output: &str) -> Option<i32> {
+fn end_of_trace(input: &Path, output: &str) -> (Option<i32>, String) {
     let output = File::options().write(true).open(output).unwrap();
     let mut run = Command::new(env!("CARGO_BIN_EXE_trace"));
-    run.stdin(File::open(input).unwrap()).stdout(output).status().unwrap().code()
+    let run = run.stdin(File::open(input).unwrap()).stdout(output).output().unwrap();
+    (run.status.code(), String::from_utf8(run.stderr).unwrap())
 }
 
 /// `trace` says on standard error why it writes no output.
@@ -199,16 +200,27 @@ fn reasons_of_trace() {
     }
 }
 
+/// The last form that an argument names counts.
+#[test]
+fn forms_of_trace() {
+    let input = Path::new(env!("CARGO_MANIFEST_DIR")).join("../../crates/trace/cases/cycle");
+    for (arguments, beginning) in [(["--svg", "--csv"], "size,hits"), (["--csv", "--svg"], "<svg")] {
+        let mut run = Command::new(env!("CARGO_BIN_EXE_trace"));
+        let run = run.args(arguments).stdin(File::open(&input).unwrap()).output().unwrap();
+        assert!(run.stdout.starts_with(beginning.as_bytes()), "{arguments:?}");
+    }
+}
+
 /// The statuses of `trace`, except the status for an unknown argument. A directory cannot be read, a full device cannot
 /// be written, and 2,000,000 keys do not fit in 30 megabytes.
 #[cfg(target_os = "linux")]
 #[test]
 fn statuses_of_trace() {
     let cases = Path::new(env!("CARGO_MANIFEST_DIR")).join("../../crates/trace/cases");
-    assert_eq!(status_of_trace(&cases.join("cycle"), "/dev/null"), Some(0));
-    assert_eq!(status_of_trace(&cases.join("no_sizes"), "/dev/null"), Some(1));
-    assert_eq!(status_of_trace(&cases, "/dev/null"), Some(2));
-    assert_eq!(status_of_trace(&cases.join("cycle"), "/dev/full"), Some(2));
+    assert_eq!(end_of_trace(&cases.join("cycle"), "/dev/null"), (Some(0), String::new()));
+    assert_eq!(end_of_trace(&cases.join("no_sizes"), "/dev/null").0, Some(1));
+    assert_eq!(end_of_trace(&cases, "/dev/null"), (Some(2), "trace: read failed\n".to_string()));
+    assert_eq!(end_of_trace(&cases.join("cycle"), "/dev/full"), (Some(2), "trace: write failed\n".to_string()));
     let many = Path::new(env!("CARGO_TARGET_TMPDIR")).join("many_keys");
     fs::write(&many, (0..2_000_000).map(|key| format!("{key}\n")).collect::<String>()).unwrap();
     for form in ["--best", "--csv", "--svg"] {
