@@ -152,3 +152,31 @@ impl std::io::Write for Boaster {
 fn a_writer_that_says_too_much() {
     assert!(std::panic::catch_unwind(|| trace::report(b"2\na\n".as_slice(), Boaster)).is_err());
 }
+
+/// Takes one byte in each second call, and is interrupted in the others.
+struct Interrupted(Vec<u8>, bool);
+
+impl std::io::Write for Interrupted {
+    fn write(&mut self, bytes: &[u8]) -> std::io::Result<usize> {
+        self.1 = !self.1;
+        if self.1 {
+            return Err(std::io::ErrorKind::Interrupted.into());
+        }
+        self.0.extend(&bytes[..1]);
+        Ok(1)
+    }
+
+    fn flush(&mut self) -> std::io::Result<()> {
+        Ok(())
+    }
+}
+
+#[test]
+fn an_interrupted_writer_gets_the_whole_report() {
+    let sizes: Vec<String> = (0..1000).map(|size| size.to_string()).collect();
+    let trace = format!("{}\na\nb\na\n", sizes.join(" "));
+    let (mut whole, mut slow) = (Vec::new(), Interrupted(Vec::new(), false));
+    trace::report(trace.as_bytes(), &mut whole).unwrap();
+    trace::report(trace.as_bytes(), &mut slow).unwrap();
+    assert!(whole.len() > 10_000 && slow.0 == whole);
+}
