@@ -155,7 +155,7 @@ impl Curve {
     ///
     /// # Errors
     ///
-    /// `Read`: a read failed. `Memory`: out of memory.
+    /// `Read`: a read failed. `Memory`: out of memory, or more than 2^32 - 1 keys.
     ///
     /// ```
     /// # use jeerdurian::trace::Curve;
@@ -179,7 +179,7 @@ impl Curve {
     ///
     /// # Errors
     ///
-    /// Out of memory. The reference is not counted then.
+    /// Out of memory, or more than 2^32 - 1 keys. The reference is not counted then.
     ///
     /// ```
     /// # use jeerdurian::trace::Curve;
@@ -244,7 +244,7 @@ fn text_of(policies: Policies) -> Options {
 ///
 /// # Errors
 ///
-/// `Read`: a read failed. `Write`: a write or the flush failed. `Memory`: out of memory.
+/// `Read`: a read failed. `Write`: a write or the flush failed. `Memory`: out of memory, or more than 2^32 - 1 keys.
 ///
 /// ```
 /// use jeerdurian::trace::{TraceEnd, report};

@@ -4,7 +4,8 @@ use crate::erased::lru_trace as proved;
 use crate::rattle_std::alloc::{AllocError, Global};
 use crate::rattle_std::vec::Vec;
 
-/// Why a [`ByteCurve`] did not make a reference: out of memory, or the sizes of all keys would sum to 2^64 or more.
+/// Why a [`ByteCurve`] did not make a reference: out of memory, more than 2^32 - 1 keys, or the sizes of all keys
+/// would sum to 2^64 or more.
 ///
 /// ```
 /// assert_eq!(jeerdurian::trace::SizeError::Memory.to_string(), "out of memory");
