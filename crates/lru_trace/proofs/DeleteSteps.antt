@@ -15,7 +15,7 @@ use Rattle.lru_theory.specs.Places.{keys_in, place_of, freed, vacated, place_cal
 use Rattle.lru_theory.specs.Traces.{is_in}
 use Rattle.lru_theory.proofs.Places.{keys_referred, keys_freed, found_within}
 use Rattle.lru_trace.specs.Deletes.{Deleting, IsDeleteOf, IsSame, AreNumbers, cache_of, counted_at, missed_calls}
-use Rattle.lru_trace.specs.Deletes.{number_in, places_of, referred}
+use Rattle.lru_trace.specs.Deletes.{place_number, places_of, referred}
 use Rattle.lru_trace.proofs.Numbered.{counted}
 use Rattle.lru_trace.proofs.PlaceNumbers.{renumbered}
 
@@ -54,7 +54,7 @@ removed_more (looks ∷ calls) key = removed_more calls key
 module _ {warm trace : List (KeyCall (List ℕ))} {old : Deleting} (of : IsDeleteOf warm trace old) where
   pub of_same : (new : Deleting) → IsSame old new → IsDeleteOf warm trace new
   of_same new same = subst (IsDeleteOf warm trace) (sym same.rest) (record {
-    placed = renumbered (number_in old.names) (number_in new.names) (places_of warm trace) old.places
+    placed = renumbered (place_number old.names) (place_number new.names) (places_of warm trace) old.places
         (λ x j e is. same.names x ∙ is) of.placed;
     caches = of.caches;
     hits = of.hits;
@@ -74,12 +74,12 @@ module _ {warm trace : List (KeyCall (List ℕ))} {old : Deleting} (of : IsDelet
   before n = after_calls bytes_eq n warm []
 
   pub of_removed : (key : List ℕ) (names : List (String Global × ℕ)) (places : List (Option ℕ))
-      → AreNumbers (number_in names) (freed (bytes_eq key) (places_of warm trace)) places
+      → AreNumbers (place_number names) (freed (bytes_eq key) (places_of warm trace)) places
       → IsDeleteOf warm (trace ++ removes key ∷ []) (record old { names = names; places = places })
   of_removed key names places numbers =
       let more = places_more bytes_eq (removes key) trace (place_calls bytes_eq warm []) in
       record {
-        placed = subst (λ ps. AreNumbers (number_in names) ps places) (sym more) numbers;
+        placed = subst (λ ps. AreNumbers (place_number names) ps places) (sym more) numbers;
         caches = λ n. ap (λ ps. keys_in (take n ps)) more ∙ keys_freed (bytes_eq key) n (places_of warm trace)
             ∙ ap (remove_key (bytes_eq key)) (of.caches n) ∙ sym (cache_more bytes_eq (removes key) n trace (before n));
         hits = λ n. omega (arith, of.hits n, faults_more bytes_eq (removes key) n trace (before n));
@@ -116,7 +116,7 @@ module _ {warm trace : List (KeyCall (List ℕ))} {old : Deleting} (of : IsDelet
         go (Some d) false e h = absurd (none-some d (sym e))
 
     pub of_referred : (names : List (String Global × ℕ)) (places : List (Option ℕ))
-        → AreNumbers (number_in names) (Some key ∷ vacated (bytes_eq key) (places_of warm trace)) places
+        → AreNumbers (place_number names) (Some key ∷ vacated (bytes_eq key) (places_of warm trace)) places
         → IsDeleteOf warm (trace ++ refers key ∷ []) (record {
           names = names;
           places = places;
@@ -126,7 +126,7 @@ module _ {warm trace : List (KeyCall (List ℕ))} {old : Deleting} (of : IsDelet
     of_referred names places numbers =
         let more = places_more bytes_eq (refers key) trace (place_calls bytes_eq warm []) in
         record {
-          placed = subst (λ ps. AreNumbers (number_in names) ps places) (sym more) numbers;
+          placed = subst (λ ps. AreNumbers (place_number names) ps places) (sym more) numbers;
           caches = λ n. ap (λ ps. keys_in (take n ps)) more ∙ keys_referred bytes_eq n key (places_of warm trace)
               ∙ ap (after_call bytes_eq n (refers key)) (of.caches n)
               ∙ sym (cache_more bytes_eq (refers key) n trace (before n));
@@ -136,24 +136,24 @@ module _ {warm trace : List (KeyCall (List ℕ))} {old : Deleting} (of : IsDelet
 
 module _ {warm : List (KeyCall (List ℕ))} {old : Deleting} (of : IsDeleteOf warm [] old) (key : List ℕ)
     (names : List (String Global × ℕ)) (places : List (Option ℕ)) where
-  pub of_warm_removed : AreNumbers (number_in names) (freed (bytes_eq key) (places_of warm [])) places
+  pub of_warm_removed : AreNumbers (place_number names) (freed (bytes_eq key) (places_of warm [])) places
       → IsDeleteOf (warm ++ removes key ∷ []) [] (record old { names = names; places = places })
   of_warm_removed numbers =
       let more = places_more bytes_eq (removes key) warm [] in
       record {
-        placed = subst (λ ps. AreNumbers (number_in names) ps places) (sym more) numbers;
+        placed = subst (λ ps. AreNumbers (place_number names) ps places) (sym more) numbers;
         caches = λ n. ap (λ ps. keys_in (take n ps)) more ∙ keys_freed (bytes_eq key) n (places_of warm [])
             ∙ ap (remove_key (bytes_eq key)) (of.caches n) ∙ sym (cache_more bytes_eq (removes key) n warm []);
         hits = of.hits;
         all = of.all;
       }
 
-  pub of_warm_referred : AreNumbers (number_in names) (Some key ∷ vacated (bytes_eq key) (places_of warm [])) places
+  pub of_warm_referred : AreNumbers (place_number names) (Some key ∷ vacated (bytes_eq key) (places_of warm [])) places
       → IsDeleteOf (warm ++ refers key ∷ []) [] (record old { names = names; places = places })
   of_warm_referred numbers =
       let more = places_more bytes_eq (refers key) warm [] in
       record {
-        placed = subst (λ ps. AreNumbers (number_in names) ps places) (sym more) numbers;
+        placed = subst (λ ps. AreNumbers (place_number names) ps places) (sym more) numbers;
         caches = λ n. ap (λ ps. keys_in (take n ps)) more ∙ keys_referred bytes_eq n key (places_of warm [])
             ∙ ap (after_call bytes_eq n (refers key)) (of.caches n) ∙ sym (cache_more bytes_eq (refers key) n warm []);
         hits = of.hits;

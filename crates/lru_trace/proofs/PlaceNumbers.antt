@@ -16,7 +16,7 @@ use Rattle.std.specs.Prelude.{◌||◌, nat_eq, IfSome}
 use Rattle.std.specs.Str.{bytes_eq}
 use Rattle.lru_theory.specs.Places.{keys_in, contains_it, place_of, freed, vacated}
 use Rattle.lru_theory.specs.Traces.{is_in}
-use Rattle.lru_trace.specs.Deletes.{AreNumbers, number_in}
+use Rattle.lru_trace.specs.Deletes.{AreNumbers, place_number}
 use Rattle.lru_trace.specs.Places.{owns, Freed, Referred}
 use Rattle.lru_trace.proofs.Marks.{never}
 use Rattle.lru_trace.proofs.Numbered.{same_test}
@@ -227,17 +227,17 @@ renumbered number new (Some x ∷ ps) (Some j ∷ qs) keeps h = (
 )
 
 named_by : (cs : List ℕ) (es : List (String Global × ℕ))
-    → (number_in es cs ≡ None) ⊎ ((k : String Global) × (cs ≡ string_bytes k))
+    → (place_number es cs ≡ None) ⊎ ((k : String Global) × (cs ≡ string_bytes k))
 named_by cs [] = inl refl
 named_by cs (e ∷ es) = go (bytes_eq cs (string_bytes e.0)) refl (named_by cs es)
   where
-    go : (b : Bool) → bytes_eq cs (string_bytes e.0) ≡ b → (number_in es cs ≡ None) ⊎ ((k : String Global) × (cs ≡ string_bytes k))
-        → (cond b (Some e.1) (number_in es cs) ≡ None) ⊎ ((k : String Global) × (cs ≡ string_bytes k))
+    go : (b : Bool) → bytes_eq cs (string_bytes e.0) ≡ b → (place_number es cs ≡ None) ⊎ ((k : String Global) × (cs ≡ string_bytes k))
+        → (cond b (Some e.1) (place_number es cs) ≡ None) ⊎ ((k : String Global) × (cs ≡ string_bytes k))
     go true is rest = inr (e.0, (bytes_eq-Decides cs (string_bytes e.0)).0 is)
     go false is rest = rest
 
 pub reordered : {S : Type 0} (m n : HashMap (String Global) ℕ S) → ((q : String Global) → get string_eq n q ≡ get string_eq m q)
-    → (cs : List ℕ) → number_in n.entries cs ≡ number_in m.entries cs
+    → (cs : List ℕ) → place_number n.entries cs ≡ place_number m.entries cs
 reordered m n same cs = elim (named_by cs n.entries) [
   | inr (k, is) ↦ by k is
   | inl none ↦ elim (named_by cs m.entries) [
@@ -246,7 +246,7 @@ reordered m n same cs = elim (named_by cs n.entries) [
   ]
 ]
   where
-    by : (k : String Global) → cs ≡ string_bytes k → number_in n.entries cs ≡ number_in m.entries cs
+    by : (k : String Global) → cs ≡ string_bytes k → place_number n.entries cs ≡ place_number m.entries cs
     by k is = sym (hash_map_text_same k cs n.entries is).0 ∙ same k ∙ (hash_map_text_same k cs m.entries is).0
 
 same_key : (key : List ℕ) → bytes_eq key key ≡ true

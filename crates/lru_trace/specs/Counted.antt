@@ -12,7 +12,7 @@ pub record Counted : Type 0 where
   -- for each reuse distance, how many counted references had this distance
   pub counts : List ℕ
   pub references : ℕ
-  -- the number of the key of each counted reference, or `None` if the curve does not keep these numbers
+  -- for each counted reference, the number of its key; or `None` if the curve does not keep the references
   pub kept : Option (List ℕ)
 
 -- the curve counts the references of `trace`, after the warm-up `warm`

@@ -44,8 +44,9 @@ pub record Deleting : Type 0 where
   pub counts : List ℕ
   pub references : ℕ
 
-abbrev pub number_in : List (String Global × ℕ) → List ℕ → Option ℕ
-number_in names key = lookup (λ name. bytes_eq key (string_bytes name)) names
+-- the number of the place of a key
+abbrev pub place_number : List (String Global × ℕ) → List ℕ → Option ℕ
+place_number names key = lookup (λ name. bytes_eq key (string_bytes name)) names
 
 -- the second list is the first list, with each key replaced by its number
 abbrev pub AreNumbers : (List ℕ → Option ℕ) → List (Option (List ℕ)) → List (Option ℕ) → Type 0
@@ -57,28 +58,28 @@ AreNumbers number (place ∷ places) (id ∷ ids) =
 
 -- the curve counts the references of `trace`, after the warm-up `warm`
 pub record IsDeleteOf (warm trace : List (KeyCall (List ℕ))) (curve : Deleting) : Type 0 where
-  pub placed : AreNumbers (number_in curve.names) (places_of warm trace) curve.places
+  pub placed : AreNumbers (place_number curve.names) (places_of warm trace) curve.places
   pub caches : (n : ℕ) → keys_in (take n (places_of warm trace)) ≡ cache_of n warm trace
   pub hits : (n : ℕ) → missed_calls n warm trace + sum (take n curve.counts) ≡ curve.references
   pub all : curve.references ≡ referred trace
 
 pub record IsDeleting (names : List (String Global × ℕ)) (places : List (Option ℕ)) (counts : List ℕ) (references : ℕ)
     : Type 0 where
-  pub within : (key : List ℕ) (number : ℕ) → number_in names key ≡ Some number → is_in nat_eq number (keys_in places) ≡ true
-  pub apart : (a b : List ℕ) (number : ℕ) → number_in names a ≡ Some number → number_in names b ≡ Some number → a ≡ b
+  pub within : (key : List ℕ) (number : ℕ) → place_number names key ≡ Some number → is_in nat_eq number (keys_in places) ≡ true
+  pub apart : (a b : List ℕ) (number : ℕ) → place_number names a ≡ Some number → place_number names b ≡ Some number → a ≡ b
   pub few : length places ≤ length counts
   pub total : sum counts ≤ references
 
 -- nothing changed, except the order of the names
 pub record IsSame (old new : Deleting) : Type 0 where
-  pub names : (key : List ℕ) → number_in new.names key ≡ number_in old.names key
+  pub names : (key : List ℕ) → place_number new.names key ≡ place_number old.names key
   pub rest : new ≡ record old { names = new.names }
 
 -- the key was referenced, but the reference is not yet counted
 pub record Placed (key : List ℕ) (place : Option ℕ) (old new : Deleting) : Type 0 where
-  pub numbers : (places : List (Option (List ℕ))) → AreNumbers (number_in old.names) places old.places →
-      AreNumbers (number_in new.names) (Some key ∷ vacated (bytes_eq key) places) new.places
-  pub found : (places : List (Option (List ℕ))) → AreNumbers (number_in old.names) places old.places →
+  pub numbers : (places : List (Option (List ℕ))) → AreNumbers (place_number old.names) places old.places →
+      AreNumbers (place_number new.names) (Some key ∷ vacated (bytes_eq key) places) new.places
+  pub found : (places : List (Option (List ℕ))) → AreNumbers (place_number old.names) places old.places →
       place ≡ (if is_in bytes_eq key (keys_in places) then Some (place_of (bytes_eq key) places) else None)
   pub within : IfSome place (λ n. n < length old.places)
   pub rest : new ≡ record old { names = new.names; places = new.places }

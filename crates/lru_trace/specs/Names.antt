@@ -8,12 +8,13 @@ use Rattle.lru_trace.specs.Samples.{hash}
 abbrev pub number_in : List (List ℕ) → List ℕ → Option ℕ
 number_in names text = position (bytes_eq text) names
 
--- the texts of which the first begins at `start`, and each ends at one of the `ends`, where the next begins
+-- The texts in `bytes`. The first text begins at `start`. Each text ends at one of the `ends`, and there the next text
+-- begins.
 abbrev pub texts : ℕ → List ℕ → List ℕ → List (List ℕ)
 texts start [] bytes = []
 texts start (end ∷ ends) bytes = take (end - start) (drop start bytes) ∷ texts end ends bytes
 
--- the texts from `start` on end at these `ends`, and the last at `last`
+-- If there are no ends, `start` is `last`. Otherwise the ends do not decrease from `start` on, and the last end is `last`.
 abbrev pub AreEnds : ℕ → List ℕ → ℕ → Type 0
 AreEnds start [] last = start ≡ last
 AreEnds start (end ∷ ends) last = (start ≤ end) × AreEnds end ends last
@@ -22,7 +23,7 @@ AreEnds start (end ∷ ends) last = (start ≤ end) × AreEnds end ends last
 unfoldable pub chain_of : ℕ → List ℕ → ℕ
 chain_of chains text = bit_xor (hash text) (hash text / 2 ^ 32) % chains
 
--- A link leads to the last text in a chain, among the first `n` texts. It is one more than the number of this text, and 0
+-- A link leads to the last text in a chain, among the first `n` texts. It is one more than the number of this text, or 0
 -- if the chain contains none of these texts.
 pub record IsLink (chain_at : ℕ → ℕ) (chain n link : ℕ) : Type 0 where
   pub within : link ≤ n

@@ -19,7 +19,7 @@ use thiserror::Error;
 /// Why a reference was not made.
 #[derive(Clone, Copy, Debug, PartialEq, Eq, Error)]
 pub enum SizeError {
-    /// Memory ran out.
+    /// Memory ran out, or there are too many keys.
     #[error("out of memory")]
     Memory,
     /// The sizes of all keys would sum to 2 ^ 64 or more.
@@ -42,7 +42,7 @@ impl From<AllocError> for SizeError {
 /// The need of a reference is the size of its key, plus the sizes of the other keys that were referenced since the last
 /// reference to this key. A reference misses if it is the first reference to its key, or if its need is above the
 /// limit. The first reference to a key gives the size of the key. The memory is in proportion to the number of keys and
-/// of limits.
+/// of limits. A curve has at most 2 ^ 32 - 1 keys.
 ///
 /// ```
 /// let mut curve = ByteCurve::new(alloc, vec![in alloc; 10, 30]?)?;

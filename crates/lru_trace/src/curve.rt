@@ -19,7 +19,8 @@ use std::marker::Model;
 /// The misses of a trace in LRU caches of every size, counted in one pass.
 ///
 /// A reference misses in a cache of n places if it is the first reference to its key, or if its reuse distance is at
-/// least n. If the curve does not keep the references, its memory is in proportion to the number of keys.
+/// least n. If the curve does not keep the references, its memory is in proportion to the number of keys. A curve has at
+/// most 2 ^ 32 - 1 keys.
 ///
 /// ```
 /// let mut curve = Curve::new(alloc)?;
@@ -195,7 +196,7 @@ impl Curve {
     ///
     /// # Errors
     ///
-    /// Out of memory. The key was not referenced.
+    /// Out of memory, or too many keys. The key was not referenced.
     ///
     /// ```
     /// let mut curve = Curve::new(alloc)?;
@@ -227,7 +228,7 @@ impl Curve {
     ///
     /// # Errors
     ///
-    /// Out of memory. The reference is not counted.
+    /// Out of memory, or too many keys. The reference is not counted.
     pub fn refer(&mut self, key: &str) -> Result<(), AllocError>
         requires { self.old.references < 2 ^ 64 - 1 }
         ensures ok { OnOk result ((warm trace : List (List ℕ)) → IsOf warm trace self.old →

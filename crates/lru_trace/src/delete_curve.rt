@@ -5,7 +5,7 @@ ghost use Rattle.std.specs.Option.{option_map};
 ghost use Rattle.lru_theory.specs.Places.{keys_in, place_of};
 ghost use Rattle.lru_theory.specs.Traces.{is_in};
 ghost use Rattle.lru_theory.specs.Inclusion.{KeyCall, refers, removes};
-ghost use Rattle.lru_trace.specs.Deletes.{IsDeleteOf, IsSame, Placed, counted_at, missed_calls, number_in, places_of, referred};
+ghost use Rattle.lru_trace.specs.Deletes.{IsDeleteOf, IsSame, Placed, counted_at, missed_calls, place_number, places_of, referred};
 
 use crate::places::Places;
 use std::alloc::{AllocError, Global};
@@ -15,7 +15,7 @@ use std::marker::Model;
 /// The misses of a trace in LRU caches of every size, counted in one pass. The trace may also delete keys.
 ///
 /// A delete removes its key from each cache that contains the key. The memory is in proportion to the largest number of
-/// keys that an unlimited cache contained at once.
+/// keys that an unlimited cache contained at once. This number is at most 2 ^ 32 - 1.
 ///
 /// ```
 /// let mut curve = DeleteCurve::new(alloc)?;
@@ -80,7 +80,7 @@ impl DeleteCurve {
     }
 
     fn number_of(&self, key: &str) -> Option<usize>
-        ensures number { result ≡ number_in self.now.names key.now }
+        ensures number { result ≡ place_number self.now.names key.now }
         ensures there { IfSome result (λ number. is_in nat_eq number (keys_in self.now.places) ≡ true) }
     {
         self.numbers.get(key).copied()
@@ -133,7 +133,7 @@ impl DeleteCurve {
     ///
     /// # Errors
     ///
-    /// Out of memory. The key was not referenced.
+    /// Out of memory, or too many keys. The key was not referenced.
     pub fn warm_up(&mut self, key: &str) -> Result<(), AllocError>
         ensures ok { OnOk result ((warm : List (KeyCall (List ℕ))) → IsDeleteOf warm [] self.old →
             IsDeleteOf (warm ++ refers key.now ∷ []) [] self.new) }
@@ -152,7 +152,7 @@ impl DeleteCurve {
     ///
     /// # Errors
     ///
-    /// Out of memory. The reference is not counted.
+    /// Out of memory, or too many keys. The reference is not counted.
     pub fn refer(&mut self, key: &str) -> Result<(), AllocError>
         requires { self.old.references < 2 ^ 64 - 1 }
         ensures ok { OnOk result ((warm trace : List (KeyCall (List ℕ))) → IsDeleteOf warm trace self.old →

@@ -6,7 +6,6 @@ use crate::samples::hash;
 use std::alloc::{AllocError, Global};
 use std::marker::Model;
 
-/// The number of chains at first.
 /// The number of chains of new `Names`.
 const FEWEST: usize = 16;
 

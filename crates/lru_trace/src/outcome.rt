@@ -23,7 +23,7 @@ pub enum TraceError {
     /// A write or the flush failed.
     #[error("write failed")]
     Write = 2,
-    /// Memory ran out.
+    /// Memory ran out, or there are more than 2 ^ 32 - 1 keys.
     #[error("out of memory")]
     Memory = 3,
     /// The sizes of all keys sum to 2 ^ 64 or more.

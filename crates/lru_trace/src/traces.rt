@@ -115,9 +115,9 @@ fn read_trace<R: BufRead, P: Write>(
 ///
 /// # Errors
 ///
-/// `Read`: a read failed, or there were 2 ^ 64 - 2 lines. `Memory`: out of memory. `TooLarge`: the sizes of all keys
-/// sum to 2 ^ 64 or more. After `Read`, `Memory` or `TooLarge`, nothing of the report was written. `Write`: a write or
-/// the flush failed; a part of the report was written.
+/// `Read`: a read failed, or there were 2 ^ 64 - 2 lines. `Memory`: out of memory, or more than 2 ^ 32 - 1 keys.
+/// `TooLarge`: the sizes of all keys sum to 2 ^ 64 or more. After `Read`, `Memory` or `TooLarge`, nothing of the report
+/// was written. `Write`: a write or the flush failed; a part of the report was written.
 pub fn trace<R: BufRead, W: Write, P: Write>(
     alloc: Global,
     options: Options,

@@ -12,7 +12,8 @@ use crate::rattle_std::alloc::{AllocError, Global};
 /// The misses of a trace in LRU caches of every size, counted in one pass.
 ///
 /// A reference misses in a cache of n places if it is the first reference to its key, or if its reuse distance is at
-/// least n. If the curve does not keep the references, its memory is in proportion to the number of keys.
+/// least n. If the curve does not keep the references, its memory is in proportion to the number of keys. A curve has at
+/// most 2 ^ 32 - 1 keys.
 
 pub struct Curve {
     names: Names,
@@ -103,7 +104,7 @@ impl Curve {
     ///
     /// # Errors
     ///
-    /// Out of memory. The key was not referenced.
+    /// Out of memory, or too many keys. The key was not referenced.
     pub fn warm_up(&mut self, key: &str) -> Result<(), AllocError> {
         let number = self.number_of(key)?;
         self.make_count()?;
@@ -116,7 +117,7 @@ impl Curve {
     ///
     /// # Errors
     ///
-    /// Out of memory. The reference is not counted.
+    /// Out of memory, or too many keys. The reference is not counted.
     pub fn refer(&mut self, key: &str) -> Result<(), AllocError> {
         let number = self.number_of(key)?;
         self.make_count()?;

@@ -11,7 +11,7 @@ use crate::rattle_std::collections::HashMap;
 /// The misses of a trace in LRU caches of every size, counted in one pass. The trace may also delete keys.
 ///
 /// A delete removes its key from each cache that contains the key. The memory is in proportion to the largest number of
-/// keys that an unlimited cache contained at once.
+/// keys that an unlimited cache contained at once. This number is at most 2 ^ 32 - 1.
 
 pub struct DeleteCurve {
     numbers: HashMap<String, usize>,
@@ -77,7 +77,7 @@ impl DeleteCurve {
     ///
     /// # Errors
     ///
-    /// Out of memory. The key was not referenced.
+    /// Out of memory, or too many keys. The key was not referenced.
     pub fn warm_up(&mut self, key: &str) -> Result<(), AllocError> {
         self.make_count()?;
         self.place(key)?;
@@ -90,7 +90,7 @@ impl DeleteCurve {
     ///
     /// # Errors
     ///
-    /// Out of memory. The reference is not counted.
+    /// Out of memory, or too many keys. The reference is not counted.
     pub fn refer(&mut self, key: &str) -> Result<(), AllocError> {
         self.make_count()?;
         let place = self.place(key)?;

@@ -7,7 +7,6 @@ use crate::rattle_std::prelude::*;
 use crate::erased::lru_trace::samples::hash;
 use crate::rattle_std::alloc::{AllocError, Global};
 
-/// The number of chains at first.
 /// The number of chains of new `Names`.
 const FEWEST: usize = 16;
 

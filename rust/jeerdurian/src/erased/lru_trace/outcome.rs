@@ -21,7 +21,7 @@ pub enum TraceError {
     Read = 1,
     /// A write or the flush failed.
     Write = 2,
-    /// Memory ran out.
+    /// Memory ran out, or there are more than 2 ^ 32 - 1 keys.
     Memory = 3,
     /// The sizes of all keys sum to 2 ^ 64 or more.
     TooLarge = 5,

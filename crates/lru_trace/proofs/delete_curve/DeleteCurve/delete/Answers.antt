@@ -3,44 +3,44 @@ use Rattle.std.proofs.lemmas.Map.Text.{hash_map_updates_text}
 use Rattle.std.specs.Map.{update}
 use Rattle.std.specs.Str.{bytes_eq}
 use Rattle.lru_theory.specs.Places.{freed}
-use Rattle.lru_trace.specs.Deletes.{AreNumbers, IsDeleteOf, number_in, places_of}
+use Rattle.lru_trace.specs.Deletes.{AreNumbers, IsDeleteOf, place_number, places_of}
 use Rattle.lru_trace.proofs.DeleteSteps.{of_removed, of_warm_removed}
 use Rattle.lru_trace.proofs.PlaceNumbers.{removed_numbers, removed_within, removed_apart, absent_freed, freed_long}
 use Rattle.lru_trace.proofs.delete_curve.DeleteCurve.delete.Goals.{In_default, In-Some, After-remove}
 use Rattle.lru_trace.proofs.delete_curve.DeleteCurve.delete.Goals as goal
 
-none : (c : In_default) → number_in c.self.inside.numbers.entries c.args.key.now ≡ None
+none : (c : In_default) → place_number c.self.inside.numbers.entries c.args.key.now ≡ None
 none c = sym c.get.ensures.value ∙ sym c.copied.ensures ∙ c.in_default.is
 
-owned : (c : In-Some) → number_in c.self.inside.numbers.entries c.args.key.now ≡ Some c.in-Some.number
+owned : (c : In-Some) → place_number c.self.inside.numbers.entries c.args.key.now ≡ Some c.in-Some.number
 owned c = sym c.get.ensures.value ∙ sym c.copied.ensures ∙ c.in-Some.is
 
 pub returns-in_default-clause-warm : goal.returns-in_default-clause-warm
 returns-in_default-clause-warm c = λ warm of.
     let now : IsDeleteOf warm [] _ = subst (IsDeleteOf warm []) (sym c.self.view_is) of in
     subst (IsDeleteOf _ []) c.self.view_is (of_warm_removed now c.args.key.now c.self.inside.numbers.entries
-    c.self.inside.places (absent_freed (number_in c.self.inside.numbers.entries) c.self.invariant.apart c.args.key.now
+    c.self.inside.places (absent_freed (place_number c.self.inside.numbers.entries) c.self.invariant.apart c.args.key.now
     (none (goal.at.returns-in_default-clause-warm c).In_default) (places_of warm []) c.self.inside.places now.placed))
 
 pub returns-in_default-clause-ok : goal.returns-in_default-clause-ok
 returns-in_default-clause-ok c = λ warm trace of.
     let now : IsDeleteOf warm trace _ = subst (IsDeleteOf warm trace) (sym c.self.view_is) of in
     subst (IsDeleteOf warm _) c.self.view_is (of_removed now c.args.key.now c.self.inside.numbers.entries
-    c.self.inside.places (absent_freed (number_in c.self.inside.numbers.entries) c.self.invariant.apart c.args.key.now
+    c.self.inside.places (absent_freed (place_number c.self.inside.numbers.entries) c.self.invariant.apart c.args.key.now
     (none (goal.at.returns-in_default-clause-ok c).In_default) (places_of warm trace) c.self.inside.places now.placed))
 
 pub free-requires : goal.free-requires
 free-requires c = c.self.invariant.within c.args.key.now c.in-Some.number (owned (goal.at.free-requires c).In-Some)
 
-updates : (c : After-remove) (x : List ℕ) → number_in c.remove.new.self.entries x
-    ≡ update bytes_eq (number_in c.self.inside.numbers.entries) c.args.key.now None x
+updates : (c : After-remove) (x : List ℕ) → place_number c.remove.new.self.entries x
+    ≡ update bytes_eq (place_number c.self.inside.numbers.entries) c.args.key.now None x
 updates c x = hash_map_updates_text c.args.key.now c.self.inside.numbers c.remove.new.self None c.remove.ensures.updates x
 
 pub invariant_of-self-2 : goal.invariant_of-self-2
 invariant_of-self-2 c =
     let at = goal.at.invariant_of-self-2 c in
-    let old = number_in c.self.inside.numbers.entries in
-    let new = number_in c.remove.new.self.entries in
+    let old = place_number c.self.inside.numbers.entries in
+    let new = place_number c.remove.new.self.entries in
     let is = c.self.invariant in
     record {
       within = removed_within old new is.apart c.args.key.now c.in-Some.number (owned at.In-Some) c.self.inside.places
@@ -51,9 +51,9 @@ invariant_of-self-2 c =
       total = is.total;
     }
 
-numbers : (c : After-remove) (ps : _) → AreNumbers (number_in c.self.inside.numbers.entries) ps c.self.inside.places
-    → AreNumbers (number_in c.remove.new.self.entries) (freed (bytes_eq c.args.key.now) ps) c.free.new.self
-numbers c = removed_numbers (number_in c.self.inside.numbers.entries) (number_in c.remove.new.self.entries)
+numbers : (c : After-remove) (ps : _) → AreNumbers (place_number c.self.inside.numbers.entries) ps c.self.inside.places
+    → AreNumbers (place_number c.remove.new.self.entries) (freed (bytes_eq c.args.key.now) ps) c.free.new.self
+numbers c = removed_numbers (place_number c.self.inside.numbers.entries) (place_number c.remove.new.self.entries)
     c.self.invariant.apart c.args.key.now c.in-Some.number (owned (goal.at.After-remove c).In-Some) c.self.inside.places
     c.free.new.self c.in_ok-free.ensures.ok (updates c) c.self.invariant.within
 

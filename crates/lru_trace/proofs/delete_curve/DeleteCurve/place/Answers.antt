@@ -7,14 +7,14 @@ use Rattle.std.specs.Str.{bytes_eq}
 use Rattle.std.specs.String.{string_bytes}
 use Rattle.lru_theory.specs.Places.{keys_in, place_of}
 use Rattle.lru_theory.specs.Traces.{is_in}
-use Rattle.lru_trace.specs.Deletes.{AreNumbers, number_in}
+use Rattle.lru_trace.specs.Deletes.{AreNumbers, place_number}
 use Rattle.lru_trace.proofs.CurveSteps.{always_err}
 use Rattle.lru_trace.proofs.PlaceNumbers.{reordered, referred_numbers, referred_within, referred_apart, referred_long}
 use Rattle.lru_trace.proofs.PlaceNumbers.{found_at, within_at}
 use Rattle.lru_trace.proofs.delete_curve.DeleteCurve.place.Goals.{In_ok-reserve, In-Ok}
 use Rattle.lru_trace.proofs.delete_curve.DeleteCurve.place.Goals as goal
 
-same : (c : In_ok-reserve) (x : List ℕ) → number_in c.reserve.new.self.entries x ≡ number_in c.self.inside.numbers.entries x
+same : (c : In_ok-reserve) (x : List ℕ) → place_number c.reserve.new.self.entries x ≡ place_number c.self.inside.numbers.entries x
 same c x = reordered c.self.inside.numbers c.reserve.new.self c.in_ok-reserve.ensures.entries.2 x
 
 pub refer-requires : goal.refer-requires
@@ -38,7 +38,7 @@ returns-in_err-number-clause-err c =
     let at = (goal.at.returns-in_err-number-clause-err c).In_ok-reserve in
     let view = c.self.view_is in
     always_err c.from_residual-in_err-number.result (record {
-      names = λ x. same at x ∙ ap (λ v. number_in v.names x) view;
+      names = λ x. same at x ∙ ap (λ v. place_number v.names x) view;
       rest = λ i. record {
         names = c.reserve.new.self.entries;
         places = (c.in_err-number.ensures.err ∙ ap (λ v. v.places) view) i;
@@ -49,10 +49,10 @@ returns-in_err-number-clause-err c =
 
 module _ (c : In-Ok) where
   abbrev old : List ℕ → Option ℕ
-  old = number_in c.self.inside.numbers.entries
+  old = place_number c.self.inside.numbers.entries
 
   abbrev new : List ℕ → Option ℕ
-  new = number_in c.insert.new.self.entries
+  new = place_number c.insert.new.self.entries
 
   abbrev own : Option ℕ
   own = c.number_of-own.result
@@ -61,13 +61,13 @@ module _ (c : In-Ok) where
   key = c.args.key.now
 
   owned : old key ≡ own
-  owned = ap (λ v. number_in v.names key) c.self.view_is ∙ sym c.number_of-own.ensures.number
+  owned = ap (λ v. place_number v.names key) c.self.view_is ∙ sym c.number_of-own.ensures.number
 
   updates : (x : List ℕ) → new x ≡ update bytes_eq old key (Some c.in_ok-number.number) x
   updates x =
       hash_map_updates_text (string_bytes c.in_ok-name.name) c.reserve.new.self c.insert.new.self
       (Some c.in_ok-number.number) c.in-Ok.ensures.updates x
-      ∙ (λ i. update bytes_eq (number_in c.reserve.new.self.entries) (c.in_ok-name.ensures.ok i) (Some c.in_ok-number.number) x)
+      ∙ (λ i. update bytes_eq (place_number c.reserve.new.self.entries) (c.in_ok-name.ensures.ok i) (Some c.in_ok-number.number) x)
       ∙ ap (λ o. cond (bytes_eq key x) (Some c.in_ok-number.number) o) (same (goal.at.In-Ok c).In_ok-reserve x)
 
 pub invariant_of-self-2 : goal.invariant_of-self-2
@@ -98,8 +98,8 @@ returns-clause-ok c =
     let is = c.self.invariant in
     let view = c.self.view_is in
     let places = c.self.inside.places in
-    let inside : (ps : List (Option (List ℕ))) → AreNumbers (number_in c.args.self.now.names) ps c.args.self.now.places
-    → AreNumbers (old at) ps places = λ ps h. subst (λ v. AreNumbers (number_in v.names) ps v.places) (sym view) h in
+    let inside : (ps : List (Option (List ℕ))) → AreNumbers (place_number c.args.self.now.names) ps c.args.self.now.places
+    → AreNumbers (old at) ps places = λ ps h. subst (λ v. AreNumbers (place_number v.names) ps v.places) (sym view) h in
     record {
       numbers = λ ps h. referred_numbers (old at) (new at) is.apart (key at) (own at) (owned at) c.in_ok-number.number places
           c.refer.new.self c.in_ok-number.ensures.ok (updates at) is.within ps (inside ps h);
