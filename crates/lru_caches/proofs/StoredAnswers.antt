@@ -12,7 +12,7 @@ use Rattle.lru_model.proofs.CallerLemmas.{lookup-entry, read-all, read_back, ins
 use Rattle.lru_model.specs.Calls.{Remove, left_of, promoted, written}
 use Rattle.lru_model.specs.GetOrInserts.{got, inserted}
 use Rattle.lru_model.specs.Inserts.{Insert}
-use Rattle.lru_model.specs.Lists.{IsFront, lookup_entry}
+use Rattle.lru_model.specs.Lists.{IsFront, lookup_entry, without}
 use Rattle.lru_model.specs.State.{State}
 use Rattle.lru_model.specs.Theorems.{EvictsOldest, InsertEnds, KeepsValues}
 use Rattle.std.specs.Prelude.{ℕ, Result, Ok}
@@ -52,7 +52,7 @@ module _ {K V S H : Type 0} (rules : Rules K V S) (offers : Offers K V S K) {eq 
 
   module _ (keeps : KeepsValues offers) (answers : post key value) {refuses : K × V → Type 0}
       (result : Result Bool AllocError) (new : State K V S H)
-      (evicts : EvictsOldest (eq key) refuses old.pairs new.pairs)
+      (evicts : EvictsOldest (eq key) refuses (λ pair. pair ∷ without (eq key) old.pairs) old.pairs new.pairs)
       (ends : InsertEnds rules offers eq hash_of key value old result new) where
     pub inserted_known : AreAnswers eq post new.pairs
     inserted_known =

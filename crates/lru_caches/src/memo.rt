@@ -178,7 +178,7 @@ impl<
         ensures known { AreAnswers K.eq (FnReturnsAt F.Fn self.new.function) self.new.map.pairs }
         ensures function { self.new.function ≡ self.old.function }
     {
-        laws::inserts_evict_the_oldest::<K, V, K, L, S>();
+        laws::calls_evict_the_oldest::<K, V, K, L, S>();
         if let Some(value) = self.map.get(&key) {
             return (*value, false);
         }
@@ -217,7 +217,7 @@ impl<K: Eq + Hash + Drop, V: Drop, F: Fn(&K) -> V, L: Insertion<K, V, K>, S: Key
         ensures known { AreAnswers K.eq (FnReturnsAt F.Fn self.new.function) self.new.map.pairs }
         ensures function { self.new.function ≡ self.old.function }
     {
-        laws::inserts_evict_the_oldest::<K, V, K, L, S>();
+        laws::calls_evict_the_oldest::<K, V, K, L, S>();
         if let Some(value) = self.map.get(&key) {
             return read(&*value);
         }

@@ -74,7 +74,7 @@ use Rattle.lru_model.specs.Lists.{place_of, other_places, front_places, back_pla
 use Rattle.lru_model.specs.State.{State}
 use Rattle.lru_model.specs.Calls.{promoted, demoted, written}
 use Rattle.lru_model.specs.Exact.{AlwaysGrants}
-use Rattle.lru_model.specs.Theorems.{SaysWhether, Stores, KeepsValues, IsSummed, EvictsOldest, behind, with_none}
+use Rattle.lru_model.specs.Theorems.{SaysWhether, Stores, KeepsValues, IsSummed, EvictsOldest, with_pair, with_none}
 use Rattle.lru_model.specs.Theorems.{without_one}
 use Rattle.lru_model.proofs.Theorems.InsertAnswers.{insert_found}
 use Rattle.lru_model.proofs.Theorems.Sums.{total-is, total-front}
@@ -188,9 +188,9 @@ module _ {K V : Type 0} (P : K × V → Type 0) (names : K → Bool) where
       go None e = all-without xs h
       go (Some p) e = All-cons P p (without names xs) (found-all xs p e h) (all-without xs h)
 
-  pub inserted-all : {refuses : K × V → Type 0} (old new : List (K × V)) → EvictsOldest names refuses old new
-      → All P old → ((p : K × V) → names p.0 ≡ true → lookup names new ≡ Some p.1 → P p) → All P new
-  inserted-all old new (behind newest named (rest, e)) h one = go new e one
+  pub inserted-all : {refuses : K × V → Type 0} (old new : List (K × V)) → EvictsOldest names refuses
+      (λ pair. pair ∷ without names old) old new → All P old → ((p : K × V) → names p.0 ≡ true → lookup names new ≡ Some p.1 → P p) → All P new
+  inserted-all old new (with_pair newest named (rest, e)) h one = go new e one
     where
       go : (xs : List (K × V)) → newest ∷ without names old ≡ xs ++ rest
           → ((p : K × V) → names p.0 ≡ true → lookup names xs ≡ Some p.1 → P p) → All P xs

@@ -47,6 +47,10 @@ module _ {K V S I : Type 0} (rules : Rules K V S) (offers : Offers K V S I) (nam
   abbrev pub replacement : K × V → I → V → Contents K V S → Replaced K V S
   replacement pair i v c = offers.on_replace c.limiter (length c.pairs) pair.0 i pair.1 v
 
+  -- if the value v is offered for this pair, the limiter rejects the value
+  abbrev pub Rejects : I → V → Contents K V S → K × V → Type 0
+  Rejects i v c pair = (replacement pair i v c).taken ≡ false
+
   -- the pair's key and the new value, as `on_replace` leaves them
   abbrev pub with_new_value : K × V → I → V → Contents K V S → K × V
   with_new_value pair i v c = let r = replacement pair i v c in (r.key, r.new_value)

@@ -1,15 +1,15 @@
--- How a map changes by one call (`Step`), and by several calls, one after another (`Run`). What each insert of a run
--- evicts (`InsertEvictsOldest`).
+-- How a map changes by one call (`Step`), and by several calls, one after another (`Run`). What each insert and update
+-- evicts (`EvictsFromOldEnd`).
 --     `names i k`: the key i of a call names k.
 --     `hash_of h k`: the hash of k by the hasher h.
-use Rattle.std.specs.Prelude.{◌≡◌, ◌⊎◌, ℕ, Bool, true, false, List, Option, IfSome, Result, Contains, map}
+use Rattle.std.specs.Prelude.{◌≡◌, ◌⊎◌, ℕ, Bool, true, false, List, ◌∷◌, Option, IfSome, Result, Contains, map}
 use Rattle.std.specs.declared.alloc.AllocError.{AllocError}
 use Rattle.lru_limits.specs.Rules.{Rules, Offers}
-use Rattle.lru_model.specs.Lists.{lookup_entry}
+use Rattle.lru_model.specs.Lists.{lookup_entry, set_entry, without}
 use Rattle.lru_model.specs.State.{State, contents, IsSized, Leaves, Trims}
 use Rattle.lru_model.specs.Calls.{promoted, demoted, written, Remove, PopOldest, PopNewest, cleared}
 use Rattle.lru_model.specs.Drains.{Drained}
-use Rattle.lru_model.specs.Inserts.{Insert, replacement}
+use Rattle.lru_model.specs.Inserts.{Insert, Rejects}
 use Rattle.lru_model.specs.Reservations.{Reserve}
 use Rattle.lru_model.specs.Retains.{retained}
 use Rattle.lru_model.specs.Shrinks.{Shrink}
@@ -79,12 +79,16 @@ module _ {K V S H I : Type 0} (rules : Rules K V S) (offers : Offers K V S I) (n
   abbrev pub StepAmong : (K → Bool) → State K V S H → State K V S H → Type 0
   StepAmong test old new = (step : AnyStep old new) × NamesOnly test old new step
 
-  -- An insert evicts only the oldest pairs. But if the limiter rejects the new value, the insert removes only the pair
-  -- of the inserted key.
-  abbrev pub InsertEvictsOldest : (old new : State K V S H) → AnyStep old new → Type 0
-  InsertEvictsOldest old new (calls (inserts key value result h)) = EvictsOldest (names key)
-      (λ pair. (replacement rules offers names pair key value (contents old)).taken ≡ false) old.pairs new.pairs
-  InsertEvictsOldest old new step = Unit {0}
+  -- An insert makes its pair the newest, and an update leaves its pair in its place. Both evict only the oldest pairs,
+  -- but if the limiter rejects the new value, they remove only the pair of the given key.
+  abbrev pub EvictsFromOldEnd : (old new : State K V S H) → AnyStep old new → Type 0
+  EvictsFromOldEnd old new (calls (inserts key value result h)) = EvictsOldest (names key)
+      (Rejects rules offers names key value (contents old)) (λ pair. pair ∷ without (names key) old.pairs)
+      old.pairs new.pairs
+  EvictsFromOldEnd old new (calls (updates key value result h)) = EvictsOldest (names key)
+      (Rejects rules offers names key value (contents old)) (λ pair. set_entry (names key) pair old.pairs)
+      old.pairs new.pairs
+  EvictsFromOldEnd old new step = Unit {0}
 
 -- the `names` of calls that neither insert nor update a key
 abbrev pub no_keys : {K : Type 0} → ⊥ → K → Bool

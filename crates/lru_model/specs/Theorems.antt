@@ -64,19 +64,18 @@ pub record IsNewest {K V : Type 0} (names : K → Bool) (pairs : List (K × V)) 
   pub first : pairs ≡ pair ∷ rest
   pub named : names pair.0 ≡ true
 
--- What an insert evicts or removes. `names` tests whether a key is the inserted key, and `refuses pair` means that the
--- limiter rejects the new value for this pair.
-pub data EvictsOldest {K V : Type 0} (names : K → Bool) (refuses : K × V → Type 0) (old new : List (K × V))
-    : Type 0 where
-  -- Consider a list of the pair of the inserted key, and then the old pairs of other keys. This list begins with the
-  -- list `new`, which may be empty.
-  behind : (newest : K × V) → names newest.0 ≡ true → IsFront new (newest ∷ without names old) →
-      EvictsOldest names refuses old new
-  -- The inserted key was new, and its pair is not stored. The oldest pairs may have been evicted.
-  with_none : lookup_entry names old ≡ None → IsFront new old → EvictsOldest names refuses old new
-  -- Only the pair of the inserted key is removed, because the limiter rejects the new value.
+-- What an insert or an update evicts or removes. `names` tests whether a key is the given key. `refuses pair` means that
+-- the limiter rejects the new value for this pair. `storing pair` is the list after `pair` was stored.
+pub data EvictsOldest {K V : Type 0} (names : K → Bool) (refuses : K × V → Type 0) (storing : K × V → List (K × V))
+    (old new : List (K × V)) : Type 0 where
+  -- A pair of the given key was stored. Then the oldest pairs may have been evicted, even all of them.
+  with_pair : (pair : K × V) → names pair.0 ≡ true → IsFront new (storing pair) →
+      EvictsOldest names refuses storing old new
+  -- The given key was new, and no pair was stored. The oldest pairs may have been evicted.
+  with_none : lookup_entry names old ≡ None → IsFront new old → EvictsOldest names refuses storing old new
+  -- Only the pair of the given key was removed, because the limiter rejects the new value.
   without_one : (pair : K × V) → lookup_entry names old ≡ Some pair → refuses pair → new ≡ without names old →
-      EvictsOldest names refuses old new
+      EvictsOldest names refuses storing old new
 
 module _ {K V S H : Type 0} (rules : Rules K V S) where
   -- The table has pairs but no growth left, and it cannot grow. With one pair more, the table would be more than half

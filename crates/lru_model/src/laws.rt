@@ -21,7 +21,6 @@ ghost use Rattle.lru_model.specs.Inserts.{Insert, replacement, IsOutOfMemory};
 ghost use Rattle.lru_model.specs.Exact.{Report, InsertsAsReported, InsertsGiven, InsertsInSmallTable, InsertsInList};
 ghost use Rattle.lru_model.specs.Exact.{IsDetermined, AlwaysGrants, HasTables};
 ghost use Rattle.lru_model.specs.Theorems.{PaysByStoring, CountsInsertions, Stores, KeepsValues, IsRefusedGrowth};
-ghost use Rattle.lru_model.specs.Theorems.{EvictsOldest};
 ghost use Rattle.lru_model.specs.Kept.{AcceptsNew, IsAdded};
 
 use lru_limits::{Insertion, KeyHasher, Limiter, LookupKey};
@@ -45,27 +44,10 @@ pub use kept::{
     nothing_is_lost,
 };
 pub use runs::{
-    each_insert_of_a_run_evicts_the_oldest, runs_begin_with_maps, runs_evict_the_oldest,
-    runs_keep_maps, runs_keep_sums, runs_keep_the_budget, runs_keep_the_length,
-    runs_keep_the_memory_usage, runs_pay_for_moves,
+    runs_begin_with_maps, runs_evict_the_oldest, runs_keep_maps, runs_keep_sums,
+    runs_keep_the_budget, runs_keep_the_length, runs_keep_the_memory_usage, runs_pay_for_moves,
 };
 pub use shrinks::{shrinks_keep_the_list, shrinks_leave_a_tight_table, shrinks_pay_for_moves};
-
-/// An insert evicts only the oldest entries. If the limiter rejects a new value, the insert removes only the entry of
-/// the inserted key.
-pub fn inserts_evict_the_oldest<
-    K: Eq + Hash,
-    V,
-    I: LookupKey<K>,
-    L: Insertion<K, V, I>,
-    S: KeyHasher<K>,
->()
-    ensures { (key : I) (value : V) (old : State K V L S) (result : Result Bool AllocError) (new : State K V L S) →
-        Insert L.rules L.offers I.names S.hash_of key value old result new →
-        EvictsOldest (I.names key)
-        (λ pair. (replacement L.rules L.offers I.names pair key value (contents old)).taken ≡ false) old.pairs
-        new.pairs }
-{}
 
 /// If an insert into a map of n entries leaves m entries, and passes p entries to its callback, m + p is at most n + 1
 /// (`few`). An insert with a callback also satisfies `Insert` (`step`).

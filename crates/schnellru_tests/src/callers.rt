@@ -15,7 +15,7 @@ ghost use Rattle.lru_model.specs.State.{buckets, growth_left, FirstFreeIs};
 ghost use Rattle.lru_model.specs.Calls.{promoted};
 ghost use Rattle.lru_model.specs.Callbacks.{CalledWith};
 ghost use Rattle.lru_model.specs.Kept.{KeepsToLength};
-ghost use Rattle.lru_model.specs.Runs.{AnyStep, Run, EachStep, InsertEvictsOldest};
+ghost use Rattle.lru_model.specs.Runs.{AnyStep, Run, EachStep, EvictsFromOldEnd};
 ghost use Rattle.lru_model.specs.Theorems.{KeepsValues, PaysForMoves, UsesAtMost, others};
 
 use schnellru::{
@@ -78,7 +78,7 @@ fn memo<F: Fn(u64) -> u64>(
     ensures value { IfOk result (λ value. F.post answers key value) }
     ensures knows { All (λ p. F.post answers p.0 p.1) map.new.pairs }
 {
-    laws::inserts_evict_the_oldest::<u64, u64, u64, ByLength, RandomState>();
+    laws::calls_evict_the_oldest::<u64, u64, u64, ByLength, RandomState>();
     if let Some(value) = map.get(&key) {
         return Ok(*value);
     }
@@ -193,9 +193,9 @@ fn exchange(
     map.insert(new, text)
 }
 
-/// Each insert evicts only the oldest entries. Both inserts pay for the entries that they move. Afterwards, no two keys
-/// are equal.
-fn put_two(
+/// The insert and the update evict only the oldest entries, and pay for the entries that they move. Afterwards, no two
+/// keys are equal.
+fn put_and_update(
     map: &mut LruMap<String, u64>,
     first: String,
     second: String,
@@ -203,19 +203,19 @@ fn put_two(
 ) -> Result<(), AllocError>
     ensures oldest { OnOk result ((run : Run (AnyStep ⟦<ByLength as Limiter<String, u64>>⟧.rules
         ⟦<ByLength as Insertion<String, u64, String>>⟧.offers string_eq ⟦<RandomState as KeyHasher<String>>⟧.hash_of)
-        map.new map.old) × EachStep (InsertEvictsOldest ⟦<ByLength as Limiter<String, u64>>⟧.rules
+        map.new map.old) × EachStep (EvictsFromOldEnd ⟦<ByLength as Limiter<String, u64>>⟧.rules
         ⟦<ByLength as Insertion<String, u64, String>>⟧.offers string_eq ⟦<RandomState as KeyHasher<String>>⟧.hash_of)
         run) }
     ensures paid { OnOk result (PaysForMoves map.old map.new) }
     ensures keys { OnOk result (IsDistinct string_eq (keys_of map.new.pairs)) }
 {
     laws::runs_keep_maps::<String, u64, String, ByLength, RandomState>();
-    laws::each_insert_of_a_run_evicts_the_oldest::<String, u64, String, ByLength, RandomState>();
+    laws::runs_evict_the_oldest::<String, u64, String, ByLength, RandomState>();
     laws::runs_pay_for_moves::<String, u64, String, ByLength, RandomState>();
     let _len = map.len();
     map.insert(first, value)?;
     map.pop_newest();
-    map.insert(second, value)?;
+    map.update(second, value);
     Ok(())
 }
 

@@ -201,7 +201,7 @@ impl<
         ensures known { AreAnswers K.eq (loads (FnReturnsAt F.Fn self.new.function)) self.new.map.pairs }
         ensures function { self.new.function ≡ self.old.function }
     {
-        laws::inserts_evict_the_oldest::<K, V, K, L, S>();
+        laws::calls_evict_the_oldest::<K, V, K, L, S>();
         if let Some(value) = self.map.get(&key) {
             return Ok(read(&*value));
         }

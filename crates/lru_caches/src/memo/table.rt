@@ -189,7 +189,7 @@ impl<
         ensures newest { result ≡ true → IsNewest (K.eq key) self.new }
         ensures absent { result ≡ false → lookup_entry (K.eq key) self.new ≡ None }
     {
-        laws::inserts_evict_the_oldest::<K, V, K, L, S>();
+        laws::calls_evict_the_oldest::<K, V, K, L, S>();
         self.map.insert(key, value).unwrap_or(false)
     }
 }

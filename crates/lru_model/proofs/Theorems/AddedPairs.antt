@@ -6,16 +6,16 @@ use Rattle.lru_model.specs.Lists.{without}
 use Rattle.lru_model.specs.Runs.{Step}
 use Rattle.lru_model.specs.Runs.{AnyStep, calls, writes, sets_limiter}
 use Rattle.lru_model.specs.State.{State}
-use Rattle.lru_model.specs.Theorems.{EvictsOldest, behind, with_none, without_one}
+use Rattle.lru_model.specs.Theorems.{EvictsOldest, with_pair, with_none, without_one}
 use Rattle.lru_model.proofs.Theorems.Fronts.{insert_evicts, length-front}
 use Rattle.lru_model.proofs.Theorems.Limits.{length-without, length-update}
 use Rattle.lru_model.proofs.Theorems.StepTotals.{step_ends}
 use Rattle.lru_model.proofs.Theorems.Sums.{total-one}
 
 evicts_adds : {K V : Type 0} (names : K → Bool) (refuses : K × V → Type 0) (xs ys : List (K × V))
-    → EvictsOldest names refuses xs ys → length ys ≤ length xs + 1
-evicts_adds names refuses xs ys (behind newest named f) =
-    omega (arith, length-front ys (newest ∷ without names xs) f, length-without names xs)
+    → EvictsOldest names refuses (λ pair. pair ∷ without names xs) xs ys → length ys ≤ length xs + 1
+evicts_adds names refuses xs ys (with_pair pair named f) =
+    omega (arith, length-front ys (pair ∷ without names xs) f, length-without names xs)
 evicts_adds names refuses xs ys (with_none absent f) = omega (arith, length-front ys xs f)
 evicts_adds names refuses xs ys (without_one pair found r e) = omega (arith, ap length e, length-without names xs)
 

@@ -1,7 +1,7 @@
 use Rattle.std.proofs.Common.{◌≡◌, ℕ, ◌⊎◌, inl, inr, Bool, true, false, cond, List, [], ◌∷◌, ◌++◌, length, Some}
 use Rattle.std.proofs.Common.{None, Result, refl, sym, ap, ◌∙◌, subst, append_assoc, append-nil, arith, ◌≤◌}
 use Rattle.std.proofs.Common.{length-append}
-use Rattle.lru_model.specs.Lists.{is_empty, first, IsFront, without_last, lookup_entry, without}
+use Rattle.lru_model.specs.Lists.{is_empty, first, IsFront, without_last, lookup_entry, set_entry, without}
 use Rattle.std.specs.declared.alloc.AllocError.{AllocError}
 use Rattle.lru_limits.specs.Rules.{Rules, Offers}
 use Rattle.lru_limits.specs.Laws.{IsLookup, IsInsertion}
@@ -9,8 +9,10 @@ use Rattle.lru_model.specs.State.{State, Contents, contents, pops, trim}
 use Rattle.lru_model.specs.Place.{Place, Outcome, placed, refused, no_memory}
 use Rattle.lru_model.specs.Inserts.{Insert, replaced, not_replaced, no_memory_to_admit, not_admitted, admitted}
 use Rattle.lru_model.specs.Inserts.{make_room}
-use Rattle.lru_model.specs.Inserts.{MayGive, replacement, with_replaced}
-use Rattle.lru_model.specs.Theorems.{EvictsOldest, behind, with_none, without_one}
+use Rattle.lru_model.specs.Inserts.{MayGive, Rejects, replacement, with_replaced}
+use Rattle.lru_model.specs.Theorems.{EvictsOldest, with_pair, with_none, without_one}
+use Rattle.lru_model.specs.Updates.{Update, updated, rejected, not_there, with_updated}
+use Rattle.lru_model.specs.declared.results.Updated.{Updated}
 use Rattle.lru_model.proofs.Theorems.Moves.{KeepsWay, pops_keep, trim_keeps, make_room_keeps, settles_keep}
 use Rattle.lru_model.proofs.Theorems.Ways.{Lands, place_lands}
 
@@ -133,10 +135,10 @@ module _ {K V S H I : Type 0} {rules : Rules K V S} {offers : Offers K V S I} {n
     (laws : IsInsertion names eq offers) (i : I) (v : V) (old : State K V S H) where
   pub insert_evicts : (result : Result Bool AllocError) (new : State K V S H)
       → Insert rules offers names hash_of i v old result new
-      → EvictsOldest (names i) (λ pair. (replacement rules offers names pair i v (contents old)).taken ≡ false)
+      → EvictsOldest (names i) (Rejects rules offers names i v (contents old)) (λ pair. pair ∷ without (names i) old.pairs)
       old.pairs new.pairs
   insert_evicts result new (replaced pair found y r l) =
-      behind _ (replaced_named rules offers names looks_up laws i v old pair found)
+      with_pair _ (replaced_named rules offers names looks_up laws i v old pair found)
       (front_trans _ (front_same (ap (λ st. st.pairs) l.is))
       (front_trim rules (with_replaced rules offers names pair i v (contents old))))
   insert_evicts result new (not_replaced pair found y r l) = without_one pair found y (ap (λ st. st.pairs) l.is)
@@ -153,10 +155,24 @@ module _ {K V S H I : Type 0} {rules : Rules K V S} {offers : Offers K V S I} {n
       others = subst (IsFront ready.pairs) (sym (without_none (names i) old.pairs a)) ready_front
 
       go : Ends rules pair ready landed
-          → EvictsOldest (names i) (λ pair. (replacement rules offers names pair i v (contents old)).taken ≡ false)
-          old.pairs new.pairs
-      go (inl f) = behind pair (given_named rules offers names looks_up laws i v old s pair n)
+          → EvictsOldest (names i) (Rejects rules offers names i v (contents old))
+          (λ pair. pair ∷ without (names i) old.pairs) old.pairs new.pairs
+      go (inl f) = with_pair pair (given_named rules offers names looks_up laws i v old s pair n)
           (front_trans _ (settles_keep rules _ (front_way rules) outcome landed result new t)
           (front_trans _ f (front_more pair _ _ others)))
       go (inr f) = with_none a (front_trans _ (settles_keep rules _ (front_way rules) outcome landed result new t)
           (front_trans _ f ready_front))
+
+module _ {K V S H I : Type 0} {rules : Rules K V S} {offers : Offers K V S I} {names : I → K → Bool}
+    {eq : K → K → Bool} {query_input : I → List (List ℕ)} {key_input : K → List (List ℕ)}
+    (looks_up : IsLookup names eq query_input key_input)
+    (laws : IsInsertion names eq offers) (i : I) (v : V) (old : State K V S H) where
+  pub update_evicts : (result : Updated V) (new : State K V S H) → Update rules offers names i v old result new
+      → EvictsOldest (names i) (Rejects rules offers names i v (contents old)) (λ pair. set_entry (names i) pair old.pairs)
+      old.pairs new.pairs
+  update_evicts result new (updated pair found y r l) =
+      with_pair _ (replaced_named rules offers names looks_up laws i v old pair found)
+      (front_trans _ (front_same (ap (λ st. st.pairs) l.is))
+      (front_trim rules (with_updated rules offers names pair i v (contents old))))
+  update_evicts result new (rejected pair found y r l) = without_one pair found y (ap (λ st. st.pairs) l.is)
+  update_evicts result new (not_there a r e) = with_none a (front_same (ap (λ st. st.pairs) e))

@@ -15,12 +15,10 @@ use Rattle.lru_model.specs.Runs.{NamesOnly, StepAmong}
 use Rattle.lru_model.specs.Runs.{Run, ends, goes_on}
 use Rattle.lru_model.specs.Retains.{retained}
 use Rattle.lru_model.specs.State.{State, contents}
-use Rattle.lru_model.specs.Theorems.{EvictsOldest, behind, with_none, without_one, others}
+use Rattle.lru_model.specs.Theorems.{EvictsOldest, with_pair, with_none, without_one, others}
 use Rattle.lru_model.proofs.Theorems.Reservations.{reserved_list}
-use Rattle.lru_model.proofs.Theorems.Fronts.{insert_evicts, front_same, front_self, front_trans, front_trim}
-use Rattle.lru_model.proofs.Theorems.Fronts.{front_without_last}
-use Rattle.lru_model.proofs.Theorems.Fronts.{found_named, replaced_named}
-use Rattle.lru_model.specs.Updates.{updated, rejected, not_there, with_updated}
+use Rattle.lru_model.proofs.Theorems.Fronts.{insert_evicts, update_evicts, front_same, front_self, front_trans}
+use Rattle.lru_model.proofs.Theorems.Fronts.{front_trim, front_without_last, found_named}
 use Rattle.lru_model.proofs.PairLists.Members.{Contains-here, Contains-later}
 use Rattle.lru_model.proofs.Theorems.Shrinks.{shrunk_list}
 
@@ -95,13 +93,14 @@ module _ {K V : Type 0} (test : K → Bool) where
         go true e h = others_behind (x.0, value) xs (among x.0 e) ∙ sym (others_behind x xs (among x.0 e))
         go false e h = ap (λ l. cond (not (test x.0)) (x ∷ l) l) h
 
-    evicts_others : (refuses : K × V → Type 0) (old new : List (K × V)) → EvictsOldest names refuses old new
-        → IsFront (others test new) (others test old)
-    evicts_others refuses old new (behind newest named f) = subst (IsFront (others test new))
-        (others_behind newest (without names old) (among newest.0 named) ∙ others_without old)
-        (front_others new (newest ∷ without names old) f)
-    evicts_others refuses old new (with_none absent f) = front_others new old f
-    evicts_others refuses old new (without_one pair found r e) = front_same (ap (others test) e ∙ others_without old)
+    evicts_others : {refuses : K × V → Type 0} (storing : K × V → List (K × V)) (old new : List (K × V))
+        → ((pair : K × V) → names pair.0 ≡ true → others test (storing pair) ≡ others test old)
+        → EvictsOldest names refuses storing old new → IsFront (others test new) (others test old)
+    evicts_others storing old new same (with_pair pair named f) =
+        subst (IsFront (others test new)) (same pair named) (front_others new (storing pair) f)
+    evicts_others storing old new same (with_none absent f) = front_others new old f
+    evicts_others storing old new same (without_one pair found r e) =
+        front_same (ap (others test) e ∙ others_without old)
 
 module _ {K V S H I : Type 0} {rules : Rules K V S} {offers : Offers K V S I} {names : I → K → Bool}
     {hash_of : H → K → ℕ} {eq : K → K → Bool} {query_input : I → List (List ℕ)} {key_input : K → List (List ℕ)}
@@ -109,17 +108,13 @@ module _ {K V S H I : Type 0} {rules : Rules K V S} {offers : Offers K V S I} {n
   pub step_keeps_newest : (old new : State K V S H) (step : AnyStep rules offers names hash_of old new)
       → NamesOnly rules offers names hash_of test old new step → IsFront (others test new.pairs) (others test old.pairs)
   step_keeps_newest old new (calls (inserts key value result h)) among =
-      evicts_others test (names key) among _ old.pairs new.pairs
+      evicts_others test (names key) among (λ pair. pair ∷ without (names key) old.pairs) old.pairs new.pairs
+      (λ pair named. others_behind test pair _ (among pair.0 named) ∙ others_without test (names key) among old.pairs)
       (insert_evicts looks_up laws key value old result new h)
-  step_keeps_newest old new (calls (updates key value result (updated pair found y r l))) among =
-      subst (IsFront (others test new.pairs)) (others_set test (names key) among _
-      (replaced_named rules offers names looks_up laws key value old pair found) old.pairs)
-      (front_trans _ (others_same test new.pairs _ (ap (λ st. st.pairs) l.is))
-      (front_others test _ _ (front_trim rules (with_updated rules offers names pair key value (contents old)))))
-  step_keeps_newest old new (calls (updates key value result (rejected pair found y r l))) among =
-      front_same (ap (λ st. others test st.pairs) l.is ∙ others_without test (names key) among old.pairs)
-  step_keeps_newest old new (calls (updates key value result (not_there a r e))) among =
-      others_same test new.pairs old.pairs (ap (λ st. st.pairs) e)
+  step_keeps_newest old new (calls (updates key value result h)) among =
+      evicts_others test (names key) among (λ pair. set_entry (names key) pair old.pairs) old.pairs new.pairs
+      (λ pair named. others_set test (names key) among pair named old.pairs)
+      (update_evicts looks_up laws key value old result new h)
   step_keeps_newest old new (calls (gets named e)) among =
       front_same (ap (λ st. others test st.pairs) e ∙ others_front test named among old.pairs)
   step_keeps_newest old new (calls (demotes named e)) among =

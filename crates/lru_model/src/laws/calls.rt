@@ -8,7 +8,7 @@ ghost use Rattle.lru_limits.specs.Laws.{IsAccount};
 ghost use Rattle.lru_limits.specs.Limits.{LimitsLength, LimitsMemory};
 ghost use Rattle.lru_model.specs.Lists.{keys_of, IsFront};
 ghost use Rattle.lru_model.specs.State.{State, IsSized, IsMap};
-ghost use Rattle.lru_model.specs.Runs.{Step, AnyStep, StepAmong};
+ghost use Rattle.lru_model.specs.Runs.{Step, AnyStep, StepAmong, EvictsFromOldEnd};
 ghost use Rattle.lru_model.specs.Theorems.{UsesAtMost, IsSummed, others};
 
 use lru_limits::{Budgeted, Insertion, KeyHasher, LookupKey};
@@ -95,10 +95,12 @@ pub fn calls_add_one_pair<
 {}
 
 /// Consider the entries whose keys a call does not name. The call evicts only the oldest of these entries, and keeps
-/// the order of the rest. The law excludes `pop_newest`, which removes the newest entry.
+/// the order of the rest (`others`). This clause excludes `pop_newest`, which removes the newest entry. A call names
+/// the key that it inserts, updates, looks up or removes, and the key whose value it writes. A retain names the keys
+/// that its closure rejects.
 ///
-/// A call names the key that it inserts, updates, looks up or removes, and the key whose value it writes. A retain
-/// names the keys that its closure rejects.
+/// An insert or an update evicts only the oldest entries. But if the limiter rejects the new value, the call removes
+/// only the entry of the given key (`given`).
 pub fn calls_evict_the_oldest<
     K: Eq + Hash,
     V,
@@ -106,7 +108,9 @@ pub fn calls_evict_the_oldest<
     L: Insertion<K, V, I>,
     S: KeyHasher<K>,
 >()
-    ensures { (test : K → Bool) (old new : State K V L S) →
+    ensures others { (test : K → Bool) (old new : State K V L S) →
         StepAmong L.rules L.offers I.names S.hash_of test old new →
         IsFront (others test new.pairs) (others test old.pairs) }
+    ensures given { (old new : State K V L S) (step : AnyStep L.rules L.offers I.names S.hash_of old new) →
+        EvictsFromOldEnd L.rules L.offers I.names S.hash_of old new step }
 {}

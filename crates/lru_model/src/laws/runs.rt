@@ -5,7 +5,7 @@ ghost use Rattle.lru_limits.specs.Limits.{LimitsLength, LimitsMemory};
 ghost use Rattle.lru_model.specs.Lists.{IsFront};
 ghost use Rattle.lru_model.specs.State.{State, IsSized, IsMap, empty_map};
 ghost use Rattle.lru_model.specs.Runs.{StepOrWrite, StepOrKeptWrite, AnyStep, StepAmong, Run};
-ghost use Rattle.lru_model.specs.Runs.{EachStep, InsertEvictsOldest};
+ghost use Rattle.lru_model.specs.Runs.{EachStep, EvictsFromOldEnd};
 ghost use Rattle.lru_model.specs.Theorems.{PaysForMoves, UsesAtMost, IsSummed, others};
 
 use lru_limits::{Budgeted, Insertion, KeyHasher, Limiter, LookupKey};
@@ -44,7 +44,8 @@ pub fn runs_pay_for_moves<
 {}
 
 /// Consider the entries whose keys are not named by any call of a run. A run without `pop_newest` evicts only the
-/// oldest of these entries.
+/// oldest of these entries (`others`). Each insert and update of any run evicts only the oldest entries, or removes
+/// only the entry whose new value was rejected (`given`; see `calls_evict_the_oldest`). A get that inserts is an insert.
 pub fn runs_evict_the_oldest<
     K: Eq + Hash,
     V,
@@ -52,22 +53,11 @@ pub fn runs_evict_the_oldest<
     L: Insertion<K, V, I>,
     S: KeyHasher<K>,
 >()
-    ensures oldest { (test : K → Bool) (old new : State K V L S) →
+    ensures others { (test : K → Bool) (old new : State K V L S) →
         Run (StepAmong L.rules L.offers I.names S.hash_of test) new old →
         IsFront (others test new.pairs) (others test old.pairs) }
-{}
-
-/// `inserts_evict_the_oldest` holds for each insert of a run, including each get that inserts, whatever the other calls
-/// are.
-pub fn each_insert_of_a_run_evicts_the_oldest<
-    K: Eq + Hash,
-    V,
-    I: LookupKey<K>,
-    L: Insertion<K, V, I>,
-    S: KeyHasher<K>,
->()
-    ensures { (old new : State K V L S) (run : Run (AnyStep L.rules L.offers I.names S.hash_of) new old) →
-        EachStep (InsertEvictsOldest L.rules L.offers I.names S.hash_of) run }
+    ensures given { (old new : State K V L S) (run : Run (AnyStep L.rules L.offers I.names S.hash_of) new old) →
+        EachStep (EvictsFromOldEnd L.rules L.offers I.names S.hash_of) run }
 {}
 
 /// `calls_keep_the_length` also holds for any sequence of `Step`s and writes of values.

@@ -19,7 +19,7 @@ returns c =
       usage = follows c.run_calls.result (λ answers run. c.runs_keep_the_memory_usage.ensures.usage _ small old new
           ((steps _ run).limited none) c.requires.usage) c.run_calls.ensures.run;
       oldest = λ test is too.
-          follows c.run_calls.result (λ answers run. c.runs_evict_the_oldest.ensures.oldest test old new
+          follows c.run_calls.result (λ answers run. c.runs_evict_the_oldest.ensures.others test old new
           ((steps _ run).among test (rw c.in_ok-calls.ensures.items (
             (λ k named. subst (λ k. test k ≡ true) (eqb-true c.args.first.0 k named) is),
             ((λ k named. subst (λ k. test k ≡ true) (eqb-true c.args.second.0 k named) too), tt),

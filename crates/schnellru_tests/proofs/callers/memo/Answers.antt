@@ -4,6 +4,7 @@ use Rattle.std.proofs.lemmas.List.Elements.{All-contains}
 use Rattle.std.proofs.lemmas.Map.Views.{Contains-from_lookup}
 use Rattle.std.specs.List.{All}
 use Rattle.lru_limits.specs.Limiters.{length_terms}
+use Rattle.lru_model.specs.Runs.{calls, inserts}
 use Rattle.lru_model.proofs.CallerLemmas.{read-all, inserted-all, inserted-only, offers_of-keeps}
 use Rattle.schnellru_tests.proofs.callers.memo.Goals.{After-insert}
 use Rattle.schnellru_tests.proofs.callers.memo.Goals as goal
@@ -31,7 +32,8 @@ knows g c =
     let new = c.insert.new.self in
     let key = c.args.key in
     let value = c.answers-value.result in
-    let evicts = c.inserts_evict_the_oldest.ensures key value old c.insert.result new c.insert.ensures.step in
+    let evicts = c.calls_evict_the_oldest.ensures.given old new
+    (calls (inserts key value c.insert.result c.insert.ensures.step)) in
     let insert = c.insert.ensures in
     let only = inserted-only (offers_of-keeps length_terms) _ nat_eq key old new c.insert.result insert.ends.says insert.ends.stores in
     inserted-all (λ p. goal.F-post g c.args.answers p.0 p.1) (nat_eq key) old.pairs new.pairs evicts c.requires.known

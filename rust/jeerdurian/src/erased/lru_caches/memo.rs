@@ -70,7 +70,7 @@ impl<K: Eq + Hash, V: Copy, F: Fn(&K) -> V, L: Insertion<K, V, K>, S: KeyHasher<
     ///
     /// Cost: as `answer`.
     pub fn answer_full(&mut self, key: K) -> (V, bool) {
-        laws::inserts_evict_the_oldest::<K, V, K, L, S>();
+        laws::calls_evict_the_oldest::<K, V, K, L, S>();
         if let Some(value) = self.map.get(&key) {
             return (*value, false);
         }
@@ -86,7 +86,7 @@ impl<K: Eq + Hash, V, F: Fn(&K) -> V, L: Insertion<K, V, K>, S: KeyHasher<K>> Me
     ///
     /// Cost: as `answer`, plus a call of the closure.
     pub fn answer_with<R, U: FnOnce(&V) -> R>(&mut self, key: K, read: U) -> R {
-        laws::inserts_evict_the_oldest::<K, V, K, L, S>();
+        laws::calls_evict_the_oldest::<K, V, K, L, S>();
         if let Some(value) = self.map.get(&key) {
             return read(&*value);
         }

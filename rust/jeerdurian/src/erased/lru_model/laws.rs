@@ -24,14 +24,10 @@ pub use calls::{
 pub use insertions::try_inserts_pay_for_moves;
 pub use kept::{inserts_leave_the_newest, inserts_with_room_are_exact, maps_keep_to_their_length, nothing_is_lost};
 pub use runs::{
-    each_insert_of_a_run_evicts_the_oldest, runs_begin_with_maps, runs_evict_the_oldest, runs_keep_maps,
-    runs_keep_sums, runs_keep_the_budget, runs_keep_the_length, runs_keep_the_memory_usage, runs_pay_for_moves,
+    runs_begin_with_maps, runs_evict_the_oldest, runs_keep_maps, runs_keep_sums, runs_keep_the_budget,
+    runs_keep_the_length, runs_keep_the_memory_usage, runs_pay_for_moves,
 };
 pub use shrinks::{shrinks_keep_the_list, shrinks_leave_a_tight_table, shrinks_pay_for_moves};
-
-/// An insert evicts only the oldest entries. If the limiter rejects a new value, the insert removes only the entry of
-/// the inserted key.
-pub fn inserts_evict_the_oldest<K: Eq + Hash, V, I: LookupKey<K>, L: Insertion<K, V, I>, S: KeyHasher<K>>() {}
 
 /// If an insert into a map of n entries leaves m entries, and passes p entries to its callback, m + p is at most n + 1
 /// (`few`). An insert with a callback also satisfies `Insert` (`step`).

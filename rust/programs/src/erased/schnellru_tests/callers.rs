@@ -45,7 +45,7 @@ fn overwrite(map: &mut LruMap<u64, u64>, key: u64, value: u64) -> bool {
 
 /// Before and after the call, the value of each key of the map is what the closure returns for the key.
 fn memo<F: Fn(u64) -> u64>(map: &mut LruMap<u64, u64>, answers: F, key: u64) -> Result<u64, AllocError> {
-    laws::inserts_evict_the_oldest::<u64, u64, u64, ByLength, RandomState>();
+    laws::calls_evict_the_oldest::<u64, u64, u64, ByLength, RandomState>();
     if let Some(value) = map.get(&key) {
         return Ok(*value);
     }
@@ -130,7 +130,7 @@ fn exchange(
 /// are equal.
 fn put_two(map: &mut LruMap<String, u64>, first: String, second: String, value: u64) -> Result<(), AllocError> {
     laws::runs_keep_maps::<String, u64, String, ByLength, RandomState>();
-    laws::each_insert_of_a_run_evicts_the_oldest::<String, u64, String, ByLength, RandomState>();
+    laws::runs_evict_the_oldest::<String, u64, String, ByLength, RandomState>();
     laws::runs_pay_for_moves::<String, u64, String, ByLength, RandomState>();
     let _len = map.len();
     map.insert(first, value)?;

@@ -2,6 +2,7 @@ use Rattle.std.proofs.Common.{◌≡◌, Bool, true, false, refl, sym, subst}
 use Rattle.std.proofs.lemmas.Fn.{says_at}
 use Rattle.std.specs.Fn.{FnReturnsAt}
 use Rattle.std.specs.Prelude.{MatchOption}
+use Rattle.lru_model.specs.Runs.{calls, inserts}
 use Rattle.lru_caches.specs.Answers.{AreAnswers}
 use Rattle.lru_caches.proofs.StoredAnswers.{got_answer, inserted_answer}
 use Rattle.lru_caches.proofs.memo.Memo.answer_full.Goals as goal
@@ -35,7 +36,8 @@ returns g c =
     let made = inserted_answer g.L.Limiter.rules g.L.Insertion.offers g.met.K.Eq.laws g.S.KeyHasher.hash_of
     (FnReturnsAt g.F.Fn c.self.inside.function) c.args.key value c.self.inside.map known c.self.invariant
     says c.insert-kept.result c.insert-kept.new.self
-    (c.inserts_evict_the_oldest.ensures c.args.key value c.self.inside.map c.insert-kept.result c.insert-kept.new.self insert.step)
+    (c.calls_evict_the_oldest.ensures.given c.self.inside.map c.insert-kept.new.self
+    (calls (inserts c.args.key value c.insert-kept.result insert.step)))
     insert.ends none insert.step in
     rw (← c.self.view_is) (record {
       answer = made.answer;

@@ -71,7 +71,7 @@ impl<K: Eq + Hash, V, E, F: Fn(&K) -> Result<V, E>, L: Insertion<K, V, K>, S: Ke
     ///
     /// As `load`. After an error, the closure is not called.
     pub fn load_with<R, U: FnOnce(&V) -> R>(&mut self, key: K, read: U) -> Result<R, E> {
-        laws::inserts_evict_the_oldest::<K, V, K, L, S>();
+        laws::calls_evict_the_oldest::<K, V, K, L, S>();
         if let Some(value) = self.map.get(&key) {
             return Ok(read(&*value));
         }

@@ -76,7 +76,7 @@ impl<K: Eq + Hash, V, Q: Question<K, V>, L: Insertion<K, V, K>, S: KeyHasher<K>>
     ///
     /// Cost: an insert.
     pub fn store(&mut self, key: K, value: V) -> bool {
-        laws::inserts_evict_the_oldest::<K, V, K, L, S>();
+        laws::calls_evict_the_oldest::<K, V, K, L, S>();
         self.map.insert(key, value).unwrap_or(false)
     }
 }

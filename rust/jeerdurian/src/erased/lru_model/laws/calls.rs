@@ -36,8 +36,10 @@ pub fn calls_keep_the_budget<K: Eq + Hash, V, L: Budgeted<K, V>, S: KeyHasher<K>
 pub fn calls_add_one_pair<K: Eq + Hash, V, I: LookupKey<K>, L: Insertion<K, V, I>, S: KeyHasher<K>>() {}
 
 /// Consider the entries whose keys a call does not name. The call evicts only the oldest of these entries, and keeps
-/// the order of the rest. The law excludes `pop_newest`, which removes the newest entry.
+/// the order of the rest (`others`). This clause excludes `pop_newest`, which removes the newest entry. A call names
+/// the key that it inserts, updates, looks up or removes, and the key whose value it writes. A retain names the keys
+/// that its closure rejects.
 ///
-/// A call names the key that it inserts, updates, looks up or removes, and the key whose value it writes. A retain
-/// names the keys that its closure rejects.
+/// An insert or an update evicts only the oldest entries. But if the limiter rejects the new value, the call removes
+/// only the entry of the given key (`given`).
 pub fn calls_evict_the_oldest<K: Eq + Hash, V, I: LookupKey<K>, L: Insertion<K, V, I>, S: KeyHasher<K>>() {}

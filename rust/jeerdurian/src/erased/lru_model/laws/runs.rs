@@ -19,19 +19,9 @@ pub fn runs_keep_sums<K: Eq + Hash, V, I: LookupKey<K>, L: Insertion<K, V, I>, S
 pub fn runs_pay_for_moves<K: Eq + Hash, V, I: LookupKey<K>, L: Insertion<K, V, I>, S: KeyHasher<K>>() {}
 
 /// Consider the entries whose keys are not named by any call of a run. A run without `pop_newest` evicts only the
-/// oldest of these entries.
+/// oldest of these entries (`others`). Each insert and update of any run evicts only the oldest entries, or removes
+/// only the entry whose new value was rejected (`given`; see `calls_evict_the_oldest`). A get that inserts is an insert.
 pub fn runs_evict_the_oldest<K: Eq + Hash, V, I: LookupKey<K>, L: Insertion<K, V, I>, S: KeyHasher<K>>() {}
-
-/// `inserts_evict_the_oldest` holds for each insert of a run, including each get that inserts, whatever the other calls
-/// are.
-pub fn each_insert_of_a_run_evicts_the_oldest<
-    K: Eq + Hash,
-    V,
-    I: LookupKey<K>,
-    L: Insertion<K, V, I>,
-    S: KeyHasher<K>,
->() {
-}
 
 /// `calls_keep_the_length` also holds for any sequence of `Step`s and writes of values.
 pub fn runs_keep_the_length<K: Eq + Hash, V, I: LookupKey<K>, L: Insertion<K, V, I>, S: KeyHasher<K>>() {}

@@ -3,6 +3,7 @@ use Rattle.std.specs.declared.alloc.AllocError.{AllocError}
 use Rattle.std.specs.Result.{result_unwrap_or}
 use Rattle.std.proofs.lemmas.Bool.{false≢true}
 use Rattle.lru_model.proofs.CallerLemmas.{inserted-found}
+use Rattle.lru_model.specs.Runs.{calls, inserts}
 use Rattle.lru_caches.proofs.StoredAnswers.{inserted_known}
 use Rattle.lru_caches.proofs.memo.table.MemoTable.store.Goals as goal
 
@@ -17,8 +18,8 @@ invariant_of-self g c =
       keeps,
       inserted_known g.L.Limiter.rules g.L.Insertion.offers g.met.K.Eq.laws g.S.KeyHasher.hash_of g.Q.Question.answers
           c.args.key c.args.value c.self.inside.map known keeps c.requires.answer c.insert.result new
-          (c.inserts_evict_the_oldest.ensures c.args.key c.args.value c.self.inside.map c.insert.result new
-          c.insert.ensures.step) c.insert.ensures.ends,
+          (c.calls_evict_the_oldest.ensures.given c.self.inside.map new
+          (calls (inserts c.args.key c.args.value c.insert.result c.insert.ensures.step))) c.insert.ensures.ends,
     )
 
 pub returns-clause-stored : goal.returns-clause-stored
