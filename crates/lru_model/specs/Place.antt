@@ -45,11 +45,9 @@ pub record IsTooSmallFor (hash n : ℕ) (states : List BucketState) : Type 0 whe
   pub begun : (length states ≡ 0) ⊎ (0 < n)
 
 module _ {K V S H : Type 0} where
-  -- The new pair is stored as the newest. The table now has `count` buckets, and `growth_left` is `spare`. The insert
-  -- moved `moves` entries.
-  pub record IsPlaced (pair : K × V) (count spare moves : ℕ) (old new : State K V S H) : Type 0 where
+  -- The new pair is stored as the newest. The table now has `count` buckets. The insert moved `moves` entries.
+  pub record IsPlaced (pair : K × V) (count moves : ℕ) (old new : State K V S H) : Type 0 where
     pub table : buckets new ≡ count
-    pub room_left : growth_left new ≡ spare
     pub state : new ≡ record old {
       pairs = pair ∷ old.pairs;
       table = new.table;
@@ -58,7 +56,7 @@ module _ {K V S H : Type 0} where
 
   -- the pair was stored in a table of the same size, and no entry moved
   abbrev pub IsPlacedInTable : K × V → State K V S H → State K V S H → Type 0
-  IsPlacedInTable pair old new = IsPlaced pair (buckets old) (growth_left new) 0 old new
+  IsPlacedInTable pair old new = IsPlaced pair (buckets old) 0 old new
 
   abbrev pub HasNoBucket : ℕ → State K V S H → Type 0
   HasNoBucket hash st = NoBucketTakes hash (length st.pairs) st.table.states
@@ -95,10 +93,11 @@ module _ {K V S H : Type 0} (rules : Rules K V S) where
   OldestEvicted hash (suc n) old new = (before : State K V S H) × OldestEvicted hash n old before
       × HasNoBucket hash before × Leaves before (pop rules (contents before)) new
 
-  -- Either the pair is stored (`IsPlaced`), or the map ran out of memory and the limiter was notified that the pair is
-  -- not stored.
+  -- Either the pair is stored (`IsPlaced`) and `growth_left` is `spare`, or the map ran out of memory and the limiter was
+  -- notified that the pair is not stored.
   abbrev pub IsPlacedIfMemory : K × V → ℕ → ℕ → ℕ → State K V S H → Outcome → State K V S H → Type 0
-  IsPlacedIfMemory pair count spare moves old placed new = IsPlaced pair count spare moves old new
+  IsPlacedIfMemory pair count spare moves old placed new =
+      IsPlaced pair count moves old new × (growth_left new ≡ spare)
   IsPlacedIfMemory pair count spare moves old no_memory new = new ≡ unstored pair old
   IsPlacedIfMemory pair count spare moves old refused new = ⊥
 
@@ -125,7 +124,7 @@ module _ {K V S H : Type 0} (rules : Rules K V S) where
     finds_bucket : (n : ℕ) → 0 < n → (buckets old ≤ 16 → n ≡ 1) →
         full_capacity (buckets old) / 2 + n ≤ length old.pairs →
         (left : State K V S H) → OldestEvicted hash n mid left → FillsBucket hash left.table new.table →
-        outcome ≡ placed → IsPlaced pair (buckets old) (growth_left new) 0 left new →
+        outcome ≡ placed → IsPlaced pair (buckets old) 0 left new →
         Evicts hash pair old mid outcome new
     rehashes : 0 < length old.pairs → (n : ℕ) → 0 < n → (buckets old ≤ 16 → n ≡ 1) →
         length old.pairs + 1 ≡ full_capacity (buckets old) / 2 + n →

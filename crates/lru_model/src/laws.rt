@@ -153,12 +153,12 @@ pub fn deleted_buckets_serve<
         HasPairsButNoGrowth old →
         FirstFreeIs deleted (S.hash_of old.hasher pair.0) old.table.states →
         Place L.rules S.hash_of pair old outcome new →
-        (outcome ≡ placed) × IsPlaced pair (buckets old) 0 0 old new ×
+        (outcome ≡ placed) × IsPlaced pair (buckets old) 0 old new ×
         FillsBucket (S.hash_of old.hasher pair.0) old.table new.table }
     ensures only { (pair : K × V) (old new : State K V L S) →
         HasPairsButNoGrowth old → IsSized old →
         Place L.rules S.hash_of pair old placed new →
-        IsPlaced pair (buckets old) 0 0 old new →
+        IsPlaced pair (buckets old) 0 old new → growth_left new ≡ 0 →
         FirstFreeIs deleted (S.hash_of old.hasher pair.0) old.table.states }
     ensures added { (key : I) (value : V) (pair : K × V) (old : State K V L S) (result : Result Bool AllocError)
         (new : State K V L S) →

@@ -81,7 +81,7 @@ module _ {K V S H : Type 0} (rules : Rules K V S) (hash_of : H → K → ℕ) wh
   if_memory : (pair : K × V) (count spare moves : ℕ) (old : State K V S H) (outcome : Outcome) (new : State K V S H)
       → outcome ≡ placed → IsPlacedIfMemory rules pair count spare moves old outcome new
       → new.counts.placed ≡ count_up old.counts.placed 1
-  if_memory pair count spare moves old placed new e h = ap (λ st. st.counts.placed) h.state
+  if_memory pair count spare moves old placed new e h = ap (λ st. st.counts.placed) h.0.state
   if_memory pair count spare moves old refused new e h = absurd h
   if_memory pair count spare moves old no_memory new e h = absurd cc
 

@@ -9,7 +9,7 @@ use Rattle.group_table.specs.Bucket.{BucketState}
 use Rattle.group_table.specs.Change.{HasNoPlace}
 use Rattle.lru_limits.specs.Rules.{Rules}
 use Rattle.lru_model.specs.Sizes.{no_table, new_table}
-use Rattle.lru_model.specs.State.{State, TableState, buckets, growth_left, contents, IsSized, Leaves, pop, pops}
+use Rattle.lru_model.specs.State.{State, TableState, buckets, contents, IsSized, Leaves, pop, pops}
 use Rattle.lru_model.specs.Place.{Place, rehashed, grown, not_grown, HasNoBucket, IsOutgrown, CannotGrow}
 use Rattle.lru_model.specs.Place.{no_target, denied, Evicts, nothing_to_evict, finds_bucket, rehashes, OldestEvicted}
 use Rattle.lru_model.specs.Place.{Outcome, outcome_of, placed, no_memory, IsPlaced, IsPlacedIfMemory}
@@ -79,7 +79,7 @@ module _ {K V S H : Type 0} (rules : Rules K V S) (hash_of : H → K → ℕ) (p
         go (finds_bucket n pos one half left gone fills o p) = finds_bucket n pos
             (λ small. one (omega (arith, same, small)))
             (omega (arith, half, pairs, ap full_capacity same)) left gone fills o
-            (subst (λ b. IsPlaced pair b (growth_left new) 0 left new) same p)
+            (subst (λ b. IsPlaced pair b 0 left new) same p)
         go (rehashes some n pos one half left gone m) = rehashes (omega (arith, some, pairs)) n pos
             (λ small. one (omega (arith, same, small)))
             (omega (arith, half, pairs, ap full_capacity same)) left gone
@@ -161,11 +161,11 @@ module _ {K V S H : Type 0} (rules : Rules K V S) (hash : ℕ) (pair : K × V) (
 
   module _ (new : State K V S H) where
     pub finds : full_capacity (buckets old) / 2 ≤ length left.pairs
-        → IsPlaced pair (buckets left) (growth_left new) 0 left new → FillsBucket hash left.table new.table
+        → IsPlaced pair (buckets left) 0 left new → FillsBucket hash left.table new.table
         → Evicts rules hash pair old old placed new
     finds enough p fills = finds_bucket (suc n) (omega arith) only_one
         (omega (arith, enough, one_fewer, in_all)) left one_more fills refl
-        (subst (λ b. IsPlaced pair b (growth_left new) 0 left new) same_buckets p)
+        (subst (λ b. IsPlaced pair b 0 left new) same_buckets p)
 
     pub rehashes_then : (outcome : Outcome) → length left.pairs < full_capacity (buckets old) / 2 →
         IsPlacedIfMemory rules pair (buckets old) (full_capacity (buckets old) - length left.pairs - 1)

@@ -82,8 +82,8 @@ module _ {K V S H : Type 0} where
     some_bucket : (deletions : ℕ) → length old.pairs + 1 + deletions ≤ full_capacity (buckets old)
         → (buckets old ≤ 16 → deletions ≡ 0)
         → (new : State K V S H)
-        × IsPlaced pair (buckets old) (full_capacity (buckets old) - (length old.pairs + 1 + deletions)) 0 old new
-        × IsSized new
+        × IsPlaced pair (buckets old) 0 old new × IsSized new
+        × (growth_left new ≡ full_capacity (buckets old) - (length old.pairs + 1 + deletions))
     some_bucket deletions within none_deleted =
         let pairs = pair ∷ old.pairs in
         let fit : length pairs + deletions ≤ full_capacity (buckets old) = omega (arith, within) in
@@ -95,15 +95,15 @@ module _ {K V S H : Type 0} where
           new,
           record {
             table = length-some_states old ok pairs deletions fit;
-            room_left = omega (arith, growth_left-some_states old ok pairs deletions fit);
             state = refl;
           },
           sized-some_states old ok pairs deletions fit none_deleted new.counts (counted old.counts.moved 0)
               (counted old.counts.placed 1) refl,
+          omega (arith, growth_left-some_states old ok pairs deletions fit),
         )
 
     fill_first : (hash b : ℕ) → b < buckets old → IsFirstFree old.table.states hash b → MayFill old.table.states b
-        → (new : State K V S H) × IsPlaced pair (buckets old) (growth_left new) 0 old new
+        → (new : State K V S H) × IsPlaced pair (buckets old) 0 old new
         × FillsBucket hash old.table new.table × IsSized new
     fill_first hash b within first may =
         (new, placed, fills_free old.table new.table ok hash b within first spends refl refl, sized)
@@ -148,8 +148,8 @@ module _ {K V S H : Type 0} where
           used,
         )
 
-        placed : IsPlaced pair (buckets old) (growth_left new) 0 old new
-        placed = record { table = same; room_left = refl; state = refl }
+        placed : IsPlaced pair (buckets old) 0 old new
+        placed = record { table = same; state = refl }
 
         sized : IsSized new
         sized = record {
@@ -172,7 +172,7 @@ module _ {K V S H : Type 0} where
         }
 
     some_filled : (hash : ℕ) → 0 < growth_left old
-        → (new : State K V S H) × IsPlaced pair (buckets old) (growth_left new) 0 old new
+        → (new : State K V S H) × IsPlaced pair (buckets old) 0 old new
         × FillsBucket hash old.table new.table × IsSized new
     some_filled hash r =
         let (b, within, first) =
@@ -239,7 +239,7 @@ module _ {K V S H : Type 0} (rules : Rules K V S) (hash_of : H → K → ℕ) (p
                   new,
                   not_grown outgrown mid cannot
                       (finds_bucket 1 (omega arith) (λ _. refl) (omega (arith, l)) end gone fills refl
-                      (subst (λ n. IsPlaced pair n (growth_left new) 0 end new) leaves.growth_left.table is)),
+                      (subst (λ n. IsPlaced pair n 0 end new) leaves.growth_left.table is)),
                   after,
                 )
             | no l ↦ (
@@ -277,15 +277,12 @@ module _ {K V S H : Type 0} (rules : Rules K V S) (hash_of : H → K → ℕ) (p
 
   emptied_ends : length old.pairs ≡ 0 → HasNoBucket hash old → IsPowerFromFour (buckets old) → Ends
   emptied_ends no_pairs none power =
-      let (new, is, sized) = some_bucket pair old ok 0 (omega (arith, no_pairs, full_capacity-some (buckets old) power))
-      (λ _. refl) in
-      let one : IsPlaced pair (buckets old) (full_capacity (buckets old) - length old.pairs - 1) 0 old new =
-      record { table = is.table; room_left = omega (arith, is.room_left); state = is.state } in (
+      let (new, is, sized, left) = some_bucket pair old ok 0 (omega (arith, no_pairs, full_capacity-some (buckets old) power))
+      (λ _. refl) in (
         placed,
         new,
         rehashed none (omega (arith, no_pairs, full_capacity-some (buckets old) power)) (λ q. placed-not_no_memory q)
-            (subst (λ n. IsPlaced pair (buckets old) (full_capacity (buckets old) - length old.pairs - 1) n old new)
-            (sym no_pairs) one),
+            (subst (λ n. IsPlaced pair (buckets old) n old new) (sym no_pairs) is, omega (arith, left)),
         sized,
       )
 

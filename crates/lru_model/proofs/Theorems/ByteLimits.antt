@@ -229,7 +229,7 @@ module _ {K V : Type 0} (bytes_of : K → V → ℕ) where
           → (new.entry_bytes ≡ mid.entry_bytes → buckets new ≡ count → new.limiter ≡ mid.limiter → Counts new)
           → Lands outcome new
       if_memory mid count spare moves placed new p k w moved =
-          (moved (ap (λ st. st.entry_bytes) p.state) p.table (ap (λ st. st.limiter) p.state), inl refl)
+          (moved (ap (λ st. st.entry_bytes) p.0.state) p.0.table (ap (λ st. st.limiter) p.0.state), inl refl)
       if_memory mid count spare moves no_memory new h k w moved = rw h (not_stored mid k w no_memory)
       if_memory mid count spare moves refused new h k w moved = absurd h
 

@@ -1,5 +1,5 @@
 -- For the law `deleted_buckets_serve`.
-use Rattle.std.proofs.Common.{◌≡◌, ℕ, ◌+◌, ◌<◌, inl, inr, length, sym, ap, ◌∙◌, subst, arith}
+use Rattle.std.proofs.Common.{◌≡◌, ℕ, ◌+◌, ◌<◌, inl, inr, length, sym, ap, ◌∙◌, arith}
 use Rattle.group_table.specs.Sizes.{IsBucketCount}
 use Rattle.group_table.proofs.SizeLemmas.{power_pos}
 use Rattle.group_table.specs.Bucket.{BucketState, empty, deleted, bucket_at}
@@ -33,32 +33,31 @@ module _ {K V S H : Type 0} (rules : Rules K V S) (hash_of : H → K → ℕ) (p
 
   pub deleted_serves : FirstFreeIs deleted hash old.table.states → (outcome : Outcome) (new : State K V S H)
       → Place rules hash_of pair old outcome new
-      → (outcome ≡ placed) × IsPlaced pair (buckets old) 0 0 old new × FillsBucket hash old.table new.table
-  deleted_serves p outcome new (in_bucket l f s o n) =
-      (o, subst (λ spare. IsPlaced pair (buckets old) spare 0 old new) (of_deleted p new s) n, s)
+      → (outcome ≡ placed) × IsPlaced pair (buckets old) 0 old new × FillsBucket hash old.table new.table
+  deleted_serves p outcome new (in_bucket l f s o n) = (o, n, s)
   deleted_serves p outcome new (rehashed b l any m) = absurd (not_both p (b.first_empty some))
   deleted_serves p outcome new (grown g count bytes t y m) = absurd (not_both p (g.no_bucket.first_empty some))
   deleted_serves p outcome new (not_grown g mid c e) = absurd (not_both p (g.no_bucket.first_empty some))
 
   pub only_deleted : IsBounded old → (outcome : Outcome) (new : State K V S H) → outcome ≡ placed
-      → Place rules hash_of pair old outcome new → IsPlaced pair (buckets old) 0 0 old new
+      → Place rules hash_of pair old outcome new → IsPlaced pair (buckets old) 0 old new → growth_left new ≡ 0
       → FirstFreeIs deleted hash old.table.states
-  only_deleted ok outcome new q (in_bucket l f s o n) p = elim s.spends [
+  only_deleted ok outcome new q (in_bucket l f s o n) p none_left = elim s.spends [
     | inl e ↦ absurd (omega (arith, e.1, no_growth_left))
     | inr d ↦ (s.bucket, s.first, d.0)
   ]
-  only_deleted ok outcome new q (rehashed b l any m) p =
+  only_deleted ok outcome new q (rehashed b l any m) p none_left =
       absurd (omega (
         arith,
         l,
         some,
-        p.room_left,
-        (placed_if rules hash_of pair old old new _ _ _ outcome q m).room_left,
+        none_left,
+        (placed_if rules hash_of pair old old new _ _ _ outcome q m).1,
       ))
-  only_deleted ok outcome new q (grown g count bytes t y m) p = absurd (larger ok.count)
+  only_deleted ok outcome new q (grown g count bytes t y m) p none_left = absurd (larger ok.count)
     where
       same : count ≡ buckets old
-      same = sym (placed_if rules hash_of pair old (asked rules bytes old) new _ _ _ outcome q m).table ∙ p.table
+      same = sym (placed_if rules hash_of pair old (asked rules bytes old) new _ _ _ outcome q m).0.table ∙ p.table
 
       larger : IsBucketCount (buckets old) → ⊥
       larger (inl z) = absurd (no_buckets old ok some z)
@@ -70,9 +69,9 @@ module _ {K V S H : Type 0} (rules : Rules K V S) (hash_of : H → K → ℕ) (p
             target_doubles k.0 old.max old.entry_bytes (buckets old)
                 (length old.pairs + 1) count bytes k.1 t,
           ))
-  only_deleted ok outcome new q (not_grown g mid c (nothing_to_evict e o n)) p = absurd
+  only_deleted ok outcome new q (not_grown g mid c (nothing_to_evict e o n)) p none_left = absurd
       (omega (arith, ap length e, some))
-  only_deleted ok outcome new q (not_grown g mid c (finds_bucket n pos one half left gone fills o is)) p =
+  only_deleted ok outcome new q (not_grown g mid c (finds_bucket n pos one half left gone fills o is)) p none_left =
       absurd (omega (
         arith,
         pos,
@@ -81,14 +80,14 @@ module _ {K V S H : Type 0} (rules : Rules K V S) (hash_of : H → K → ℕ) (p
         ap (λ st. length st.pairs) p.state,
         left_length rules hash_of pair old n mid left c gone,
       ))
-  only_deleted ok outcome new q (not_grown g mid c (rehashes any n pos one half left gone m)) p =
+  only_deleted ok outcome new q (not_grown g mid c (rehashes any n pos one half left gone m)) p none_left =
       absurd (omega (
         arith,
         pos,
         half,
         some,
         ap (λ st. length st.pairs)
-            (placed_if rules hash_of pair old left new _ _ _ outcome q m).state,
+            (placed_if rules hash_of pair old left new _ _ _ outcome q m).0.state,
         ap (λ st. length st.pairs) p.state,
         left_length rules hash_of pair old n mid left c gone,
       ))

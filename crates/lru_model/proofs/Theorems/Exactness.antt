@@ -39,14 +39,14 @@ module _ {K V S H : Type 0} (rules : Rules K V S) (pair : K × V) where
       → contents st ≡ met rules report c → (count spare moves : ℕ) (outcome : Outcome) (new : State K V S H)
       → IsPlacedIfMemory rules pair count spare moves st outcome new → Lands rules pair report c outcome (contents new)
   if_memory report c there st same count spare moves placed new h =
-      (there, ap contents h.state ∙ ap (behind pair) same)
+      (there, ap contents h.0.state ∙ ap (behind pair) same)
   if_memory report c there st same count spare moves no_memory new h =
       ap contents h ∙ ap (λ d. after_removal rules (Some pair) d.pairs d.limiter) same
   if_memory report c there st same count spare moves refused new h = absurd h
 
   is_placed : (report : Report) (c : Contents K V S) → report.has_bucket ≡ true → (st : State K V S H)
-      → contents st ≡ met rules report c → {count spare moves : ℕ} (outcome : Outcome) (new : State K V S H)
-      → outcome ≡ placed → IsPlaced pair count spare moves st new → Lands rules pair report c outcome (contents new)
+      → contents st ≡ met rules report c → {count moves : ℕ} (outcome : Outcome) (new : State K V S H)
+      → outcome ≡ placed → IsPlaced pair count moves st new → Lands rules pair report c outcome (contents new)
   is_placed report c there st same outcome new o p = rw o (there, ap contents p.state ∙ ap (behind pair) same)
 
   module _ (hash_of : H → K → ℕ) (old : State K V S H) where

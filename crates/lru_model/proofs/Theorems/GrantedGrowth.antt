@@ -17,7 +17,7 @@ use Rattle.lru_model.proofs.Theorems.Exactness.{insert_reports}
 pub place_with_room : {K V S H : Type 0} (rules : Rules K V S) (pair : K × V) (old : State K V S H)
     (hash_of : H → K → ℕ) → 0 < growth_left old → (outcome : Outcome) (new : State K V S H)
     → Place rules hash_of pair old outcome new
-    → (outcome ≡ placed) × IsPlaced pair (buckets old) (growth_left new) 0 old new × (growth_left old ≤ growth_left new + 1)
+    → (outcome ≡ placed) × IsPlaced pair (buckets old) 0 old new × (growth_left old ≤ growth_left new + 1)
 place_with_room rules pair old hash_of some outcome new (in_bucket l f s o p) =
     (o, p, elim s.spends [ inl e ↦ omega (arith, e.1) | inr d ↦ omega (arith, d.2) ])
 place_with_room rules pair old hash_of some outcome new (rehashed b l p m) = absurd (omega (arith, some, b.no_growth_left))

@@ -79,7 +79,7 @@ module _ {K V S H : Type 0} (rules : Rules K V S) (hash_of : H → K → ℕ) (p
           → Lands rules (λ _. Unit {0}) pair old outcome mid new → StoresOne old new
       land placed mid f l =
           let counts = ap (λ st. st.counts) l.is.state in
-          let paid : l.moves + potential new ≤ potential old + 2 = rw (l.is.table, l.is.room_left) (l.paid ok) in
+          let paid : l.moves + potential new ≤ potential old + 2 = rw (l.is.table, l.left) (l.paid ok) in
           let inserted = ap (λ c. c.insertions) counts in
           let stored = ap (λ c. c.placed) counts in
           let rehashed = ap (λ c. c.shrunk) counts in

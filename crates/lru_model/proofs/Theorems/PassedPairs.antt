@@ -61,9 +61,9 @@ module _ {K V S H : Type 0} (rules : Rules K V S) where
       → in_map new ≡ in_all left
   left_is old new left leaves = ap in_map leaves.is
 
-  placed_adds : (pair : K × V) (count spare moves : ℕ) (old new : State K V (S × List (K × V)) H)
-      → IsPlaced pair count spare moves old new → in_map new ≡ in_map old + 1
-  placed_adds pair count spare moves old new is = omega (arith, ap in_map is.state)
+  placed_adds : (pair : K × V) (count moves : ℕ) (old new : State K V (S × List (K × V)) H)
+      → IsPlaced pair count moves old new → in_map new ≡ in_map old + 1
+  placed_adds pair count moves old new is = omega (arith, ap in_map is.state)
 
   away_adds : (pair : K × V) (old : State K V (S × List (K × V)) H)
       → in_map (unstored (noting rules) pair old) ≡ in_map old + 1
@@ -73,7 +73,7 @@ module _ {K V S H : Type 0} (rules : Rules K V S) where
   memory_adds : (pair : K × V) (count spare moves : ℕ) (old : State K V (S × List (K × V)) H) (outcome : Outcome)
       (new : State K V (S × List (K × V)) H) → IsPlacedIfMemory (noting rules) pair count spare moves old outcome new
       → in_map new ≡ in_map old + 1
-  memory_adds pair count spare moves old placed new h = placed_adds pair count spare moves old new h
+  memory_adds pair count spare moves old placed new h = placed_adds pair count moves old new h.0
   memory_adds pair count spare moves old no_memory new h = ap in_map h ∙ away_adds pair old
   memory_adds pair count spare moves old refused new h = absurd h
 
@@ -94,7 +94,7 @@ module _ {K V S H : Type 0} (rules : Rules K V S) where
       → in_map new ≡ in_map mid + 1
   evicts_adds hash pair old mid outcome new (nothing_to_evict e o n) = ap in_map n ∙ away_adds pair mid
   evicts_adds hash pair old mid outcome new (finds_bucket n pos one half left gone fills o p) =
-      placed_adds pair _ _ _ left new p ∙ ap (λ n. n + 1) (gone_keeps hash n mid left gone)
+      placed_adds pair _ _ left new p ∙ ap (λ n. n + 1) (gone_keeps hash n mid left gone)
   evicts_adds hash pair old mid outcome new (rehashes some n pos one half left gone m) =
       memory_adds pair _ _ _ left outcome new m ∙ ap (λ n. n + 1) (gone_keeps hash n mid left gone)
 
@@ -102,7 +102,7 @@ module _ {K V S H : Type 0} (rules : Rules K V S) where
     place_adds : (pair : K × V) (old : State K V (S × List (K × V)) H) (outcome : Outcome)
         (new : State K V (S × List (K × V)) H) → Place (noting rules) hash_of pair old outcome new
         → in_map new ≡ in_map old + 1
-    place_adds pair old outcome new (in_bucket l f s o p) = placed_adds pair _ _ _ old new p
+    place_adds pair old outcome new (in_bucket l f s o p) = placed_adds pair _ _ old new p
     place_adds pair old outcome new (rehashed b l some m) = memory_adds pair _ _ _ old outcome new m
     place_adds pair old outcome new (grown g count bytes t y m) =
         memory_adds pair _ _ _ (asked (noting rules) bytes old) outcome new m

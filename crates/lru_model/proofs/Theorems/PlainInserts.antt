@@ -76,19 +76,15 @@ module _ {K V S H : Type 0} where
   plain_leaves old new left c e leaves = subst (λ c. Leaves (plain old) c (plain new)) e
       (record { is = ap plain leaves.is; growth_left = leaves.growth_left })
 
-  plain_placed : (pair : K × V) (count spare moves : ℕ) (old new : State K V (S × List (K × V)) H)
-      → IsPlaced pair count spare moves old new → IsPlaced pair count spare moves (plain old) (plain new)
-  plain_placed pair count spare moves old new is = record {
-    table = is.table;
-    room_left = is.room_left;
-    state = ap plain is.state;
-  }
+  plain_placed : (pair : K × V) (count moves : ℕ) (old new : State K V (S × List (K × V)) H)
+      → IsPlaced pair count moves old new → IsPlaced pair count moves (plain old) (plain new)
+  plain_placed pair count moves old new is = record { table = is.table; state = ap plain is.state }
 
 module _ {K V S H : Type 0} (rules : Rules K V S) where
   plain_if_memory : (pair : K × V) (count spare moves : ℕ) (old : State K V (S × List (K × V)) H) (outcome : Outcome)
       (new : State K V (S × List (K × V)) H) → IsPlacedIfMemory (noting rules) pair count spare moves old outcome new
       → IsPlacedIfMemory rules pair count spare moves (plain old) outcome (plain new)
-  plain_if_memory pair count spare moves old placed new h = plain_placed pair count spare moves old new h
+  plain_if_memory pair count spare moves old placed new h = (plain_placed pair count moves old new h.0, h.1)
   plain_if_memory pair count spare moves old no_memory new h = ap plain h
   plain_if_memory pair count spare moves old refused new h = h
 
@@ -114,7 +110,7 @@ module _ {K V S H : Type 0} (rules : Rules K V S) where
   plain_evicts hash pair old mid outcome new (nothing_to_evict e o n) = nothing_to_evict e o (ap plain n)
   plain_evicts hash pair old mid outcome new (finds_bucket n pos one half left gone fills o p) =
       finds_bucket n pos one half (plain left) (plain_gone hash n mid left gone) fills o
-      (plain_placed pair _ _ _ left new p)
+      (plain_placed pair _ _ left new p)
   plain_evicts hash pair old mid outcome new (rehashes some n pos one half left gone m) =
       rehashes some n pos one half (plain left) (plain_gone hash n mid left gone)
       (plain_if_memory pair _ _ _ left outcome new m)
@@ -124,7 +120,7 @@ module _ {K V S H : Type 0} (rules : Rules K V S) where
         (new : State K V (S × List (K × V)) H) → Place (noting rules) hash_of pair old outcome new
         → Place rules hash_of pair (plain old) outcome (plain new)
     plain_place pair old outcome new (in_bucket l f s o p) = in_bucket l f s o
-        (plain_placed pair _ _ _ old new p)
+        (plain_placed pair _ _ old new p)
     plain_place pair old outcome new (rehashed b l some m) =
         rehashed b l some (plain_if_memory pair _ _ _ old outcome new m)
     plain_place pair old outcome new (grown g count bytes t y m) =

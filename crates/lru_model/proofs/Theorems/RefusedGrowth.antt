@@ -4,7 +4,7 @@ use Rattle.std.proofs.lemmas.Bool.{true≢false}
 use Rattle.group_table.specs.Sizes.{full_capacity}
 use Rattle.lru_limits.specs.Rules.{Rules}
 use Rattle.lru_model.specs.Lists.{without_last}
-use Rattle.lru_model.specs.State.{State, buckets, contents, pops}
+use Rattle.lru_model.specs.State.{State, buckets, growth_left, contents, pops}
 use Rattle.lru_model.specs.Sizes.{no_table, new_table}
 use Rattle.lru_model.specs.Place.{Place, in_bucket, rehashed, grown, not_grown}
 use Rattle.lru_model.specs.Place.{nothing_to_evict, finds_bucket, rehashes}
@@ -28,7 +28,7 @@ module _ {K V S H : Type 0} (rules : Rules K V S) (hash_of : H → K → ℕ) (p
     pub large : IsRefusedGrowth rules old → 16 < buckets old
 
   pub placed_if : (st new : State K V S H) (count spare moves : ℕ) (outcome : Outcome) → outcome ≡ placed
-      → IsPlacedIfMemory rules pair count spare moves st outcome new → IsPlaced pair count spare moves st new
+      → IsPlacedIfMemory rules pair count spare moves st outcome new → IsPlaced pair count moves st new × (growth_left new ≡ spare)
   placed_if st new count spare moves placed o h = h
   placed_if st new count spare moves no_memory o h = placed-not_no_memory (sym o)
   placed_if st new count spare moves refused o h = absurd h
@@ -87,12 +87,12 @@ module _ {K V S H : Type 0} (rules : Rules K V S) (hash_of : H → K → ℕ) (p
           elim fills.spends [ inl e ↦ absurd (omega (arith, e.1, refusal.is_full.1)) | inr d ↦ d.1 ]
   place_keeps outcome new q (rehashed b l some m) =
       inl (record {
-        pairs = ap (λ st. st.pairs) (placed_if old new _ _ _ outcome q m).state;
+        pairs = ap (λ st. st.pairs) (placed_if old new _ _ _ outcome q m).0.state;
         large = λ refusal. absurd (omega (arith, l, refusal.above_half));
       })
   place_keeps outcome new q (grown b count bytes t g m) =
       inl (record {
-        pairs = ap (λ st. st.pairs) (placed_if (asked rules bytes old) new _ _ _ outcome q m).state;
+        pairs = ap (λ st. st.pairs) (placed_if (asked rules bytes old) new _ _ _ outcome q m).0.state;
         large = λ refusal. not_granted count bytes t g refusal.mid refusal.refused;
       })
   place_keeps outcome new q (not_grown b mid c (nothing_to_evict e o n)) = refused-not_placed (sym o ∙ q)
@@ -100,7 +100,7 @@ module _ {K V S H : Type 0} (rules : Rules K V S) (hash_of : H → K → ℕ) (p
       eviction_keeps_half (omega (arith, pos, half), b.no_bucket.no_growth_left) b.above_half mid c n one left gone new
       (λ taken. omega (arith, half, taken)) (ap (λ st. st.pairs) p.state) p.table
   place_keeps outcome new q (not_grown b mid c (rehashes some n pos one half left gone m)) =
-      let p = placed_if left new _ _ _ outcome q m in
+      let p = (placed_if left new _ _ _ outcome q m).0 in
       eviction_keeps_half (some, b.no_bucket.no_growth_left) b.above_half mid c n one left gone new
       (λ taken. omega (arith, half, taken)) (ap (λ st. st.pairs) p.state) p.table
 

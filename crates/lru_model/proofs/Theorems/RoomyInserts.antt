@@ -26,7 +26,7 @@ module _ {K V S H I : Type 0} (rules : Rules K V S) (offers : Offers K V S I) (n
     Fits = (ready : State K V S H) → (ready.pairs ≡ old.pairs) × (ready.hasher ≡ old.hasher)
         → ready.table.states ≡ old.table.states → (outcome : Outcome) (landed : State K V S H)
         → Place rules hash_of pair ready outcome landed
-        → (outcome ≡ placed) × IsPlaced pair (buckets ready) (growth_left landed) 0 ready landed × (growth_left ready ≤ growth_left landed + 1)
+        → (outcome ≡ placed) × IsPlaced pair (buckets ready) 0 ready landed × (growth_left ready ≤ growth_left landed + 1)
 
     added_if_fits : Fits → AcceptsNew rules offers names i v (contents old) pair → lookup_entry (names i) old.pairs ≡ None
         → Insert rules offers names hash_of i v old result new → IsAdded rules offers names i v pair old result new
@@ -74,7 +74,7 @@ module _ {K V S H I : Type 0} (rules : Rules K V S) (offers : Offers K V S I) (n
         let is = deleted_serves rules hash_of pair ready (omega (arith, ap length same.0, full.0)) no_growth_left
         (rw (same.1, states) first) outcome landed p in (
           is.0,
-          subst (λ spare. IsPlaced pair (buckets ready) spare 0 ready landed) (sym is.1.room_left) is.1,
+          is.1,
           omega (arith, no_growth_left),
         )) w absent
 

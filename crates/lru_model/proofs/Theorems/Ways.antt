@@ -35,7 +35,8 @@ module _ {K V S H : Type 0} (rules : Rules K V S) (P : S → Type 0) (pair : K �
     pub count : ℕ
     pub spare : ℕ
     pub moves : ℕ
-    pub is : IsPlaced pair count spare moves mid new
+    pub is : IsPlaced pair count moves mid new
+    pub left : growth_left new ≡ spare
     pub next : IsNextCount rules P old count
     pub paid : IsBounded old → moves + (full_capacity count - 2 * spare) ≤ potential old + 2
     pub little : IsBounded old → buckets old < count → full_capacity count < 4 * (length old.pairs + 1)
@@ -64,7 +65,7 @@ module _ {K V S H : Type 0} (rules : Rules K V S) (P : S → Type 0) (pair : K �
     moved = λ bound. omega (arith, ap (λ x. x.counts.moved) l.is.state);
     pays = λ ok. pays_insertion old new l.moves ok.placed ok.shrunk
         (ap (λ x. x.counts) l.is.state ∙ ap (count_insert l.moves) f.counts)
-        (rw (l.is.table, l.is.room_left) (l.paid ok));
+        (rw (l.is.table, l.left) (l.paid ok));
     little = λ ok h. rw l.is.table (l.little ok (omega (arith, l.is.table, h)));
   }
   lands_tables refused mid new f l = calm_tables rules P 1 old new
@@ -92,7 +93,8 @@ module _ {K V S H : Type 0} (rules : Rules K V S) (R : Contents K V S → Conten
           count = count;
           spare = spare;
           moves = moves;
-          is = h;
+          is = h.0;
+          left = h.1;
           next = next;
           paid = paid;
           little = little;
@@ -108,10 +110,10 @@ module _ {K V S H : Type 0} (rules : Rules K V S) (R : Contents K V S → Conten
   same_little : IsBounded old → buckets old < buckets old → full_capacity (buckets old) < 4 * (length old.pairs + 1)
   same_little ok h = absurd (omega (arith, h))
 
-  fills : (outcome : Outcome) (new : State K V S H) (spare : ℕ) → outcome ≡ placed
-      → IsPlaced pair (buckets old) spare 0 old new
-      → (IsBounded old → full_capacity (buckets old) - 2 * spare ≤ potential old + 2) → Ends outcome new
-  fills outcome new spare o p paid = rw o (if_memory old _ spare 0 placed new p self (self_calm old) (inl (omega arith))
+  fills : (outcome : Outcome) (new : State K V S H) → outcome ≡ placed
+      → IsPlaced pair (buckets old) 0 old new
+      → (IsBounded old → full_capacity (buckets old) - 2 * growth_left new ≤ potential old + 2) → Ends outcome new
+  fills outcome new o p paid = rw o (if_memory old _ (growth_left new) 0 placed new (p, refl) self (self_calm old) (inl (omega arith))
       (λ ok. omega (arith, paid ok)) same_little)
 
   known : (mid : State K V S H) → CannotGrow rules old mid → R (contents old) (contents mid) × Calm old mid
@@ -120,7 +122,7 @@ module _ {K V S H : Type 0} (rules : Rules K V S) (R : Contents K V S → Conten
 
   pub place_lands : (outcome : Outcome) (new : State K V S H) → Place rules hash_of pair old outcome new
       → Ends outcome new
-  place_lands outcome new (in_bucket l f s o n) = fills outcome new _ o n (λ ok. spends s)
+  place_lands outcome new (in_bucket l f s o n) = fills outcome new o n (λ ok. spends s)
     where
       spends : FillsBucket (hash_of old.hasher pair.0) old.table new.table
           → full_capacity (buckets old) - 2 * growth_left new ≤ potential old + 2
@@ -173,7 +175,7 @@ module _ {K V S H : Type 0} (rules : Rules K V S) (R : Contents K V S → Conten
   place_lands outcome new (not_grown b mid c (finds_bucket n pos one half left gone fills o p)) = let (r, s) =
       known mid c in
       let lv = oldest_leaves rules _ n mid left gone in
-      rw o (if_memory left _ _ 0 placed new p
+      rw o (if_memory left _ (growth_left new) 0 placed new (p, refl)
       (k.trans r (leaves_keep R mid _ left lv (pops_keep rules R k n (contents mid))))
       (calm_trans old mid left s (leaves_calm mid _ left lv)) (inl (omega arith))
       (λ ok. omega (arith, b.no_bucket.no_growth_left)) same_little)

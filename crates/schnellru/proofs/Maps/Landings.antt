@@ -67,11 +67,10 @@ module _ {K V : Type 0} (t u : OrderedTable K V) (hash : ℕ) (pair : K × V) (b
       placed = placed i;
     }
 
-    pub lands_placed : IsPlaced pair (buckets (state_of t fields)) (growth_left (bucket_states u.slots)) 0 (state_of t fields)
+    pub lands_placed : IsPlaced pair (buckets (state_of t fields)) 0 (state_of t fields)
         (state_of u fields)
     lands_placed = record {
       table = length-bucket_states u.slots ∙ lands_length ∙ sym (length-bucket_states t.slots);
-      room_left = refl;
       state = λ i. record (state_of u fields) { pairs = lands_pairs i; counts = counts_insert i };
     }
 

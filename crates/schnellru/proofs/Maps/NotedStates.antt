@@ -23,13 +23,9 @@ takes_more closure first before f pair g taken called =
     FoldsTo-push (λ p x q. Called closure p (x.0, (x.1, tt)) tt q) first before f pair g taken called
 
 module _ {K V S H : Type 0} where
-  pub noted_placed : (list : List (K × V)) (pair : K × V) (count spare moves : ℕ) (old new : State K V S H)
-      → IsPlaced pair count spare moves old new → IsPlaced pair count spare moves (noted list old) (noted list new)
-  noted_placed list pair count spare moves old new is = record {
-    table = is.table;
-    room_left = is.room_left;
-    state = ap (noted list) is.state;
-  }
+  pub noted_placed : (list : List (K × V)) (pair : K × V) (count moves : ℕ) (old new : State K V S H)
+      → IsPlaced pair count moves old new → IsPlaced pair count moves (noted list old) (noted list new)
+  noted_placed list pair count moves old new is = record { table = is.table; state = ap (noted list) is.state }
 
   pub noted_leaves : (before after : List (K × V)) (old new : State K V S H) (left : Contents K V S) → Leaves old left
       new

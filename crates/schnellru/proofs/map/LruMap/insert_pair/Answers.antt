@@ -54,7 +54,7 @@ returns g c = record {
       let put = in_bucket stored.within (inl (omega (arith, c.growth_left.ensures, c.if-growth_left-eq0.false)))
       (subst (λ h. FillsBucket h ready.table new.table) is
       stored.fills) refl
-      (noted_placed mid c.args.pair (buckets ready) (growth_left new) 0 ready new stored.placed) in
+      (noted_placed mid c.args.pair (buckets ready) 0 ready new stored.placed) in
       let left = ap Ok c.evict_over_limit.ensures.left in
       (after, in_all, (noted mid ready, way, (placed, noted mid new, put, (left, trimmed))));
 }

@@ -33,7 +33,7 @@ returns-in-Ok g c = record {
           in_bucket stored.within (inr (some-length old.pairs (sym c.is_empty.ensures ∙ c.if-is_empty.false)))
               (subst (λ h. FillsBucket h old.table new.table) c.requires.hash
               stored.fills) refl
-              (noted_placed before (c.args.key, c.args.value) (buckets old) (growth_left new) 0 old new stored.placed),
+              (noted_placed before (c.args.key, c.args.value) (buckets old) 0 old new stored.placed),
           (ap Ok c.evict_over_limit.ensures.left, trimmed),
         ),
       );

@@ -86,7 +86,7 @@ returns-in-Ok-clause-passed g c =
       finds (noting rules) c.args.hash c.args.pair (noted before old) (noted mid st) (noted more u)
           sized (c.requires.some, c.requires.outgrown.no_bucket.no_growth_left) i.n gone i.stuck
           (noted_pop rules mid st u pair c.take_oldest-key.ensures.step) (noted more new) enough
-          (noted_placed more c.args.pair (buckets u) (growth_left new) 0 u new placed)
+          (noted_placed more c.args.pair (buckets u) 0 u new placed)
           c.in-Ok.ensures.fills,
     )
 

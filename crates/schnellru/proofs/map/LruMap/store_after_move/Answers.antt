@@ -1,4 +1,4 @@
-use Rattle.std.proofs.Common.{◌-◌, ◌∷◌, length, ap, sym, ◌∙◌, subst, arith, rules}
+use Rattle.std.proofs.Common.{◌≡◌, ◌-◌, ◌∷◌, length, ap, sym, ◌∙◌, subst, arith, rules}
 use Rattle.group_table.specs.Sizes.{full_capacity}
 use Rattle.lru_model.specs.State.{growth_left}
 use Rattle.lru_model.specs.Place.{IsPlaced, unstored}
@@ -21,9 +21,9 @@ store_in_room-requires-clause-growth_left g c =
 pub returns-in-Ok-clause-passed : goal.returns-in-Ok-clause-passed
 returns-in-Ok-clause-passed g c =
     let old = c.args.self.now in let new = c.store_in_room.new.self in
-    let placed : IsPlaced c.args.pair c.args.count (full_capacity c.args.count - length old.pairs - 1)
-    (length old.pairs) old new = search rules in
-    λ first before taken. (before, taken, noted_placed before c.args.pair c.args.count _ _ old new placed)
+    let placed : IsPlaced c.args.pair c.args.count (length old.pairs) old new = search rules in
+    let left : growth_left new ≡ full_capacity c.args.count - length old.pairs - 1 = search rules in
+    λ first before taken. (before, taken, (noted_placed before c.args.pair c.args.count _ old new placed, left))
 
 pub returns-in-Err-clause-passed : goal.returns-in-Err-clause-passed
 returns-in-Err-clause-passed g c =
