@@ -24,9 +24,9 @@ AreAmong {K} named test = (key : K) → named key ≡ true → test key ≡ true
 
 module _ {K V S H I : Type 0} (rules : Rules K V S) (offers : Offers K V S I) (names : I → K → Bool)
     (hash_of : H → K → ℕ) where
-  -- How one call changes a map. A call that only reads is no step. `gets` is a look-up by a hash, or by a key of any
-  -- type. If the look-up finds a pair, it promotes this pair. A get that inserts a missing key is the step `gets` or
-  -- the step `inserts`. All inserted and updated keys have one type, I.
+  -- How one call changes a map. A call that only reads is no step. `gets` is a look-up, by a hash or by a key of any
+  -- type, that promotes the pair that it finds. A get that inserts a missing key is a `gets` or an `inserts`. All
+  -- inserted and updated keys have one type, I.
   pub data Step (old new : State K V S H) : Type 0 where
     inserts : (key : I) (value : V) (result : Result Bool AllocError)
         → Insert rules offers names hash_of key value old result new → Step old new
@@ -79,8 +79,8 @@ module _ {K V S H I : Type 0} (rules : Rules K V S) (offers : Offers K V S I) (n
   abbrev pub StepAmong : (K → Bool) → State K V S H → State K V S H → Type 0
   StepAmong test old new = (step : AnyStep old new) × NamesOnly test old new step
 
-  -- An insert evicts only the oldest pairs. But if the limiter rejects the new value, the insert removes only the pair
-  -- of the inserted key.
+  -- An insert evicts only the oldest pairs. If the limiter rejects the new value, the insert removes only the pair of
+  -- the inserted key.
   abbrev pub InsertEvictsOldest : (old new : State K V S H) → AnyStep old new → Type 0
   InsertEvictsOldest old new (calls (inserts key value result h)) = EvictsOldest (names key)
       (λ pair. (replacement rules offers names pair key value (contents old)).taken ≡ false) old.pairs new.pairs
@@ -120,7 +120,7 @@ module _ {K V S H : Type 0} {IsStep : State K V S H → State K V S H → Type 0
   EachStep (goes_on {old} mid step sized run) = Holds old mid step × EachStep run
 
 module _ {K V S H : Type 0} (rules : Rules K V S) (hash_of : H → K → ℕ) where
-  -- A run of writes of values, changes of the limiter, and calls that neither insert nor update a key. Such a run is
-  -- also a `Run` for any type I of inserted keys (`run_without_insert` in `proofs/EveryCall`).
+  -- A run without inserts and updates of keys. It is also a `Run` for any type I of inserted keys (`run_without_insert`
+  -- in `proofs/EveryCall`).
   abbrev pub RunWithoutInsert : (new old : State K V S H) → Type 0
   RunWithoutInsert = Run (AnyStep rules no_offers no_keys hash_of)
