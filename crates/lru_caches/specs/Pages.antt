@@ -147,8 +147,8 @@ module _ {B D E S : Type 0} (d : device.Ghosts D B E S) where
   IsWritten None block = ⊥
   IsWritten (Some page) block = IsTrue page.is_dirty × ((block ≡ d.seen page.block) ⊎ d.IsTorn block)
 
-  -- A crash after the call leaves as block n what a crash before the call might leave, or, if page n is dirty, the
-  -- block of this page or a torn block.
+  -- A crash after the call leaves each block as a crash before the call might leave it. If page n is dirty, block n may
+  -- also be the block of this page, or torn.
   abbrev pub CrashAdds : List (ℕ × Page B) → D → D → Type 0
   CrashAdds pages old new = (n : ℕ) (block : S) → d.may_leave new n block
       → d.may_leave old n block ⊎ IsWritten (lookup (nat_eq n) pages) block

@@ -42,12 +42,12 @@ pub record State (K V S H : Type 0) : Type 0 where
   pub hasher : H
   pub table : TableState
   pub counts : Counts
-  -- the bytes of an entry in the table, which the constructor got or computed
+  -- the bytes of an entry, which the constructor got or computed
   pub entry_bytes : ℕ
   -- the number of the link `MAX`; all bucket numbers are smaller
   pub max : ℕ
 
--- What holds for the bucket states and the counts of every map of n pairs. A table with `IsSound` is called sound.
+-- What holds for the bucket states and the counts of every map of n pairs. Such a table is called sound.
 pub record IsSound (n entry_bytes max : ℕ) (states : List BucketState) (counts : Counts) : Type 0 where
   pub table : IsTable states
   pub taken : entry_count states ≡ n
@@ -153,8 +153,8 @@ module _ {K V S H : Type 0} where
       counts = record old.counts { insertions = count_up old.counts.insertions (length old.pairs) };
     }
 
-  -- `new` is `old` with the contents `left`, after pairs were evicted or removed. Otherwise, only the bucket states and
-  -- the places may have changed.
+  -- `new` is `old` with the contents `left`, after pairs were evicted or removed. Apart from the contents, only the
+  -- bucket states and the places may have changed.
   pub record Leaves (old : State K V S H) (left : Contents K V S) (new : State K V S H) : Type 0 where
     pub is : new ≡ record old { pairs = left.pairs; limiter = left.limiter; table = new.table }
     pub growth_left : FreesGrowth old new

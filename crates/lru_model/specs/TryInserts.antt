@@ -54,8 +54,8 @@ module _ {K V S : Type 0} (terms : Terms K V S) (rules : Rules K V S) where
 
       -- If the result is `Ok`, the pair is the newest, nothing is evicted (`added`), and the limiter is within its
       -- limit (`within`). If the result is `Err`, the call returns the key and the value (`returned`), and the pairs
-      -- stay (`keeps`). An `Err` with growth left means that nothing has changed (`unchanged`). In a run, the call is
-      -- at most two steps: a reservation, and an insert (`calls`).
+      -- stay (`keeps`). If growth was left and the result is `Err`, nothing has changed (`unchanged`). In a run, the
+      -- call is at most two steps: a reservation, and an insert (`calls`).
       pub record TryInsertEnds (result : Result (Unit {0}) (K × V)) (new : State K V S H) : Type 0 where
         pub calls : Run (Step rules (offers_of terms) eq hash_of) new old
         pub added : OnOk result (new.pairs ≡ (key, value) ∷ old.pairs)

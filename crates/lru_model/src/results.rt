@@ -83,7 +83,7 @@ pub enum GetOrInsertError<E> {
     Caller(E),
 }
 
-/// Counts of the entries that inserts moved and stored, and that shrinks rehashed.
+/// The numbers of entries that inserts moved, that inserts stored, and that shrinks rehashed.
 ///
 /// ```
 /// let mut map: LruMap<u64, u64> = LruMap::with_limiter(alloc, ByLength::new(3));

@@ -50,8 +50,8 @@ pub fn lru_is_competitive<K: Eq>()
         (k - h) * misses K.eq k past trace ≤ k * paid + (k - h) * length first }
 {}
 
-/// If a policy with h places may load keys ahead, begins with at most h keys, and pays `paid` times, some demand policy
-/// with h places and the same first keys misses at most `paid` times.
+/// Take a policy with h places that may load keys ahead, begins with at most h keys, and pays `paid` times. Some demand
+/// policy with h places and the same first keys misses at most `paid` times.
 pub fn loading_ahead_gains_nothing<K: Eq>()
     ensures { (h : ℕ) (trace first left : List K) (paid : ℕ) → length first ≤ h →
         Served (Loads K.eq h) left first trace paid →

@@ -57,8 +57,7 @@ pub fn runs_evict_the_oldest<
         IsFront (others test new.pairs) (others test old.pairs) }
 {}
 
-/// `inserts_evict_the_oldest` holds for each insert of a run, including each get that inserts, whatever the other calls
-/// are.
+/// `inserts_evict_the_oldest` holds for each insert of a run, including each get that inserts.
 pub fn each_insert_of_a_run_evicts_the_oldest<
     K: Eq + Hash,
     V,

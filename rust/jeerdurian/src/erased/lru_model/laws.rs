@@ -44,8 +44,8 @@ pub fn small_inserts_are_exact<K: Eq + Hash, V, I: LookupKey<K>, L: Insertion<K,
 
 /// An insert changes the entries as the `Report` of the table (`specs/Exact`) says (`exact`). Every insert has a report
 /// (`given`). Suppose that the limiter and the arguments determine what `on_insert` does (`IsDetermined`), and that two
-/// inserts return `Ok`. If the arguments, the reports, the entries and the limiters are equal, the results are equal,
-/// and so are the entries and the limiters afterwards (`alike`).
+/// inserts return `Ok`. If their arguments, reports, entries and limiters are equal, their results are equal, and so
+/// are the entries and limiters afterwards (`alike`).
 pub fn inserts_are_exact_unless_refused<K: Eq + Hash, V, I: LookupKey<K>, L: Insertion<K, V, I>, S: KeyHasher<K>>() {}
 
 /// An insert changes the entries as it would change a plain list without a table (`InsertsInList`), under two premises.

@@ -81,7 +81,7 @@ where
     }
 }
 
-/// Counts of the entries that inserts moved and stored, and that shrinks rehashed.
+/// The numbers of entries that inserts moved, that inserts stored, and that shrinks rehashed.
 #[derive(Clone, Copy, Debug, PartialEq, Eq)]
 pub struct MoveReport {
     /// Entries that inserts moved, because the table grew or was rehashed. Moves by `try_reserve` and `try_insert` are

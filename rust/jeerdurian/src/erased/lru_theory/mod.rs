@@ -26,8 +26,8 @@ pub fn more_places_never_miss_more<K: Eq>() {}
 ///   times (`bypasses`).
 pub fn lru_is_competitive<K: Eq>() {}
 
-/// If a policy with h places may load keys ahead, begins with at most h keys, and pays `paid` times, some demand policy
-/// with h places and the same first keys misses at most `paid` times.
+/// Take a policy with h places that may load keys ahead, begins with at most h keys, and pays `paid` times. Some demand
+/// policy with h places and the same first keys misses at most `paid` times.
 pub fn loading_ahead_gains_nothing<K: Eq>() {}
 
 /// A cache of n places is *included* in a cache of m ≥ n places if the larger cache contains the keys of the smaller

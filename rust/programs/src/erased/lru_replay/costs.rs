@@ -32,5 +32,5 @@ pub fn references_keep_the_newest<K: Eq + Hash, V, S: KeyHasher<K>>() {}
 
 /// Suppose that equal keys cost the same, and that the references of one trace are made on two maps, by any calls. If
 /// the map with the smaller limit begins with exactly the newest few keys of the other map, this is still so after the
-/// trace (`front`), and this map misses at least as often as the other map (`misses`).
+/// trace (`front`). In this case, it misses at least as often as the other map (`misses`).
 pub fn more_capacity_never_misses_more<K: Eq + Hash, V, S: KeyHasher<K>>() {}

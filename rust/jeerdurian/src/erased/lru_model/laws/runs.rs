@@ -22,8 +22,7 @@ pub fn runs_pay_for_moves<K: Eq + Hash, V, I: LookupKey<K>, L: Insertion<K, V, I
 /// oldest of these entries.
 pub fn runs_evict_the_oldest<K: Eq + Hash, V, I: LookupKey<K>, L: Insertion<K, V, I>, S: KeyHasher<K>>() {}
 
-/// `inserts_evict_the_oldest` holds for each insert of a run, including each get that inserts, whatever the other calls
-/// are.
+/// `inserts_evict_the_oldest` holds for each insert of a run, including each get that inserts.
 pub fn each_insert_of_a_run_evicts_the_oldest<
     K: Eq + Hash,
     V,
