@@ -1,7 +1,5 @@
 -- Two limiters that limit one map.
---     `both_rules a b`: a map is over the limit if either limiter says so; a table is permitted if both limiters permit
---         it.
---     `both_terms a b`: an entry is accepted if both limiters accept the entry.
+--     `both_rules a b`, `both_terms a b`: the rules and the terms of `Both`.
 --     `both-sums`: the running total of the first limiter is also a running total of `Both`.
 use Rattle.std.specs.Prelude.{◌≡◌, ◌≤◌, ◌+◌, ◌-◌, ◌&&◌, ◌||◌, ℕ, Bool, true, false, Some, None, IsTrue}
 use Rattle.std.specs.Prelude.{if◌then◌else◌, refl}

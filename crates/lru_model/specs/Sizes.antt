@@ -16,8 +16,7 @@ max_of_64_bits = 2 ^ 64 - 1
 abbrev pub bytes_of : ℕ → ℕ → ℕ
 bytes_of entry_bytes buckets = (entry_bytes * buckets + 15) / 16 * 16 + buckets + 16
 
--- The bytes that a table of `buckets` buckets uses, or `None` if the table would use more than 2 ^ 63 - 16 bytes. A
--- table without buckets uses 0 bytes.
+-- the bytes that a table of `buckets` buckets uses, or `None` if the table would use more than 2 ^ 63 - 16 bytes
 unfoldable pub usage : ℕ → ℕ → Option ℕ
 usage entry_bytes buckets =
     if buckets == 0 then Some 0

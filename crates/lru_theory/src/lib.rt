@@ -73,11 +73,9 @@ pub fn a_smaller_cache_is_included<K: Eq>()
 {}
 
 /// One list of places holds the keys of LRU caches of every size, even if keys are removed. If no call is a promotion
-/// (`promotes`), the cache of n places contains exactly the keys in the first n places (`keys`). A removed key leaves a
-/// free place. A reference adds a place with its key at the front. It takes out the first old place that is free or
-/// contains the key, if there is one. If the place that was taken out was free, the key's old place becomes free. So
-/// the cache of n places contains a key if fewer than n places come before the key (`finds`). If all calls are
-/// references, the number of misses is the same as for a trace (`misses`).
+/// (`promotes`), the cache of n places contains exactly the keys in the first n places (`keys`). So this cache contains
+/// a key if fewer than n places come before the key (`finds`). If all calls are references, the number of misses is the
+/// same as for a trace (`misses`).
 pub fn deletes_leave_places<K: Eq>()
     ensures keys { (n : ℕ) (calls : List (KeyCall K)) (places : List (Option K)) → AllByRecursion IsNoPromotion calls →
         keys_in (take n (place_calls K.eq calls places)) ≡ after_calls K.eq n calls (keys_in (take n places)) }

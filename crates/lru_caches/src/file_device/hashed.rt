@@ -11,7 +11,7 @@ use crate::file_device::durable::Durable;
 use crate::file_device::recorded::{RecordedFile, blocks_of};
 use std::io::{Read, Seek, Write};
 
-/// A device like `FileDevice`, but each block contains a checksum.
+/// A device like `FileDevice`, whose blocks of `N` bytes contain checksums.
 ///
 /// A write replaces the last 8 bytes of the block by the hash of the other bytes and of the block's number. Contracts
 /// do not see this checksum. A read returns `Ok` only if the checksum is right, so it detects a torn, damaged or
