@@ -47,8 +47,8 @@ module _ {K V A B : Type 0} where
         then record { 0 = a.admit_in_place s.0 n k v w; 1 = b.admit_in_place s.1 n k v w } else s;
   }
 
--- `adds_if` and `exchanges_if` are like `given-adds` and `replaced-exchanges` of `Stores`, but the first premise must
--- hold only if the limiter accepts the entry.
+-- `adds_if` and `exchanges_if` are like `given-adds` and `replaced-exchanges` of `Stores`, but need the first premise
+-- only if the limiter accepts the entry.
 module _ {K V S : Type 0} (cost : K → V → ℕ) (account : S → ℕ) where
   adds_if : (accepts : Bool) (s s' : S) (i : K) (v : V) (t : S) (k : K) (w : V)
       → (IsTrue accepts → account s' ≡ account s + cost i v)
