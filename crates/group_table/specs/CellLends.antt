@@ -4,7 +4,7 @@ use Rattle.std.specs.Borrow.{Fml, RattleType, MutBor, Lends}
 use Rattle.group_table.specs.declared.cells.Cells.{Cells}
 use Rattle.group_table.specs.contracts.cells.Cells.{the_row}
 
--- the cells c, whose places are now `places`
+-- the cells c with these places
 abbrev pub with_places : {T : Type 0} → Cells T → List (Option T) → Cells T
 with_places c places = record { mark = c.mark; start = c.start; places = places }
 

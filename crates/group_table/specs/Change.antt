@@ -32,16 +32,15 @@ HasNoPlace states hash = (length states ≡ 0)
     ⊎ ((growth_left states ≡ 0) × (b : ℕ) × IsFirstFree states hash b × (bucket_at states b ≡ empty))
 
 module _ {T : Type 0} where
-  -- The entry filled bucket b, which was the first free bucket in a search for the hash of the entry. No other bucket
-  -- changed.
+  -- The entry filled bucket b, the first free bucket in a search for its hash. No other bucket changed.
   pub record Places (old new : Table T) (hash : ℕ) (entry : T) (b : ℕ) : Type 0 where
     pub first : IsFirstFree (bucket_states old.slots) hash b
     pub slots : new.slots ≡ slice_set old.slots b (filled hash entry)
     pub insertions : new.insertions ≡ one_placed old.insertions
 
 module _ {A : Type 0} where
-  -- Consider the runs of 16 neighbouring buckets that include bucket b. If each run contains an empty bucket, a removal
-  -- makes b empty. Otherwise, the removal makes b deleted.
+  -- If each run of 16 neighbouring buckets that includes bucket b contains an empty bucket, a removal makes b empty.
+  -- Otherwise, the removal makes b deleted.
   abbrev pub Removes : List (Bucket A) → List (Bucket A) → ℕ → Type 0
   Removes old new b =
       (HasEmptyNeighbours (IsEmpty (bucket_states old)) (length (bucket_states old)) b × (new ≡ slice_set old b empty))

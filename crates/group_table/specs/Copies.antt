@@ -7,8 +7,8 @@ use Rattle.std.specs.Fn.{Shared, FnReturnsAt}
 use Rattle.group_table.specs.Bucket.{Slot, empty, deleted, full}
 
 module _ {T F : Type 0} (closure : Shared F (Bor T × Unit {0}) (Result T AllocError)) (f : F) where
-  -- The copy of an empty bucket is empty, and the copy of a deleted bucket is deleted. The copy of a full bucket has
-  -- the same tag. Its entry is an entry that the closure f may return for the old entry.
+  -- The copy of a free bucket has the same state. The copy of a full bucket has the same tag, and an entry that the
+  -- closure f may return for the old entry.
   abbrev pub IsCopyOf : Slot T → Slot T → Type 0
   IsCopyOf empty copy = copy ≡ empty
   IsCopyOf deleted copy = copy ≡ deleted

@@ -1,4 +1,4 @@
--- Which hashes the entries of a table may have. A table stores no hashes, and its contracts hold for all hashes that
+-- Which hashes the entries of a table may have. A table stores no hashes, so its contracts are about all hashes that
 -- fit the table (`Fits`).
 use Rattle.std.specs.Prelude.{◌≡◌, ℕ, List, nat_eq, if◌then◌else◌}
 use Rattle.group_table.specs.Bucket.{Slot, Tagged, full, bucket_at, IsFull, bucket_states}

@@ -16,7 +16,7 @@ use Rattle.group_table.specs.declared.probe.Searched.TheVariants.{Accepted, Ende
 abbrev pub passed_by : Probe → ℕ
 passed_by probe = probe.stride - 16
 
--- before the current group, a search for the hash visits `passed_by` buckets; this number is a multiple of 16
+-- before the current group, a search for the hash visits `passed_by` buckets, a multiple of 16
 pub record IsProbe (buckets hash : ℕ) (probe : Probe) : Type 0 where
   pub start : probe.start ≡ probed buckets hash (passed_by probe)
   pub whole : passed_by probe % 16 ≡ 0
@@ -42,8 +42,8 @@ module _ {T : Type 0} (slots : List (Slot T)) where
       → bucket_at (bucket_states slots) ((start + lane) % length slots) ≢ empty
 
 module _ {T F : Type 0} (closure : Mut F (Bor T × Unit {0}) Bool) (slots : List (Slot T)) (tag start : ℕ) (f : F) where
-  -- f was called with the entries that have the tag, in the order of the lanes, up to the entry in bucket b. f accepted
-  -- this entry, and rejected each earlier entry.
+  -- f was called with the entries that have the tag, in the order of the lanes. It accepted the entry in bucket b, and
+  -- rejected each earlier entry.
   pub record AcceptsIn (b : ℕ) (g : F) : Type 0 where
     pub lanes : ℕ
     pub in_group : lanes ≤ width slots

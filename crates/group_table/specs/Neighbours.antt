@@ -2,12 +2,12 @@
 use Rattle.std.specs.Prelude.{◌≡◌, ℕ, ◌+◌, ◌%◌, ◌<◌}
 
 module _ (Empty : ℕ → Type 0) (buckets b : ℕ) where
-  -- if a run of 16 neighbouring buckets includes b, the run contains an empty bucket
+  -- each run of 16 neighbouring buckets that includes b contains an empty bucket
   abbrev pub HasEmptyNeighbours : Type 0
   HasEmptyNeighbours = (start at : ℕ) → at < 16 → (start + at) % buckets ≡ b
       → (lane : ℕ) × (lane < 16) × Empty ((start + lane) % buckets)
 
-  -- a run of 16 neighbouring buckets includes b, and none of these buckets is empty
+  -- some run of 16 neighbouring buckets includes b and contains no empty bucket
   pub record IsHemmedIn : Type 0 where
     pub start : ℕ
     pub at : ℕ

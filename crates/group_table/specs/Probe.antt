@@ -10,9 +10,8 @@ hash_tag hash = hash / 2 ^ 57
 abbrev pub filled : {T : Type 0} → ℕ → T → Slot T
 filled hash entry = full (record { tag = hash_tag hash; entry = entry })
 
--- the bucket that a search visits at a step. A search visits groups of 16 buckets. The first group begins at the bucket
--- `hash % buckets`. The second group begins 16 buckets later than the first, the third group begins 32 buckets later
--- than the second, and so on.
+-- The bucket that a search visits at a step. A search visits groups of 16 buckets. The first group begins at the bucket
+-- `hash % buckets`, the second group 16 buckets later, the third group another 32 buckets later, and so on.
 abbrev pub probed : ℕ → ℕ → ℕ → ℕ
 probed buckets hash step = (hash + 8 * (step / 16) * (step / 16 + 1) + step % 16) % buckets
 
@@ -28,8 +27,8 @@ module _ (states : List BucketState) (hash : ℕ) where
   abbrev pub state_probed : ℕ → BucketState
   state_probed step = bucket_at states (probed (length states) hash step)
 
-  -- A search for the hash reaches bucket b. An empty bucket would end the search, so the groups that the search visits
-  -- before the group of b have no empty bucket.
+  -- A search for the hash reaches bucket b. No group that the search visits before the group of b has an empty bucket,
+  -- which would end the search.
   pub record Reaches (b : ℕ) : Type 0 where
     pub step : ℕ
     pub there : probed (length states) hash step ≡ b

@@ -39,8 +39,8 @@ module _ {T F : Type 0} (closure : Mut F (Bor T × Unit {0}) Bool) (slots : List
   abbrev pub RejectsEach : F → List ℕ → F → Type 0
   RejectsEach f asked g = FoldsTo (λ p b q. Answers p b false q) f asked g
 
-  -- In a search for the hash, f was called with the entries in the buckets `asked`, and rejected each entry. Then f was
-  -- called with the entry in bucket b, and accepted this entry.
+  -- In a search for the hash, f rejected the entries in the buckets `asked`, one after another, and then accepted the
+  -- entry in bucket b.
   pub record Finds (hash : ℕ) (f : F) (b : ℕ) : Type 0 where
     pub asked : List ℕ
     pub search : IsSearch slots hash (asked ++ b ∷ [])
@@ -49,9 +49,9 @@ module _ {T F : Type 0} (closure : Mut F (Bor T × Unit {0}) Bool) (slots : List
     pub last : F
     pub accepted : Answers between b true last
 
-  -- In a search for the hash, f was called with the entries in the buckets `asked`, and rejected each entry. `asked`
-  -- contains each bucket that has the tag of the hash, if the search reaches the bucket. Suppose that the hashes
-  -- `hash_of` fit the table. If bucket b is full and `hash_of b` is the searched hash, `asked` contains b.
+  -- In a search for the hash, f rejected the entries in the buckets `asked`. These are all buckets that have the tag of
+  -- the hash and that the search reaches. If the hashes `hash_of` fit the table, `asked` contains each full bucket b
+  -- for which `hash_of b` is the searched hash.
   pub record FindsNone (hash : ℕ) (f : F) : Type 0 where
     pub asked : List ℕ
     pub search : IsSearch slots hash asked

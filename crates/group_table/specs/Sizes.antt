@@ -25,9 +25,9 @@ least_power n = first_power_from 64 n 1
 abbrev pub below : ℕ → ℕ → Option ℕ
 below limit n = if nat_lt n limit then Some n else None
 
--- The number of buckets for n entries, or `None` if this number is `max` or more. 0 entries need 0 buckets, 1 to 3
--- entries need 4 buckets, and 4 to 7 entries need 8 buckets. If n is 8 or more, the number of buckets is the least
--- power of two that is at least 8 * n / 7. If 8 * n does not fit 64 bits, the result is `None`.
+-- The number of buckets for n entries, or `None` if this number is `max` or more. 0 entries need no bucket, 1 to 3
+-- entries need 4 buckets, 4 to 7 entries need 8 buckets, and more entries need the least power of two that is at least
+-- 8 * n / 7. If 8 * n does not fit 64 bits, the result is `None`.
 unfoldable pub buckets_for : ℕ → ℕ → Option ℕ
 buckets_for max entries =
     if entries == 0 then Some 0

@@ -1,4 +1,4 @@
-//! Control bytes: one for each bucket, and 16 more. So one read gets 16 bytes, from any bucket on.
+//! Control bytes: one for each bucket, and 16 more, so that one read gets 16 bytes from any bucket on.
 ghost use Rattle.std.specs.Prelude.{◌≡◌, ℕ, ◌+◌, ◌-◌, ◌%◌, ◌^◌, ◌<◌, ◌≤◌, [], length, max, replicate, slice_index};
 ghost use Rattle.std.specs.Prelude.{slice_set, Bool, if◌then◌else◌, nat_eq, nat_lt, ◌⊎◌, IfOk};
 ghost use Rattle.group_table.specs.Sizes.{IsPowerFromFour};

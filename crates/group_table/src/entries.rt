@@ -15,7 +15,7 @@ struct Row<T> {
 }
 
 // If there are no places, `row` is `None`. Only the control bytes know the number of places, so the caller of `free`
-// passes this number. The caller also shows that no place holds an entry.
+// passes this number, and shows that no place holds an entry.
 pub(crate) struct Entries<T> {
     row: Option<Row<T>>,
     alloc: Global,

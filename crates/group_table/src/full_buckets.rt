@@ -7,7 +7,7 @@ use crate::control::Control;
 use crate::group::{lowest_lane, without_lowest};
 
 // The position of a walk over the full buckets. `lanes` is a mask of the full buckets that the walk has still to visit
-// in the current group. So a step within the group does not load the group again.
+// in the current group, so that a step does not load the group again.
 #[derive(Drop)]
 pub(crate) struct FullBuckets {
     start: usize,

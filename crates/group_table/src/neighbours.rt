@@ -1,5 +1,4 @@
-//! Considers all runs of 16 neighbouring buckets that include bucket b, and tests whether each run contains an empty
-//! bucket.
+//! Tests whether each run of 16 neighbouring buckets that includes bucket b contains an empty bucket.
 ghost use Rattle.std.specs.Prelude.{◌≡◌, ◌≢◌, ◌+◌, ◌-◌, ◌%◌, ◌^◌, ◌<◌, Bool, if◌then◌else◌, nat_lt, slice_index};
 ghost use Rattle.std.specs.Prelude.{MatchBool};
 ghost use Rattle.group_table.specs.Bytes.{empty_byte};

@@ -12,8 +12,8 @@ pub record Memoized (K V S H F : Type 0) : Type 0 where
   pub map : State K V S H
   pub function : F
 
--- The call returned `value`. If `value` was stored for the key, the key's entry becomes the newest. If no value was
--- stored, the call inserts `value`.
+-- The call returned `value`. If `value` was stored for the key, its entry becomes the newest. If no value was stored,
+-- the call inserts `value`.
 abbrev pub Remembers : {K V S H : Type 0} → Rules K V S → Offers K V S K → (K → K → Bool) → (H → K → ℕ) → K → V
     → State K V S H → State K V S H → Type 0
 Remembers rules offers eq hash_of key value old new = (kept : Result Bool AllocError)

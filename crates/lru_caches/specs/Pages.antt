@@ -49,8 +49,7 @@ module _ {B : Type 0} where
   abbrev pub unpinned_at : ℕ → List (ℕ × Page B) → List (ℕ × Page B)
   unpinned_at n pages = with_no_pin n (lookup (nat_eq n) pages) pages
 
-  -- A page may be evicted unless the page is pinned. If the cache keeps dirty pages, a dirty page may not be evicted
-  -- either.
+  -- whether a page may be evicted: it is not pinned, and is not a dirty page in a cache that keeps dirty pages
   abbrev pub may_go : Bool → Page B → Bool
   may_go keeps_dirty page = not (page.is_pinned || keeps_dirty && page.is_dirty)
 
@@ -148,8 +147,8 @@ module _ {B D E S : Type 0} (d : device.Ghosts D B E S) where
   IsWritten None block = ⊥
   IsWritten (Some page) block = IsTrue page.is_dirty × ((block ≡ d.seen page.block) ⊎ d.IsTorn block)
 
-  -- After the call, each block n that a crash may leave is a block that a crash before the call might leave, the block
-  -- of the dirty page n, or a torn block.
+  -- A crash after the call leaves each block as a crash before the call might leave it. If page n is dirty, block n may
+  -- also be the block of this page, or torn.
   abbrev pub CrashAdds : List (ℕ × Page B) → D → D → Type 0
   CrashAdds pages old new = (n : ℕ) (block : S) → d.may_leave new n block
       → d.may_leave old n block ⊎ IsWritten (lookup (nat_eq n) pages) block

@@ -45,7 +45,7 @@ pub trait BlockDevice<B> {
     /// leave any block. A device that never tears a block defines `λ _. ⊥` (none).
     ghost IsTorn: { Self.Seen → Type 0 } = { λ _. Unit {0} };
 
-    /// Says that every read of a known block so far has returned the known block. For a file, `IsHonest` is a premise.
+    /// Says that every read of a known block so far returned this block. For a file, `IsHonest` is a premise.
     ghost IsHonest: { Self → Type 0 } = { λ _. Unit {0} };
 
     /// Says that a `write` of this block to this number may change the first state into the second state. By default,
@@ -114,6 +114,6 @@ pub trait BlockDevice<B> {
         ensures usable { is_usable self.new ≡ is_ok result }
         ensures numbers { (m : ℕ) → has self.new m ≡ has self.old m };
 
-    /// A crash may leave each known block unchanged. So no impl can claim that crashes are impossible.
+    /// A crash may leave each known block unchanged, so no impl can claim that crashes are impossible.
     ghost stays: { (device : Self) (n : ℕ) (b : Self.Seen) → blocks device n ≡ Some b → may_leave device n b };
 }

@@ -299,8 +299,8 @@ impl<K: Eq + Hash + Drop, V, S: KeyHasher<K>> OrderedMap<K, V, S> {
 }
 
 impl<K: Eq + Hash + Drop, V: Drop, S: KeyHasher<K>> OrderedMap<K, V, S> {
-    /// Inserts a key with a value as the newest entry. If the key is in the map, replaces and returns the old value.
-    /// The entry keeps its key and its place in the order.
+    /// Inserts a key with a value as the newest entry. If the key is in the map, replaces and returns the old value,
+    /// and the entry keeps its key and its place.
     ///
     /// ```
     /// let mut map: OrderedMap<u64, u64> = OrderedMap::new(alloc);
@@ -340,7 +340,7 @@ impl<K: Eq + Hash + Drop, V: Drop, S: KeyHasher<K>> OrderedMap<K, V, S> {
     ///
     /// Cost: `O(len)`.
     ///
-    /// Follows std's `HashMap::retain`. There, the closure may also write the value.
+    /// Follows std's `HashMap::retain`, whose closure may write the value.
     pub fn retain<F: FnMut(&K, &V) -> bool>(&mut self, keep: F)
         requires callable { F.IsAlwaysCallable keep }
         ensures kept { IsFiltered (Asks F.FnMut) keep self.old self.new }

@@ -1,7 +1,5 @@
 -- Two limiters that limit one map.
---     `both_rules a b`: a map is over the limit if either limiter says so; a table is permitted if both limiters permit
---         it.
---     `both_terms a b`: an entry is accepted if both limiters accept the entry.
+--     `both_rules a b`, `both_terms a b`: the rules and the terms of `Both`.
 --     `both-sums`: the running total of the first limiter is also a running total of `Both`.
 use Rattle.std.specs.Prelude.{◌≡◌, ◌≤◌, ◌+◌, ◌-◌, ◌&&◌, ◌||◌, ℕ, Bool, true, false, Some, None, IsTrue}
 use Rattle.std.specs.Prelude.{if◌then◌else◌, refl}
@@ -49,8 +47,8 @@ module _ {K V A B : Type 0} where
         then record { 0 = a.admit_in_place s.0 n k v w; 1 = b.admit_in_place s.1 n k v w } else s;
   }
 
--- `adds_if` is like the lemma `given-adds` of `Stores`, and `exchanges_if` is like `replaced-exchanges`. But the first
--- premise must hold only if the limiter accepts the entry.
+-- `adds_if` and `exchanges_if` are like `given-adds` and `replaced-exchanges` of `Stores`, but need the first premise
+-- only if the limiter accepts the entry.
 module _ {K V S : Type 0} (cost : K → V → ℕ) (account : S → ℕ) where
   adds_if : (accepts : Bool) (s s' : S) (i : K) (v : V) (t : S) (k : K) (w : V)
       → (IsTrue accepts → account s' ≡ account s + cost i v)

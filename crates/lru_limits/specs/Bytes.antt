@@ -42,7 +42,6 @@ grown_owns true b n = refl
 grown_owns false b n = refl
 
 module _ {K V : Type 0} (bytes_of : K → V → ℕ) where
-  -- A table is permitted if `owned` plus the bytes of the table is at most the limit.
   abbrev pub by_bytes : Rules K V Bytes
   by_bytes = record {
     is_over_the_limit = λ b n. nat_lt (left_for_entries b) b.owned;

@@ -33,11 +33,11 @@ pub record IsAccount {K V S I : Type 0} (rules : Rules K V S) (offers : Offers K
   pub adds : (s : S) (n : ℕ) (i : I) (v : V) (t : S) (k : K) (w : V) → offers.on_insert s n i v t (Some (k, w))
       → account t ≡ account s + cost k w
   pub refuses : (s : S) (n : ℕ) (i : I) (v : V) (t : S) → offers.on_insert s n i v t None → account t ≡ account s
-  -- If the running total covers the cost of the old entry, a replacement subtracts this cost from the total, and adds
-  -- the cost of the stored key with `kept_value`.
+  -- If the running total is at least the cost of the old entry, a replacement subtracts this cost from the total, and
+  -- adds the cost of the stored key with `kept_value`.
   pub exchanges : (s : S) (n : ℕ) (k : K) (i : I) (v w : V) → cost k v ≤ account s →
       let r = offers.on_replace s n k i v w in account r.limiter ≡ account s - cost k v + cost r.key (kept_value r)
-  -- If the running total covers the cost of an entry, its removal lowers the total by this cost.
+  -- If the running total is at least the cost of an entry, its removal lowers the total by this cost.
   pub takes_off : (s : S) (k : K) (v : V) → cost k v ≤ account s → account (rules.on_removed s k v).limiter
       ≡ account s - cost k v
   pub empties : (s : S) → account (rules.on_cleared s) ≡ 0

@@ -74,8 +74,8 @@ refused-keeps account true s s' i v t h = let e = h.pair in cc
 refused-keeps account false s s' i v t h = ap account h.limiter
 
 -- Suppose that the total of s is at least the old cost, and that the total of s' is the total of s, minus the old cost,
--- plus the new cost. If the new value is accepted, the running total falls by the old cost and rises by the new cost.
--- If not, the running total stays.
+-- plus the new cost. Then an accepted new value changes the running total in the same way, and a rejected new value
+-- leaves it.
 pub replaced-exchanges : {K V S : Type 0} (cost : K → V → ℕ) (account : S → ℕ) (accepts : Bool) (s s' : S) (k : K)
     (v w : V) → account s' ≡ account s - cost k v + cost k w
     → cost k v ≤ account s → account (if accepts then s' else s) ≡ account s - cost k v

@@ -25,9 +25,9 @@ pub trait Admission<K, V>: Limiter<K, V> {
     fn accepts(&self, length: usize, key: &K, value: &V) -> bool
         ensures { result ≡ terms.accepts self.now length key.now value.now };
 
-    /// Called by an insert with a new key and its value, before the insert evicts anything. `try_insert` also calls
-    /// `admit` on copies of the limiter. The map has `length` entries. Returns whether the entry is accepted. If the
-    /// entry is rejected, the map's entries do not change.
+    /// Returns whether the entry is accepted. Called by an insert with a new key and its value, before the insert
+    /// evicts anything. The map has `length` entries. If the entry is rejected, they do not change. `try_insert` also
+    /// calls `admit` on copies of the limiter.
     fn admit(&mut self, length: usize, key: &K, value: &V) -> bool
         ensures answer { result ≡ terms.accepts self.old length key.now value.now }
         ensures limiter { self.new ≡ terms.admit self.old length key.now value.now };
@@ -36,8 +36,8 @@ pub trait Admission<K, V>: Limiter<K, V> {
     fn accepts_in_place(&self, length: usize, key: &K, old_value: &V, new_value: &V) -> bool
         ensures { result ≡ terms.accepts_in_place self.now length key.now old_value.now new_value.now };
 
-    /// Called by an insert or an update before `new_value` replaces `old_value` of a stored key. The map has `length`
-    /// entries. Returns whether the new value is accepted. If the value is rejected, the map removes the entry.
+    /// Returns whether the new value is accepted. Called by an insert or an update before `new_value` replaces
+    /// `old_value` of a stored key. The map has `length` entries. If the value is rejected, the map removes the entry.
     fn admit_in_place(&mut self, length: usize, key: &K, old_value: &V, new_value: &V) -> bool
         ensures answer { result ≡ terms.accepts_in_place self.old length key.now old_value.now new_value.now }
         ensures limiter { self.new ≡ terms.admit_in_place self.old length key.now old_value.now new_value.now };

@@ -10,7 +10,7 @@ use std::hash::{BuildHasher, Hash};
 ///
 /// Every key type implements `LookupKey` for its own keys, and `&str` implements it for `String` keys. In your own
 /// impl, `names` defines which key a value names, and `is_key` computes `names`. Prove two laws (`IsLookup`). For the
-/// law `writes`: if a struct has one field, its derived `Hash` writes what the field writes.
+/// law `writes`, note that the derived `Hash` of a struct with one field writes what the field writes.
 ///
 /// ```
 /// let key = String::from_str(rt.alloc(), "a")?;

@@ -40,9 +40,9 @@ pub trait Limiter<K, V> {
     /// Called with each entry that is evicted, removed, popped or taken by an iterator, as soon as the entry is out of
     /// the map. The limiter may write to the key and the value before the caller of the map gets them.
     ///
-    /// Also called with an entry that `on_insert` returned, if the map cannot store the entry. If a clear or a `Drain`
-    /// drops an entry, the map does not call `on_removed`. The drop of the map or of an `IntoIter` does not call
-    /// `on_removed` either, but no contract says so.
+    /// Also called with an entry that `on_insert` returned, if the map cannot store the entry. Not called with an entry
+    /// that a clear or a `Drain` drops. The drop of the map or of an `IntoIter` does not call `on_removed` either, but
+    /// no contract says so.
     fn on_removed(&mut self, key: &mut K, value: &mut V)
         ensures limiter { self.new ≡ (rules.on_removed self.old key.old value.old).limiter }
         ensures key { key.new ≡ (rules.on_removed self.old key.old value.old).key }
@@ -57,8 +57,8 @@ pub trait Limiter<K, V> {
     /// Called by an insert that finds no bucket for a new entry, and by `try_reserve` and `try_insert` if too little
     /// growth is left. Not called if there is no larger table, or if the table is rehashed without growing. If the
     /// result is `false`, the insert evicts the oldest entries to store the new entry, and `try_reserve` and
-    /// `try_insert` fail. If the result is `true`, the allocation of the table may still fail. The limiter is not
-    /// notified of this failure.
+    /// `try_insert` fail. If the result is `true`, the allocation of the table may still fail, and the limiter is not
+    /// notified of this.
     fn on_grow(&mut self, new_memory_usage: usize) -> bool
         ensures limiter { self.new ≡ (rules.on_grow self.old new_memory_usage).limiter }
         ensures allowed { result ≡ (rules.on_grow self.old new_memory_usage).allowed };
@@ -78,9 +78,9 @@ pub trait Limiter<K, V> {
 pub trait Insertion<K: Eq + Hash, V, I: LookupKey<K>>: Limiter<K, V> {
     ghost offers: { Offers K V Self I };
 
-    /// Called by an insert with a new key and its value, before the insert evicts anything. The map has `length`
-    /// entries. Returns the entry to store, or `None` to reject the offered entry. After a rejection, the map's entries
-    /// are unchanged.
+    /// Returns the entry to store, or `None` to reject the offered entry. Called by an insert with a new key and its
+    /// value, before the insert evicts anything. The map has `length` entries. If the entry is rejected, they do not
+    /// change.
     ///
     /// # Errors
     ///
@@ -97,9 +97,9 @@ pub trait Insertion<K: Eq + Hash, V, I: LookupKey<K>>: Limiter<K, V> {
         ensures unchanged { OnErr result (self.new ≡ self.old) }
         ensures out_of_memory { OnErr result (offers.may_run_out self.old length key value) };
 
-    /// Called by an insert or an update before `new_value` replaces `old_value`. The map has `length` entries, and
-    /// `new_key` names the stored `old_key`. The limiter may change `old_key` only to an equal key. Returns whether the
-    /// new value is accepted. If the value is rejected, the map removes the entry.
+    /// Returns whether the new value is accepted. Called by an insert or an update before `new_value` replaces
+    /// `old_value`. The map has `length` entries, and `new_key` names the stored `old_key`. The limiter may change
+    /// `old_key` only to an equal key. If the value is rejected, the map removes the entry.
     fn on_replace(
         &mut self,
         length: usize,

@@ -1,4 +1,4 @@
--- For callers that pass a callback: it may be called with each pair that may be evicted, removed or rejected,
+-- For callers that pass a callback: it may be called with each evicted, removed or rejected pair,
 --     always_each, always_replaced, always_inserted      if it may always be called
 --     may_take_always      the same, for `search`: name it on the function, in `#[tactic(auto, using(..))]`
 --     takes_always         after such calls, it may still always be called

@@ -1,6 +1,6 @@
 -- The pairs that a call passes to its callback: each evicted or removed pair, and each pair that the limiter returned
--- but the map could not store. `on_removed` of the limiter may change a pair before the callback gets the pair. The
--- callback gets the pairs in the order in which `on_removed` gets them.
+-- but the map could not store. The callback gets each pair as `on_removed` leaves it, in the order of the calls of
+-- `on_removed`.
 use Rattle.std.specs.Prelude.{◌≡◌, ℕ, Bool, List, [], ◌∷◌, ◌++◌, Result}
 use Rattle.std.specs.List.{FoldsTo}
 use Rattle.std.specs.Fn.{Mut, Called}

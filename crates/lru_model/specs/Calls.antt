@@ -41,8 +41,7 @@ module _ {K V S : Type 0} (rules : Rules K V S) where
   pop_first c = after_removal rules (first c.pairs) (without_first c.pairs) c.limiter
 
 module _ {K V S H : Type 0} (rules : Rules K V S) where
-  -- If `gone` is a pair, this pair is removed, and the result is this pair as `on_removed` leaves it. If `gone` is
-  -- `None`, the result is `None`. The pairs `left` stay.
+  -- The pair `gone`, if any, is removed and returned as `on_removed` leaves it. The pairs `left` stay.
   pub record TakesOut (gone : Option (K × V)) (left : List (K × V)) (old : State K V S H) (result : Option (K × V))
       (new : State K V S H) : Type 0 where
     pub pair : result ≡ left_of rules old.limiter gone
@@ -58,13 +57,13 @@ module _ {K V S H : Type 0} (rules : Rules K V S) where
   abbrev pub PopNewest : State K V S H → Option (K × V) → State K V S H → Type 0
   PopNewest old = TakesOut (first old.pairs) (without_first old.pairs) old
 
-  -- The pair of the named key is removed. The call returns the value of the pair as `on_removed` leaves it.
+  -- the pair of the named key is removed, and its value is returned as `on_removed` leaves it
   pub record Remove (names : K → Bool) (old : State K V S H) (result : Option V) (new : State K V S H) : Type 0 where
     pub value : result ≡ option_map (λ p. p.1) (left_of rules old.limiter (lookup_entry names old.pairs))
     pub state : Leaves old (removal rules names (contents old)) new
 
-  -- The map after a clear has no pairs, and all buckets are empty. The number of buckets stays. The limiter is notified
-  -- once of the clear, and not of each pair.
+  -- The map after a clear: all buckets are empty, and their number stays. The limiter is notified once of the clear,
+  -- and not of each pair.
   abbrev pub cleared : State K V S H → State K V S H
   cleared st = record st {
     pairs = [];

@@ -20,18 +20,17 @@ pub record Report : Type 0 where
   -- whether there is a bucket for the pair
   pub has_bucket : Bool
 
--- the report of a table that has a bucket for the pair without a query or an eviction
+-- the report of a table that has a bucket for the pair, and so queries nothing and evicts nothing
 abbrev pub at_once : Report
 at_once = record { asked = None; evicted = 0; has_bucket = true }
 
 module _ {K V S : Type 0} (rules : Rules K V S) where
-  -- The report of a table whose growth is refused: the n oldest pairs of c are evicted. If c has no pairs, there is no
-  -- bucket for the new pair. If the limiter was queried for a larger table, `asked` says how many bytes this table
-  -- takes.
+  -- The report of a table that cannot grow: the n oldest pairs of c are evicted. If c has no pairs, there is no bucket
+  -- for the new pair.
   abbrev pub refusal : Option ℕ → ℕ → Contents K V S → Report
   refusal asked n c = record { asked = asked; evicted = n; has_bucket = not (is_empty c.pairs) }
 
-  -- the report of a table whose growth leads to the given `Target`
+  -- the report of a table that would grow into the given `Target`
   abbrev pub report_of : Target → ℕ → Contents K V S → Report
   report_of no_table n c = refusal None n c
   report_of same_table n c = at_once
@@ -46,14 +45,14 @@ module _ {K V S : Type 0} (rules : Rules K V S) where
     fits : (growth_left st ≡ 0 → full_capacity (buckets st) / 2 < length st.pairs + 1 → 16 < buckets st) →
         report ≡ at_once →
         MayReport hash st report
-    -- The table is too small. If growth is refused, n pairs are evicted. In a table of up to 16 buckets, n is 1.
+    -- If growth is refused, n pairs are evicted. In a table of up to 16 buckets, n is 1.
     too_small : IsOutgrown hash st → (n : ℕ) → 0 < n → (buckets st ≤ 16 → n ≡ 1) →
         full_capacity (buckets st) / 2 + n ≤ length st.pairs + 1 →
         report ≡ report_of (table_for 1 st) n (contents st) →
         MayReport hash st report
 
-  -- What a table of up to 16 buckets reports. The contents c are the contents of the map `st` after some pairs were
-  -- removed. Each removed pair raised `growth_left` by one.
+  -- What a table of up to 16 buckets reports. c is what is left of the map `st` after removals. Each removed pair
+  -- raised `growth_left` by one.
   abbrev pub small_report : {H : Type 0} → State K V S H → Contents K V S → Report
   small_report st c =
       if nat_lt 0 (growth_left st + length st.pairs - length c.pairs) then at_once
@@ -68,7 +67,7 @@ module _ {K V S : Type 0} (rules : Rules K V S) where
   abbrev pub met : Report → Contents K V S → Contents K V S
   met report c = pops rules report.evicted (record { pairs = c.pairs; limiter = queried report.asked c.limiter })
 
-  -- The contents after a trim. The result says whether the map still has pairs.
+  -- the contents after a trim, and whether the map still has pairs
   abbrev pub trimmed : Contents K V S → Result Bool AllocError × Contents K V S
   trimmed c = (Ok (not (is_empty (trim rules c).pairs)), trim rules c)
 
@@ -91,8 +90,8 @@ exchanged rules offers names i v c pair =
     if (replacement rules offers names pair i v c).taken then trimmed rules (with_replaced rules offers names pair i v c)
     else (Ok false, with_removed rules offers names pair i v c)
 
--- An insert into a list of pairs: its result, and the list and the limiter afterwards. `Tells s pair report` means that
--- the table may report `report` after `on_insert` returned `pair` and changed the limiter to s.
+-- An insert into a list of pairs. `Tells s pair report` means that the table may report `report` if `on_insert`
+-- returned `pair` and changed the limiter to s.
 module _ {K V S I : Type 0} (rules : Rules K V S) (offers : Offers K V S I) (names : I → K → Bool)
     (Tells : S → K × V → Report → Type 0) (i : I) (v : V) (old : Contents K V S) (result : Result Bool AllocError)
     (new : Contents K V S) where
@@ -101,8 +100,7 @@ module _ {K V S I : Type 0} (rules : Rules K V S) (offers : Offers K V S I) (nam
     not_offered : offers.may_run_out old.limiter (length old.pairs) i v → IsErr result → new ≡ old → InsertsNew
     not_admitted : (s : S) → MayGive rules offers names i v old s None →
         result ≡ Ok false → new ≡ record { pairs = old.pairs; limiter = s } → InsertsNew
-    -- The limiter returns a pair to store. If the table reports a bucket for the pair, the pair is stored, unless the
-    -- map runs out of memory.
+    -- The limiter returns a pair. If there is a bucket for the pair, the pair is stored, unless memory runs out.
     admitted : (s : S) (pair : K × V) → MayGive rules offers names i v old s (Some pair) →
         (report : Report) → Tells s pair report →
         stored rules report pair (make_room rules (record { pairs = old.pairs; limiter = s })) ≡ (result, new) →
@@ -138,7 +136,7 @@ module _ {K V S I : Type 0} (rules : Rules K V S) (offers : Offers K V S I) (nam
     InsertsInSmallTable i v = InsertsGiven (λ s pair. small_report rules old
         (make_room rules (record { pairs = old.pairs; limiter = s }))) i v (contents old)
 
--- two calls of `on_insert` with equal limiters and arguments have equal results, and leave equal limiters
+-- the limiter and the arguments determine the result of `on_insert` and the limiter afterwards
 abbrev pub IsDetermined : {K V S I : Type 0} → Offers K V S I → Type 0
 IsDetermined {K} {V} {S} {I} offers = (s : S) (n : ℕ) (i : I) (v : V) (t u : S) (given other : Option (K × V)) →
     offers.on_insert s n i v t given → offers.on_insert s n i v u other → (t ≡ u) × (given ≡ other)

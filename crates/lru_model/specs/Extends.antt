@@ -7,8 +7,7 @@ use Rattle.lru_model.specs.Inserts.{Insert}
 
 module _ {K V S H I : Type 0} (rules : Rules K V S) (offers : Offers K V S I) (names : I → K → Bool)
     (hash_of : H → K → ℕ) (old : State K V S H) where
-  -- Each pair of the list was inserted, in the order of the list. No insert failed, and after each insert the table was
-  -- sound.
+  -- The pairs of the list were inserted, in their order. No insert failed, and each insert left a sound table.
   pub data InsertsAll : List (I × V) → State K V S H → Type 0 where
     no_insert : InsertsAll [] old
     one_insert_more : {pairs : List (I × V)} {before : State K V S H} → InsertsAll pairs before

@@ -25,14 +25,13 @@ module _ {K V S H I : Type 0} (rules : Rules K V S) (offers : Offers K V S I) (n
         (v : V) → makes v → Insert rules offers names hash_of i v old result new →
         MakesNewest makes i old result new
 
-  -- why `get_or_insert` runs out of memory: the closure returned a value, and the insert of this value ran out of
-  -- memory
+  -- the closure returned a value, and the insert of this value ran out of memory
   abbrev pub IsOutOfMemoryFor : (makes : V → Type 0) → I → State K V S H → State K V S H → Type 0
   IsOutOfMemoryFor makes i old new = (v : V) × makes v × IsOutOfMemory rules offers names hash_of i v old new
 
 module _ {K V S H E : Type 0} (rules : Rules K V S) where
-  -- If the result is true, the pair of the key is the newest. If the result is true and the key was new, the limiter is
-  -- not over its limit. If the result is false or an error, the map does not contain the key.
+  -- If the result is true, the pair of the key is the newest, and if the key was new, the limiter is not over its
+  -- limit. If the result is false or an error, the map does not contain the key.
   abbrev pub SaysNewest : (K → Bool) → State K V S H → Result Bool E → State K V S H → Type 0
   SaysNewest names old (Ok true) new = IsNewest names new.pairs
       × (lookup names old.pairs ≡ None → rules.is_over_the_limit new.limiter (length new.pairs) ≡ false)
@@ -53,8 +52,8 @@ or_memory (Err e) = Err Memory
 
 module _ {K V S H I E : Type 0} (rules : Rules K V S) (offers : Offers K V S I) (names : I → K → Bool)
     (hash_of : H → K → ℕ) where
-  -- If the closure fails, nothing changes, and the call returns the error of the closure. If the closure is not called,
-  -- or succeeds, the call does what `MakesNewest` says. If memory runs out, the call returns `Memory`.
+  -- If the closure fails, nothing changes, and the call returns the error of the closure. Otherwise, the call does what
+  -- `MakesNewest` says. If memory runs out, the call returns `Memory`.
   pub data MakesNewestIfMade (makes : Result V E → Type 0) (i : I) (old : State K V S H)
       (result : Result Bool (GetOrInsertError E)) (new : State K V S H) : Type 0 where
     failed : lookup (names i) old.pairs ≡ None →

@@ -37,7 +37,6 @@ module _ {K V S H : Type 0} (rules : Rules K V S) where
   PlacesAndTrims hash_of pair old result new = (outcome : Outcome) × (landed : State K V S H)
       × Place rules hash_of pair old outcome landed × Settles outcome landed result new
 
-  -- `make_room`, and then `PlacesAndTrims`
   abbrev pub PlacesNew : (H → K → ℕ) → K × V → State K V S H → Result Bool AllocError → State K V S H → Type 0
   PlacesNew hash_of pair old result new = (ready : State K V S H) × Leaves old (make_room rules (contents old)) ready
       × PlacesAndTrims hash_of pair ready result new
@@ -82,8 +81,8 @@ module _ {K V S I : Type 0} (rules : Rules K V S) (offers : Offers K V S I) (nam
   module _ {H : Type 0} (hash_of : H → K → ℕ) where
     pub data Insert (i : I) (v : V) (old : State K V S H) (result : Result Bool AllocError)
         (new : State K V S H) : Type 0 where
-      -- The map contains the key, and the limiter accepts the new value. The pair becomes the newest, with the new
-      -- value. The insert ends with a trim.
+      -- The map contains the key, and the limiter accepts the new value. The pair becomes the newest, and a trim
+      -- follows.
       replaced : (pair : K × V) → lookup_entry (names i) old.pairs ≡ Some pair →
           (replacement pair i v (contents old)).taken ≡ true →
           result ≡ Ok (not (is_empty new.pairs)) → Leaves old (trim rules (with_replaced pair i v (contents old))) new →
@@ -103,15 +102,15 @@ module _ {K V S I : Type 0} (rules : Rules K V S) (offers : Offers K V S I) (nam
           (s : S) → MayGive i v (contents old) s None →
           result ≡ Ok false → new ≡ record old { limiter = s } →
           Insert i v old result new
-      -- The key is new, and the limiter returns a pair. The pair is inserted into the table, but the insertion may
-      -- fail. The map may evict pairs before and after the insertion.
+      -- The key is new, and the limiter returns a pair. The insertion of this pair into the table may fail. The map may
+      -- evict pairs before and after the insertion.
       admitted : lookup_entry (names i) old.pairs ≡ None →
           (s : S) (pair : K × V) → MayGive i v (contents old) s (Some pair) →
           PlacesNew rules hash_of pair (record old { limiter = s }) result new →
           Insert i v old result new
 
-    -- Why the table may need memory for the pair that the limiter returned. No growth is left. The table has no
-    -- buckets, or the map contains a pair after `make_room`. A rehash of a table without pairs needs no memory.
+    -- The table needs memory for a new pair only if no growth is left, and if it has no buckets or the map contains a
+    -- pair after `make_room`. A rehash of a table without pairs needs no memory.
     pub record NeedsMemory (i : I) (v : V) (old : State K V S H) : Type 0 where
       pub no_growth_left : growth_left old ≡ 0
       pub s : S
@@ -119,8 +118,8 @@ module _ {K V S I : Type 0} (rules : Rules K V S) (offers : Offers K V S I) (nam
       pub given : MayGive i v (contents old) s (Some pair)
       pub needed : (buckets old ≡ 0) ⊎ (0 < length (make_room rules (record { pairs = old.pairs; limiter = s })).pairs)
 
-    -- Why an insert runs out of memory. The key is new. Either `on_insert` of the limiter ran out of memory and nothing
-    -- changed, or the table needed memory.
+    -- An insert runs out of memory only if the key is new. Either `on_insert` ran out of memory and nothing changed, or
+    -- the table needed memory.
     abbrev pub IsOutOfMemory : I → V → State K V S H → State K V S H → Type 0
     IsOutOfMemory i v old new = (lookup_entry (names i) old.pairs ≡ None)
         × ((offers.may_run_out old.limiter (length old.pairs) i v × (new ≡ old)) ⊎ NeedsMemory i v old)

@@ -11,13 +11,12 @@ use Rattle.lru_model.specs.Inserts.{replacement, with_old_value, MayGive}
 use Rattle.lru_model.specs.Theorems.{Stores}
 
 module _ {K V S H I : Type 0} (rules : Rules K V S) (offers : Offers K V S I) (names : I → K → Bool) where
-  -- A value is lost only if the insert replaces or rejects the value. After the insert, each old pair is in the map, or
-  -- was passed to the callback. The same is true of the pair that the limiter returned for a new key. `passed` lists
-  -- the pairs that the callback got, in order.
+  -- A value is lost only if the insert replaces or rejects it. After the insert, each old pair, and the pair that the
+  -- limiter returned for a new key, is in the map or was passed to the callback. `passed` lists the pairs that the
+  -- callback got, in order.
   pub data LosesNothing (i : I) (v : V) (old : State K V S H) (result : Result Bool AllocError)
       (passed : List (K × V)) (new : State K V S H) : Type 0 where
-    -- A pair is stored as the newest, in front of the old pairs of other keys. The oldest pairs may be evicted. If no
-    -- pair is left in the map, the stored pair was evicted, too.
+    -- A pair is stored in front of the old pairs of other keys. The oldest pairs may be evicted, even the stored pair.
     stored : (pair : K × V) → Stores rules offers names i v old pair →
         result ≡ Ok (not (is_empty new.pairs)) →
         new.pairs ++ reverse passed ≡ pair ∷ without (names i) old.pairs →
@@ -53,8 +52,8 @@ module _ {K V S H I : Type 0} (rules : Rules K V S) (offers : Offers K V S I) (n
     pub growth_left : growth_left old ≤ growth_left new + 1
 
 module _ {K V S I : Type 0} (rules : Rules K V S) (offers : Offers K V S I) (names : I → K → Bool) where
-  -- If this key and this value are offered, the limiter does not run out of memory, and returns the pair `pair` to
-  -- store. With one pair more, the map is not over the limit.
+  -- If this key and this value are offered, the limiter does not run out of memory, and returns `pair`. With one pair
+  -- more, the map is not over the limit.
   pub record AcceptsNew (i : I) (v : V) (c : Contents K V S) (pair : K × V) : Type 0 where
     pub finds : offers.may_run_out c.limiter (length c.pairs) i v → ⊥
     pub gives : (s : S) (given : Option (K × V)) → MayGive rules offers names i v c s given →

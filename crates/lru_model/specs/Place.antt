@@ -31,8 +31,8 @@ pub record FillsBucket (hash : ℕ) (old new : TableState) : Type 0 where
   pub spends : ((bucket_at old.states bucket ≡ empty) × (growth_left_of new.states + 1 ≡ growth_left_of old.states))
       ⊎ ((bucket_at old.states bucket ≡ deleted) × (16 < length old.states) × (growth_left_of new.states ≡ growth_left_of old.states))
 
--- In a table of n pairs, no bucket takes a pair with this hash. No growth is left. If n is above 0, the first free
--- bucket in a search for the hash is empty (not deleted). If n is 0, the table is not searched.
+-- In a table of n pairs, no bucket takes a pair with this hash. No growth is left, and the first free bucket in a
+-- search for the hash is empty, not deleted. If n is 0, the table is not searched.
 pub record NoBucketTakes (hash n : ℕ) (states : List BucketState) : Type 0 where
   pub no_growth_left : growth_left_of states ≡ 0
   pub first_empty : 0 < n → FirstFreeIs empty hash states
@@ -106,8 +106,8 @@ module _ {K V S H : Type 0} (rules : Rules K V S) where
   IsPlacedByMove pair count old =
       IsPlacedIfMemory pair count (full_capacity count - length old.pairs - 1) (length old.pairs) old
 
-  -- Why a table cannot grow. If there is no larger table (`table_for`), `mid` is `old`. If the limiter refuses the
-  -- larger table, `mid` is the map after the limiter was queried.
+  -- Why a table cannot grow: there is no larger table, or the limiter refuses the larger table. `mid` is the map after
+  -- the limiter was queried, or `old` if it was not.
   pub data CannotGrow (old mid : State K V S H) : Type 0 where
     no_target : table_for 1 old ≡ no_table → mid ≡ old → CannotGrow old mid
     denied : (count bytes : ℕ) → table_for 1 old ≡ new_table count bytes → Denies bytes old →

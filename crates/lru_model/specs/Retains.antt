@@ -14,8 +14,8 @@ module _ {K V S : Type 0} (rules : Rules K V S) where
   answered (pair, true) c = record { pairs = pair ∷ c.pairs; limiter = c.limiter }
   answered (pair, false) c = record { pairs = c.pairs; limiter = notified_of rules (Some pair) c.limiter }
 
-  -- The contents after a retain. The given list contains each pair, newest first, with the flag that the closure
-  -- returned for this pair. The closure was called with the oldest pair first.
+  -- The contents after a retain. The list contains each pair, newest first, with the flag that the closure returned for
+  -- it. The closure was called with the oldest pair first.
   abbrev pub retained : List ((K × V) × Bool) → S → Contents K V S
   retained [] s = record { pairs = []; limiter = s }
   retained (newest ∷ older) s = answered newest (retained older s)

@@ -24,9 +24,9 @@ AreAmong {K} named test = (key : K) → named key ≡ true → test key ≡ true
 
 module _ {K V S H I : Type 0} (rules : Rules K V S) (offers : Offers K V S I) (names : I → K → Bool)
     (hash_of : H → K → ℕ) where
-  -- How one call changes a map. A call that only reads is no step. `gets` is a look-up by a hash, or by a key of any
-  -- type. If the look-up finds a pair, it promotes this pair. A get that inserts a missing key is the step `gets` or
-  -- the step `inserts`. All inserted and updated keys have one type, I.
+  -- How one call changes a map. A call that only reads is no step. `gets` is a look-up, by a hash or by a key of any
+  -- type, that promotes the pair that it finds. A get that inserts a missing key is a `gets` or an `inserts`. All
+  -- inserted and updated keys have one type, I.
   pub data Step (old new : State K V S H) : Type 0 where
     inserts : (key : I) (value : V) (result : Result Bool AllocError)
         → Insert rules offers names hash_of key value old result new → Step old new
@@ -124,7 +124,7 @@ module _ {K V S H : Type 0} {IsStep : State K V S H → State K V S H → Type 0
   EachStep (goes_on {old} mid step sized run) = Holds old mid step × EachStep run
 
 module _ {K V S H : Type 0} (rules : Rules K V S) (hash_of : H → K → ℕ) where
-  -- A run of writes of values, changes of the limiter, and calls that neither insert nor update a key. Such a run is
-  -- also a `Run` for any type I of inserted keys (`run_without_insert` in `proofs/EveryCall`).
+  -- A run without inserts and updates of keys. It is also a `Run` for any type I of inserted keys (`run_without_insert`
+  -- in `proofs/EveryCall`).
   abbrev pub RunWithoutInsert : (new old : State K V S H) → Type 0
   RunWithoutInsert = Run (AnyStep rules no_offers no_keys hash_of)

@@ -19,7 +19,6 @@ module _ {K V S H : Type 0} where
   shrink_counted st = record st { counts = record st.counts { shrunk = count_up st.counts.shrunk (length st.pairs) } }
 
   pub data Shrink (old : State K V S H) (result : Result Bool AllocError) (new : State K V S H) : Type 0 where
-    -- The table has no more buckets than its pairs need, and nothing changes.
     kept : IsTight old →
         result ≡ Ok false → new ≡ old →
         Shrink old result new

@@ -11,13 +11,12 @@ max_of_32_bits = 2 ^ 32 - 1
 abbrev pub max_of_64_bits : ℕ
 max_of_64_bits = 2 ^ 64 - 1
 
--- The bytes of a table: the bytes of the entries are rounded up to a multiple of 16, and a byte for each bucket and 16
--- bytes are added.
+-- The bytes of a table: the bytes of the entries, rounded up to a multiple of 16, plus a byte for each bucket, plus 16
+-- bytes.
 abbrev pub bytes_of : ℕ → ℕ → ℕ
 bytes_of entry_bytes buckets = (entry_bytes * buckets + 15) / 16 * 16 + buckets + 16
 
--- The bytes that a table of `buckets` buckets uses, or `None` if the table would use more than 2 ^ 63 - 16 bytes. A
--- table without buckets uses 0 bytes.
+-- the bytes that a table of `buckets` buckets uses, or `None` if the table would use more than 2 ^ 63 - 16 bytes
 unfoldable pub usage : ℕ → ℕ → Option ℕ
 usage entry_bytes buckets =
     if buckets == 0 then Some 0
@@ -47,10 +46,9 @@ abbrev pub table_with : ℕ → Option ℕ → Target
 table_with entry_bytes None = no_table
 table_with entry_bytes (Some buckets) = table_of buckets (usage entry_bytes buckets)
 
--- How a table of `buckets` buckets grows to hold `pairs` pairs. These pairs need `need` buckets. If the table has fewer
--- buckets than `need`, it grows to `need` buckets. If the table has enough buckets, and `pairs` is at most half of the
--- capacity, the table keeps its size. If `pairs` is more than half of the capacity, the number of buckets is doubled.
--- If the new table would be too large, the table does not grow (`no_table`).
+-- How a table of `buckets` buckets grows to hold `pairs` pairs, which need `need` buckets. A table with fewer buckets
+-- grows to `need` buckets. A table with enough buckets keeps its size if `pairs` is at most half of the capacity, and
+-- doubles otherwise. If the new table would be too large, the table does not grow (`no_table`).
 abbrev pub target_from : ℕ → ℕ → ℕ → ℕ → Option ℕ → Target
 target_from max entry_bytes buckets pairs None = no_table
 target_from max entry_bytes buckets pairs (Some need) =

@@ -42,13 +42,12 @@ pub record State (K V S H : Type 0) : Type 0 where
   pub hasher : H
   pub table : TableState
   pub counts : Counts
-  -- the bytes of an entry in the table, which the constructor got or computed
+  -- the bytes of an entry, which the constructor got or computed
   pub entry_bytes : ℕ
   -- the number of the link `MAX`; all bucket numbers are smaller
   pub max : ℕ
 
--- What holds for the bucket states and the counts of every map of n pairs. A table is sound if `IsSound` is true of the
--- table.
+-- What holds for the bucket states and the counts of every map of n pairs. Such a table is called sound.
 pub record IsSound (n entry_bytes max : ℕ) (states : List BucketState) (counts : Counts) : Type 0 where
   pub table : IsTable states
   pub taken : entry_count states ≡ n
@@ -70,9 +69,8 @@ pub record IsPaid (potential : ℕ) (counts : Counts) : Type 0 where
   pub moved : counts.moved ≤ 2 * counts.placed + counts.shrunk
   pub ahead : IsAhead potential counts
 
--- How the bucket states change when a map that had `was` pairs keeps n of them. `growth_left` never falls. For each
--- removed pair, `growth_left` rises by at most one. In a table of up to 16 buckets, `growth_left` rises by exactly one
--- for each removed pair.
+-- How the bucket states change when a map that had `was` pairs keeps n of them. For each removed pair, `growth_left`
+-- rises by at most one, and in a table of up to 16 buckets by exactly one.
 pub record GivesBack (was n : ℕ) (old new : List BucketState) : Type 0 where
   pub table : length new ≡ length old
   pub keeps : growth_left_of old ≤ growth_left_of new
@@ -84,9 +82,8 @@ pub record GivesBack (was n : ℕ) (old new : List BucketState) : Type 0 where
 abbrev pub FirstFreeIs : BucketState → ℕ → List BucketState → Type 0
 FirstFreeIs state hash states = (b : ℕ) × IsFirstFree states hash b × (bucket_at states b ≡ state)
 
--- The pair at `place` was removed, and its bucket is now free. If this bucket is in a run of 16 neighbouring buckets of
--- which none is empty, its new state is deleted. Otherwise, its new state is empty. The other buckets keep their
--- states.
+-- The pair at `place` was removed. If its bucket is in a run of 16 neighbouring buckets of which none is empty, the
+-- bucket is now deleted. Otherwise, it is now empty. The other buckets keep their states.
 pub record Frees (place : Option ℕ) (old new : TableState) : Type 0 where
   pub bucket : ℕ
   pub there : place ≡ Some bucket
@@ -122,7 +119,7 @@ module _ {K V S H : Type 0} where
   abbrev pub buckets : State K V S H → ℕ
   buckets st = length st.table.states
 
-  -- the growth left: how many empty buckets may still be filled
+  -- how many empty buckets may still be filled
   abbrev pub growth_left : State K V S H → ℕ
   growth_left st = growth_left_of st.table.states
 
@@ -156,8 +153,8 @@ module _ {K V S H : Type 0} where
       counts = record old.counts { insertions = count_up old.counts.insertions (length old.pairs) };
     }
 
-  -- `new` is `old` with the contents `left`, after some pairs were evicted or removed. Apart from the contents, only
-  -- the bucket states and the places may have changed.
+  -- `new` is `old` with the contents `left`, after pairs were evicted or removed. Apart from the contents, only the
+  -- bucket states and the places may have changed.
   pub record Leaves (old : State K V S H) (left : Contents K V S) (new : State K V S H) : Type 0 where
     pub is : new ≡ record old { pairs = left.pairs; limiter = left.limiter; table = new.table }
     pub growth_left : FreesGrowth old new
@@ -168,7 +165,7 @@ module _ {K V S : Type 0} (rules : Rules K V S) where
   notified_of None s = s
   notified_of (Some pair) s = (rules.on_removed s pair.0 pair.1).limiter
 
-  -- The contents with the pairs `left`. If `gone` is a pair, the limiter was notified that this pair was removed.
+  -- the contents with the pairs `left`, after the limiter was notified of the removed pair `gone`, if any
   abbrev pub after_removal : Option (K × V) → List (K × V) → S → Contents K V S
   after_removal gone left s = record { pairs = left; limiter = notified_of gone s }
 

@@ -29,9 +29,8 @@ module _ {K V S H : Type 0} where
         new.counts.moved + potential new + 2 * old.counts.placed
         ≤ old.counts.moved + potential old + 2 * new.counts.placed
 
-  -- Consider the number that `count` reads, plus the `potential`. This sum rises by at most m for each stored entry,
-  -- plus n for each entry that a shrink rehashed. This bound holds until the count `placed` or `shrunk` stops at its
-  -- maximum.
+  -- The number that `count` reads, plus the `potential`, rises by at most m for each stored entry, plus n for each
+  -- entry that a shrink rehashed. This bound holds until the count `placed` or `shrunk` stops at its maximum.
   pub record PaysFor (count : Counts → ℕ) (m n : ℕ) (old new : State K V S H) : Type 0 where
     pub placed : old.counts.placed ≤ new.counts.placed
     pub shrunk : old.counts.shrunk ≤ new.counts.shrunk
@@ -68,7 +67,7 @@ pub record IsNewest {K V : Type 0} (names : K → Bool) (pairs : List (K × V)) 
 -- the limiter rejects the new value for this pair. `storing pair` is the list after `pair` was stored.
 pub data EvictsOldest {K V : Type 0} (names : K → Bool) (refuses : K × V → Type 0) (storing : K × V → List (K × V))
     (old new : List (K × V)) : Type 0 where
-  -- A pair of the given key was stored. Then the oldest pairs may have been evicted, even all of them.
+  -- A pair of the given key was stored. Then some or all pairs may have been evicted, oldest first.
   with_pair : (pair : K × V) → names pair.0 ≡ true → IsFront new (storing pair) →
       EvictsOldest names refuses storing old new
   -- The given key was new, and no pair was stored. The oldest pairs may have been evicted.
@@ -78,8 +77,7 @@ pub data EvictsOldest {K V : Type 0} (names : K → Bool) (refuses : K × V → 
       EvictsOldest names refuses storing old new
 
 module _ {K V S H : Type 0} (rules : Rules K V S) where
-  -- The table has pairs but no growth left, and it cannot grow. With one pair more, the table would be more than half
-  -- full.
+  -- The table has pairs but no growth left, would be more than half full with one pair more, and cannot grow.
   pub record IsRefusedGrowth (st : State K V S H) : Type 0 where
     pub is_full : HasPairsButNoGrowth st
     pub above_half : full_capacity (buckets st) / 2 < length st.pairs + 1
@@ -95,8 +93,8 @@ module _ {K V S H : Type 0} (rules : Rules K V S) where
   SaysWhether names result new = lookup_entry names new.pairs ≡ None
 
 module _ {K V S H I : Type 0} (rules : Rules K V S) (offers : Offers K V S I) (names : I → K → Bool) where
-  -- The pair that an insert stores. If the map contained the key, this pair is the stored key with the new value, as
-  -- `on_replace` leaves them. If the key is new, this pair is the pair that the limiter returned.
+  -- The pair that an insert stores. If the map contained the key, this is the stored key with the new value, as
+  -- `on_replace` leaves them. If the key is new, it is the pair that the limiter returned.
   pub data Stores (i : I) (v : V) (old : State K V S H) (pair : K × V) : Type 0 where
     left : (was : K × V) → lookup_entry (names i) old.pairs ≡ Some was
         → (replacement rules offers names was i v (contents old)).taken ≡ true →
@@ -135,7 +133,7 @@ module _ {K V H : Type 0} (bytes_of : K → V → ℕ) where
     pub table : UsesAtMost st.limiter.table st
     pub owned : IsSummed bytes_of (λ b. b.owned) st
 
-  -- the limiter counts the bytes of the map (`CountsBytes`), and the sum of the two counts is at most the limit
+  -- the limiter counts the bytes of the map, and the sum of its two counts is at most the limit
   pub record KeepsBytes (st : State K V Bytes H) : Type 0 where
     pub counts : CountsBytes st
     pub within : st.limiter.owned + st.limiter.table ≤ st.limiter.limit

@@ -10,8 +10,7 @@ use Rattle.lru_model.specs.Inserts.{Insert}
 use Rattle.lru_model.specs.Runs.{Step, Run}
 use Rattle.lru_model.specs.declared.results.ReserveError.{ReserveError}
 
--- `ready` is the map just before the insert. If growth is left, `ready` is `old`. If no growth is left, `ready` is
--- `old` after a reservation of growth.
+-- `ready` is the map just before the insert: `old`, or if no growth is left, `old` after a reservation of growth.
 pub data IsReady {K V S H : Type 0} (rules : Rules K V S) (old ready : State K V S H) : Type 0 where
   has_growth : 0 < growth_left old → ready ≡ old →
       IsReady rules old ready
@@ -56,7 +55,7 @@ module _ {K V S : Type 0} (terms : Terms K V S) (rules : Rules K V S) where
       -- If the result is `Ok`, the pair is the newest, nothing is evicted (`added`), and the limiter is within its
       -- limit (`within`). If the result is `Err`, the call returns the key and the value (`returned`), and the pairs
       -- stay (`keeps`). If growth was left and the result is `Err`, nothing has changed (`unchanged`). In a run, the
-      -- call counts as at most two steps: a reservation, and an insert (`calls`).
+      -- call is at most two steps: a reservation, and an insert (`calls`).
       pub record TryInsertEnds (result : Result (Unit {0}) (K × V)) (new : State K V S H) : Type 0 where
         pub calls : Run (Step rules (offers_of terms) eq hash_of) new old
         pub added : OnOk result (new.pairs ≡ (key, value) ∷ old.pairs)

@@ -19,7 +19,7 @@ module _ {K V S I : Type 0} (rules : Rules K V S) (offers : Offers K V S I) (nam
 
   pub data Update {H : Type 0} (i : I) (v : V) (old : State K V S H) (result : Updated V) (new : State K V S H)
       : Type 0 where
-    -- The map contains the key, and the limiter accepts the new value. The update ends with a trim.
+    -- The map contains the key, and the limiter accepts the new value. A trim follows.
     updated : (pair : K × V) → lookup_entry (names i) old.pairs ≡ Some pair →
         (replacement rules offers names pair i v (contents old)).taken ≡ true →
         result ≡ Replaced (replacement rules offers names pair i v (contents old)).old_value →

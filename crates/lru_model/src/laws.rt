@@ -50,7 +50,7 @@ pub use runs::{
 pub use shrinks::{shrinks_keep_the_list, shrinks_leave_a_tight_table, shrinks_pay_for_moves};
 
 /// If an insert into a map of n entries leaves m entries, and passes p entries to its callback, m + p is at most n + 1
-/// (`few`). An insert with a callback also satisfies `Insert` (`step`).
+/// (`few`). An insert with a callback is also an `Insert` (`step`).
 pub fn inserts_pass_few<K: Eq + Hash, V, I: LookupKey<K>, L: Insertion<K, V, I>, S: KeyHasher<K>>()
     ensures few { (key : I) (value : V) (old : State K V L S) (result : Result Bool AllocError)
         (passed : List (K × V)) (new : State K V L S) →
@@ -62,10 +62,9 @@ pub fn inserts_pass_few<K: Eq + Hash, V, I: LookupKey<K>, L: Insertion<K, V, I>,
         Insert L.rules L.offers I.names S.hash_of key value old result new }
 {}
 
-/// A `Report` (`specs/Exact`) says whether a table queried the limiter for an insert, and how many entries were evicted
-/// because growth was refused. If a table has up to 16 buckets, `small_report` computes the report from the entries,
-/// the limiter, the number of buckets, the growth left, and constants of the map. The insert changes the entries as the
-/// report says, unless memory runs out.
+/// An insert into a table of up to 16 buckets changes the entries as `small_report` (`specs/Exact`) says, unless memory
+/// runs out. `small_report` computes whether the table queries the limiter, and how many entries are evicted because
+/// growth is refused.
 pub fn small_inserts_are_exact<
     K: Eq + Hash,
     V,
@@ -79,10 +78,10 @@ pub fn small_inserts_are_exact<
         InsertsInSmallTable L.rules L.offers I.names old key value result (contents new) }
 {}
 
-/// An insert changes the entries as the `Report` of the table says (`exact`; see `small_inserts_are_exact`). Every
-/// insert has a report (`given`). Suppose that the limiter and the arguments determine what `on_insert` does
-/// (`IsDetermined`), and that two inserts return `Ok`. If their arguments and reports are equal, and they begin with
-/// equal entries and limiters, they return equal results, and end with equal entries and limiters (`alike`).
+/// An insert changes the entries as the `Report` of the table (`specs/Exact`) says (`exact`). Every insert has a report
+/// (`given`). Suppose that the limiter and the arguments determine what `on_insert` does (`IsDetermined`), and that two
+/// inserts return `Ok`. If their arguments, reports, entries and limiters are equal, their results are equal, and so
+/// are the entries and limiters afterwards (`alike`).
 pub fn inserts_are_exact_unless_refused<
     K: Eq + Hash,
     V,
@@ -169,10 +168,10 @@ pub fn deleted_buckets_serve<
         IsAdded L.rules L.offers I.names key value pair old result new }
 {}
 
-/// An insert pays for the entries that it moves. The count of moved entries, plus the `potential` (`specs/State`),
-/// rises by at most 2 for the entry that the insert stores (`rise`). So inserts moved at most two entries for each
-/// stored entry, plus one for each entry that a shrink rehashed (`paid`). The table counts every insertion (`counted`).
-/// `rise` and `counted` hold until a count stops at `u64::MAX`.
+/// The count of moved entries, plus the `potential` (`specs/State`), rises by at most 2 for the entry that the insert
+/// stores (`rise`). So inserts moved at most two entries for each stored entry, plus one for each entry that a shrink
+/// rehashed (`paid`). The table counts every insertion (`counted`). `rise` and `counted` hold until a count stops at
+/// `u64::MAX`.
 pub fn inserts_pay_for_moves<
     K: Eq + Hash,
     V,

@@ -83,8 +83,7 @@ pub enum GetOrInsertError<E> {
     Caller(E),
 }
 
-/// Three counts of a map: the entries that its inserts moved, the new entries that its inserts stored, and the entries
-/// that its shrinks rehashed.
+/// The numbers of entries that inserts moved, that inserts stored, and that shrinks rehashed.
 ///
 /// ```
 /// let mut map: LruMap<u64, u64> = LruMap::with_limiter(alloc, ByLength::new(3));
@@ -93,10 +92,10 @@ pub enum GetOrInsertError<E> {
 /// ```
 #[derive(Clone, Copy, Debug, PartialEq, Eq)]
 pub struct MoveReport {
-    /// Entries that inserts moved, because the table grew or was rehashed. Entries that `try_reserve` or `try_insert`
-    /// moved are not counted.
+    /// Entries that inserts moved, because the table grew or was rehashed. Moves by `try_reserve` and `try_insert` are
+    /// not counted.
     pub moved: u64,
-    /// New entries that inserts stored. Inserts by `try_insert` are counted, too.
+    /// New entries that inserts stored, including `try_insert`.
     pub placed: u64,
     /// Entries that `shrink_to_fit` rehashed.
     pub shrunk: u64,

@@ -28,17 +28,17 @@ use Rattle.lru_replay.specs.Replies.{Reply, flag, given, updated, value, pair, l
 use Rattle.lru_replay.specs.Replies.{insert_reply, made_reply}
 
 module _ {K V : Type 0} (eq : K → K → Bool) (hash_of : K → ℕ) where
-  -- What a search by a hash finds for a key. If an equal key is stored, and the stored key's hash has the same tag as
-  -- the searched hash, the search may find the pair of the stored key. If no equal key is stored, or the stored key's
-  -- hash differs from the searched hash, the search may find nothing.
+  -- What a search by a hash finds for a key. It may find the pair of an equal stored key if the hash of the stored key
+  -- has the tag of the searched hash. It may find nothing if no equal key is stored, or if the hash of the stored key
+  -- differs from the searched hash.
   pub data FindsByHash (hash : ℕ) (key : K) (pairs : List (K × V)) (result : Option V) : Type 0 where
     found : (there : K × V) → lookup_entry (eq key) pairs ≡ Some there → hash_tag (hash_of there.0) ≡ hash_tag hash
         → result ≡ Some there.1 → FindsByHash hash key pairs result
     not_found : ((there : K × V) → lookup_entry (eq key) pairs ≡ Some there → hash_of there.0 ≡ hash → ⊥)
         → result ≡ None → FindsByHash hash key pairs result
 
--- What a call names: nothing, a key, or the newest pair. A call that names a key may move, write or remove the pair of
--- this key. A call that names the newest pair pops this pair.
+-- What a call names: nothing, a key (whose pair the call may move, write or remove), or the newest pair (which the call
+-- pops).
 pub data Named (K : Type 0) : Type 0 where
   nothing : Named K
   a_key : K → Named K

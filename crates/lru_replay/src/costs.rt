@@ -111,9 +111,8 @@ pub fn references_keep_the_newest<K: Eq + Hash + Drop, V: Drop, S: KeyHasher<K>>
 {}
 
 /// Suppose that equal keys cost the same, and that the references of one trace are made on two maps, by any calls. If
-/// the keys of the map with the smaller limit are exactly the newest few keys of the other map before the trace, this
-/// is still so after the trace (`front`). In this case, the map with the smaller limit misses at least as often as the
-/// other map (`misses`).
+/// the map with the smaller limit begins with exactly the newest few keys of the other map, this is still so after the
+/// trace (`front`). In this case, it misses at least as often as the other map (`misses`).
 pub fn more_capacity_never_misses_more<K: Eq + Hash + Drop, V: Drop, S: KeyHasher<K>>()
     ensures front { (weight : K → V → ℕ) (cost : K → ℕ) (trace : List K) (missed other_missed : ℕ)
         (old small other large : State K V Budget S) →

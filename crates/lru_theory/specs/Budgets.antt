@@ -31,8 +31,8 @@ module _ {K : Type 0} (eq : K → K → Bool) (cost : K → ℕ) where
   abbrev pub needs : K → List K → ℕ
   needs key past = cost key + sum_by cost (recency eq (since eq key past))
 
-  -- Whether a reference to the key misses in a cache with the limit n. It misses if it is the first reference to the
-  -- key, or if the key needs more than n (`needs`).
+  -- A reference to the key misses in a cache with the limit n if it is the first reference to the key, or if the key
+  -- needs more than n (`needs`).
   abbrev pub is_far_within : ℕ → K → List K → Bool
   is_far_within n key past = not (is_in eq key past) || nat_lt n (needs key past)
 

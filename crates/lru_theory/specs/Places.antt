@@ -16,8 +16,7 @@ module _ {K : Type 0} (test : K → Bool) where
   contains_it None = false
   contains_it (Some key) = test key
 
-  -- The number of places before the first place whose key passes the test. If no key passes the test, the result is the
-  -- number of all places.
+  -- the number of places before the first place whose key passes the test, or of all places if no key passes the test
   abbrev pub place_of : List (Option K) → ℕ
   place_of [] = 0
   place_of (place ∷ places) = if contains_it place then 0 else suc (place_of places)
@@ -54,8 +53,7 @@ module _ {K : Type 0} (eq : K → K → Bool) where
   call_fault clears keys = 0
   call_fault looks keys = 0
 
-  -- The number of these calls that reference a key that is not cached. The LRU cache has n places, and begins with
-  -- `keys`.
+  -- how many of the calls reference a key that is not cached, in an LRU cache of n places that begins with `keys`
   abbrev pub call_faults : ℕ → List (KeyCall K) → List K → ℕ
   call_faults n [] keys = 0
   call_faults n (call ∷ calls) keys = call_fault call keys + call_faults n calls (after_call eq n call keys)

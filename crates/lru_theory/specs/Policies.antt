@@ -10,17 +10,16 @@ module _ {K : Type 0} (eq : K → K → Bool) where
   outside others (key ∷ keys) = fault eq key others + outside others keys
 
 module _ {K : Type 0} (eq : K → K → Bool) (places : ℕ) where
-  -- How a demand policy may change its cache at a reference. The number of type ℕ is 1 at a miss, and 0 at a hit. At a
-  -- hit, the policy changes nothing. At a miss, the policy stores the key, and evicts any one key or no key.
+  -- How a demand policy may change its cache at a reference. At a hit, the number of type ℕ is 0, and nothing changes.
+  -- At a miss, the number is 1, and the policy stores the key, and evicts any one key or no key.
   pub data Demands (key : K) (old : List K) : ℕ → List K → Type 0 where
     finds : is_in eq key old ≡ true → Demands key old 0 old
     stores : is_in eq key old ≡ false → length old + 1 ≤ places → Demands key old 1 (key ∷ old)
     replaces : is_in eq key old ≡ false → (evicted : K) → length (remove_key (eq evicted) old) + 1 ≤ places →
         Demands key old 1 (key ∷ remove_key (eq evicted) old)
 
-  -- How a policy may change its cache at a reference. The policy may load and evict any keys, even keys that are not
-  -- referenced yet. The policy pays for each key that it loads. After the reference, the referenced key is in the
-  -- cache.
+  -- How a policy that may load keys ahead may change its cache at a reference. It may load and evict any keys, and pays
+  -- for each key that it loads. After the reference, the referenced key is in the cache.
   pub record Loads (key : K) (old : List K) (paid : ℕ) (new : List K) : Type 0 where
     pub fits : length new ≤ places
     pub stores : is_in eq key new ≡ true

@@ -32,8 +32,8 @@ module _ {K : Type 0} (eq : K → K → Bool) where
   abbrev pub distance : K → List K → ℕ
   distance key past = length (recency (since key past))
 
-  -- Whether a reference to the key misses in a cache of n places. It misses if it is the first reference to the key, or
-  -- if the key's reuse distance is at least n.
+  -- A reference to the key misses in a cache of n places if it is the first reference to the key, or if the key's reuse
+  -- distance is at least n.
   abbrev pub is_far : ℕ → K → List K → Bool
   is_far n key past = not (is_in key past) || nat_le n (distance key past)
 

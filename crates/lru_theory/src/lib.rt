@@ -50,7 +50,7 @@ pub fn lru_is_competitive<K: Eq>()
         (k - h) * misses K.eq k past trace ≤ k * paid + (k - h) * length first }
 {}
 
-/// Take a policy that has h places, begins with at most h keys, may load keys ahead, and pays `paid` times. Some demand
+/// Take a policy with h places that may load keys ahead, begins with at most h keys, and pays `paid` times. Some demand
 /// policy with h places and the same first keys misses at most `paid` times.
 pub fn loading_ahead_gains_nothing<K: Eq>()
     ensures { (h : ℕ) (trace first left : List K) (paid : ℕ) → length first ≤ h →
@@ -73,11 +73,9 @@ pub fn a_smaller_cache_is_included<K: Eq>()
 {}
 
 /// One list of places holds the keys of LRU caches of every size, even if keys are removed. If no call is a promotion
-/// (`promotes`), the cache of n places contains exactly the keys in the first n places (`keys`). A removed key leaves a
-/// free place. A reference adds a place with its key at the front. It takes out the first old place that is free or
-/// contains the key, if there is one. If the place that was taken out was free, the key's old place becomes free. So
-/// the cache of n places contains a key if fewer than n places come before the key (`finds`). If all calls are
-/// references, the number of misses is the same as for a trace (`misses`).
+/// (`promotes`), the cache of n places contains exactly the keys in the first n places (`keys`). So this cache contains
+/// a key if fewer than n places come before the key (`finds`). If all calls are references, the number of misses is the
+/// same as for a trace (`misses`).
 pub fn deletes_leave_places<K: Eq>()
     ensures keys { (n : ℕ) (calls : List (KeyCall K)) (places : List (Option K)) → AllByRecursion IsNoPromotion calls →
         keys_in (take n (place_calls K.eq calls places)) ≡ after_calls K.eq n calls (keys_in (take n places)) }
@@ -87,9 +85,8 @@ pub fn deletes_leave_places<K: Eq>()
         call_faults K.eq n (map refers trace) keys ≡ faults K.eq n keys trace }
 {}
 
-/// If the keys of the cache with the smaller budget are exactly the newest few keys of the other cache, this is still
-/// so after any trace (`front`). In this case, the cache with the smaller budget misses at least as often as the other
-/// cache (`misses`).
+/// Suppose that the cache with the smaller budget has exactly the newest few keys of the other cache. This is still so
+/// after any trace (`front`), and the smaller cache misses at least as often as the other cache (`misses`).
 pub fn a_larger_budget_never_misses_more<K: Eq>()
     ensures front { (cost : K → ℕ) (n m some : ℕ) (keys trace : List K) → n ≤ m →
         let small = cached_within K.eq cost n (take some keys) trace in
@@ -111,11 +108,10 @@ pub fn a_budget_keeps_the_newest<K: Eq>()
         ≡ misses_within K.eq cost n past trace }
 {}
 
-/// The misses of MIN are at most the payments of any policy that stores each referenced key. The policy may load keys
-/// ahead (`loads`), or only on demand (`demands`). The misses of MIN with bypass are at most the payments of any policy
-/// that need not store referenced keys (`bypasses`). All these policies have n places, and begin with no keys. If MIN
-/// has a place, it stores each referenced key (`min`). MIN with bypass is a policy that need not store referenced keys
-/// (`bypass`).
+/// If a policy that stores each referenced key pays `paid` times, MIN misses at most `paid` times. The policy may load
+/// keys ahead (`loads`), or only on demand (`demands`). The same holds for a policy that need not store referenced
+/// keys, and MIN with bypass (`bypasses`). All these policies have n places, and begin with no keys. MIN is itself a
+/// policy of the first kind, if n is not 0 (`min`), and MIN with bypass is a policy of the second kind (`bypass`).
 pub fn min_is_best<K: Eq>()
     ensures loads { (n : ℕ) (trace left : List K) (paid : ℕ) → Served (Loads K.eq n) left [] trace paid →
         min_misses K.eq n trace ≤ paid }

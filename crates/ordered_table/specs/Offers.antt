@@ -5,8 +5,8 @@ use Rattle.lru_limits.specs.Rules.{Replaced}
 use Rattle.lru_model.specs.Inserts.{unkept_of}
 use Rattle.ordered_table.specs.OrderedTable.{OrderedTable, with_pair}
 
--- `by` is what the limiter did when it was offered a new value. `after` is the stored pair after the offer. If the
--- limiter accepted the new value, `after` has the new value. `value` is the value that is not stored.
+-- `by` is what the limiter did with the offered value. `after` is the stored pair after the offer, with the new value
+-- if the limiter accepted it. `value` is the value that is not stored.
 pub record Offered {K V S : Type 0} (by : Replaced K V S) (result : Bool) (after : K × V) (limiter : S) (value : V)
     : Type 0 where
   pub taken : result ≡ by.taken

@@ -13,8 +13,8 @@ module _ {K V : Type 0} (t : OrderedTable K V) where
   abbrev pub rest_of : ℕ → ℕ → List (K × V)
   rest_of front left = entries_in t.slots (take left (from_bucket front t.order))
 
-  -- From the front, the walk has returned the entries in the buckets `before`. From the back, the walk has returned the
-  -- entries in the buckets `after`. The entries in the buckets `middle` are left.
+  -- The walk has returned the entries in the buckets `before` from the front, and the entries in the buckets `after`
+  -- from the back. The entries in the buckets `middle` are left.
   pub record IsRest (front back left : ℕ) : Type 0 where
     pub linked : IsLinked t
     pub before : List ℕ

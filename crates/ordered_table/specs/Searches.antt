@@ -15,8 +15,8 @@ module _ {K V F : Type 0} (closure : Mut F (Bor K × (Bor V × Unit {0})) Bool) 
     pub there : entry_at slots b ≡ Some pair
     pub asked : Asks closure f pair answer g
 
-  -- In a search for the hash, f was called with the pairs in the buckets `before`, and rejected each pair. Then f was
-  -- called with the pair in bucket b, and accepted this pair.
+  -- In a search for the hash, f rejected the pairs in the buckets `before`, one after another, and then accepted the
+  -- pair in bucket b.
   pub record FindsPair (hash : ℕ) (f : F) (b : ℕ) : Type 0 where
     pub before : List ℕ
     pub search : IsSearch slots hash (before ++ b ∷ [])
@@ -25,8 +25,8 @@ module _ {K V F : Type 0} (closure : Mut F (Bor K × (Bor V × Unit {0})) Bool) 
     pub last : F
     pub accepted : AnswersPair between b true last
 
-  -- In a search for the hash, f was called with the pairs in the buckets `asked`, and rejected each pair. Suppose that
-  -- the hashes `hash_of` fit the table. If bucket b is full and `hash_of b` is the searched hash, `asked` contains b.
+  -- In a search for the hash, f rejected the pairs in the buckets `asked`, one after another. If the hashes `hash_of`
+  -- fit the table, `asked` contains each full bucket b for which `hash_of b` is the searched hash.
   pub record FindsNoPair (hash : ℕ) (f : F) : Type 0 where
     pub asked : List ℕ
     pub search : IsSearch slots hash asked

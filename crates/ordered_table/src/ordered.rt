@@ -41,8 +41,8 @@ mod promoted;
 /// ```
 pub struct OrderedTable<K, V, N: LinkType> {
     linked: LinkedTable<K, V, N>,
-    // The bucket of the pending promotion: a promotion that is not yet written into the links. The next call that
-    // changes the order writes the promotion.
+    // The bucket of the pending promotion, which is not yet written into the links. The next call that changes the
+    // order writes it.
     promoted: Option<usize>,
 }
 
@@ -155,8 +155,7 @@ impl<K, V, N: LinkType> OrderedTable<K, V, N> {
         promoted::oldest(&self.linked, self.promoted)
     }
 
-    /// Returns the bucket that follows the full bucket `b` in the order, towards the oldest. For the last bucket of the
-    /// order, the result is any number.
+    /// Returns the bucket just older than the full bucket `b`. For the oldest bucket, the result is any number.
     #[inline]
     pub fn older_unless_last(&self, b: usize) -> usize
         requires { IsFull self.now.slots b }
@@ -165,8 +164,7 @@ impl<K, V, N: LinkType> OrderedTable<K, V, N> {
         promoted::older_unless_last(&self.linked, self.promoted, b)
     }
 
-    /// Returns the bucket that precedes the full bucket `b` in the order, towards the newest. For the first bucket of
-    /// the order, the result is any number.
+    /// Returns the bucket just newer than the full bucket `b`. For the newest bucket, the result is any number.
     #[inline]
     pub fn newer_unless_first(&self, b: usize) -> usize
         requires { IsFull self.now.slots b }

@@ -16,7 +16,7 @@ use Rattle.schnellru.specs.declared.map.entry.OccupiedEntry.{OccupiedEntry}
 use Rattle.schnellru.specs.contracts.map.entry.OccupiedEntry.{the_row}
 use mir.Syntax.{named}
 
--- `entry` is an `OccupiedEntry`; the other parameters are members of the traits on which this type depends
+-- `entry` is an `OccupiedEntry`; the other parameters are parts of its type
 module _ {K V L S N H : Type 0} {equal : equality.Ghosts K} {input : hashing.Ghosts K} {limits : limiter.Ghosts L K V N}
     {links : link_type.Ghosts N}
     {keyed : key_hasher.Ghosts S K H} {build : builder.Ghosts S H} {hash : hasher.Ghosts H}

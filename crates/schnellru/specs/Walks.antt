@@ -25,7 +25,7 @@ abbrev pub lent_name : {K V : Type 0} → Option (Bor K × MutBor V) → maybe.O
 lent_name (Some pair) = maybe.some pair.1.ghost_name
 lent_name None = maybe.none
 
--- `walk` is an `IterMut`; the other parameters are members of the traits on which this type depends
+-- `walk` is an `IterMut`; the other parameters are parts of its type
 module _ {K V L S N H : Type 0} {equal : equality.Ghosts K} {input : hashing.Ghosts K} {limits : limiter.Ghosts L K V N}
     {links : link_type.Ghosts N}
     {keyed : key_hasher.Ghosts S K H} {build : builder.Ghosts S H} {hash : hasher.Ghosts H}

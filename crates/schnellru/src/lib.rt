@@ -3,7 +3,7 @@
 //!
 //! [`LruMap`] is the map, and [`ByLength`] is one of its limiters. `docs/LIMITERS.md` shows how to write a limiter and
 //! a look-up key. `docs/CALLING.md` shows how to prove code that calls the map. `docs/DIFFERENCES.md` lists the
-//! differences from the Rust crate `schnellru`. The contract of each function of [`laws`] is a theorem about calls.
+//! differences from the Rust crate `schnellru`. The contracts of [`laws`] are theorems about calls.
 #![tactic(auto)]
 
 // Marks code that is never reached.

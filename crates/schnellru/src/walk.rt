@@ -113,8 +113,8 @@ impl<K: Eq + Hash, V, L: Limiter<K, V>, S: KeyHasher<K>> LruMap<K, V, L, S> {
         Some(self.entries.index_of(b))
     }
 
-    /// Returns the neighbour of a key's entry towards the oldest entry. Returns `None` if the key is not there, or if
-    /// its entry is the oldest. So code can step through a map without an iterator.
+    /// Returns the entry just older than a key's entry, or `None` if the key is not there or its entry is the oldest.
+    /// With this call, code can step through a map without an iterator.
     ///
     /// ```
     /// assert!(rt; map.peek_older(&2) == Some((&1, &10)) && map.peek_older(&1).is_none());
@@ -131,8 +131,7 @@ impl<K: Eq + Hash, V, L: Limiter<K, V>, S: KeyHasher<K>> LruMap<K, V, L, S> {
         Some(self.entries.pair(self.entries.older_unless_last(b)))
     }
 
-    /// Returns the neighbour of a key's entry towards the newest entry. Returns `None` if the key is not there, or if
-    /// its entry is the newest.
+    /// Returns the entry just newer than a key's entry, or `None` if the key is not there or its entry is the newest.
     ///
     /// ```
     /// assert!(rt; map.peek_newer(&2) == Some((&3, &30)) && map.peek_newer(&3).is_none());

@@ -11,11 +11,11 @@ use crate::file_device::durable::Durable;
 use crate::file_device::recorded::{RecordedFile, blocks_of};
 use std::io::{Read, Seek, Write};
 
-/// A device whose blocks are parts of a file. Each block has `N` bytes.
+/// A device like `FileDevice`, whose blocks of `N` bytes contain checksums.
 ///
-/// A write replaces the last 8 bytes of a block by a checksum: the hash of the other bytes and of the block's number.
-/// Contracts do not see the checksum. A read returns `Ok` only if the checksum is right. So a read detects a torn,
-/// damaged or misplaced block, unless the hashes happen to be equal.
+/// A write replaces the last 8 bytes of the block by the hash of the other bytes and of the block's number. Contracts
+/// do not see this checksum. A read returns `Ok` only if the checksum is right, so it detects a torn, damaged or
+/// misplaced block, unless the hashes happen to be equal.
 ///
 /// ```
 /// let file = Cursor::new([0u8; 48]);

@@ -177,8 +177,7 @@ fn clean_page<B: Copy, S: KeyHasher<u64>>(map: &mut Pages<B, S>, n: u64)
 }
 
 impl<B: Copy, D: BlockDevice<B>, S: KeyHasher<u64>> PageCache<B, D, S> {
-    /// Writes a page to the device if the page is cached and dirty. The page is clean afterwards. Does not change the
-    /// order of use.
+    /// If a page is cached and dirty, writes it to the device, and makes it clean. Does not change the order of use.
     ///
     /// `flush_page` does not call `sync`. Until a `flush` returns `Ok`, a crash may leave the old block or a torn
     /// block.

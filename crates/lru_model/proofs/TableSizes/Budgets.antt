@@ -1,4 +1,3 @@
--- The greatest usage within a budget, searched table by table.
 use Rattle.std.proofs.Common.{◌≡◌, ℕ, ◌+◌, ◌-◌, ◌*◌, ◌^◌, ◌<◌, ◌≤◌, ◌⊎◌, inl, inr, Some, None, refl, sym, ◌∙◌, arith}
 use Rattle.std.proofs.Common.{Bool, true, false, cond, pow_pos}
 use native.Mathlib.Decide.{dec_lt}

@@ -1,4 +1,3 @@
--- For the law `deleted_buckets_serve`.
 use Rattle.std.proofs.Common.{◌≡◌, ℕ, ◌+◌, ◌<◌, inl, inr, length, sym, ap, ◌∙◌, arith}
 use Rattle.group_table.specs.Sizes.{IsBucketCount}
 use Rattle.group_table.proofs.SizeLemmas.{power_pos}

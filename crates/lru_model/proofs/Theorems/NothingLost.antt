@@ -1,4 +1,3 @@
--- For the law `nothing_is_lost`.
 use Rattle.std.proofs.Common.{◌≡◌, ℕ, Bool, true, false, List, [], ◌∷◌, ◌++◌, reverse, Some, None, Result, Ok}
 use Rattle.std.proofs.Common.{refl, sym, ap, ◌∙◌, subst, append-nil, ◌⊎◌, inl, inr, cond, arith}
 use Rattle.std.proofs.lemmas.List.{reverse-append, reverse-reverse}

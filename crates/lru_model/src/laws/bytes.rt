@@ -10,10 +10,10 @@ use lru_limits::{Admission, ByBytes, Insertion, KeyHasher, Limiter, OwnedBytes, 
 use std::hash::Hash;
 
 /// A map with `ByBytes` keeps to its limit (`KeepsBytes`) if its limiter counts all bytes of the map, and the count is
-/// at most the limit. If a map keeps to its limit, its bytes are at most this limit (`memory`). The map still keeps to
-/// its limit after each `Step` (`kept`) and each `try_insert` (`tried`). No `Step` changes the limit (`limit`). The
-/// limiter permits a growth only if the new table plus the owned bytes are within the limit (`grown`). The old table,
-/// which exists until all entries have moved, is not counted.
+/// at most the limit. Then the bytes of the map are at most the limit (`memory`). The map still keeps to its limit
+/// after each `Step` (`kept`) and each `try_insert` (`tried`). No `Step` changes the limit (`limit`). The limiter
+/// permits a growth only if the new table plus the owned bytes are within the limit (`grown`). This does not count the
+/// old table, which exists until all entries have moved.
 ///
 /// A new map keeps to its limit (`begins`). Suppose that `set_limiter` sets a limiter that counts the bytes of the map
 /// (`CountsBytes`). If the table alone is within the new limit, the trim brings the map within the new limit

@@ -15,8 +15,8 @@ pub fn shrinks_keep_the_list<K: Eq + Hash, V, L: Limiter<K, V>, S: KeyHasher<K>>
         × (new.counts.moved ≡ old.counts.moved) × (new.counts.placed ≡ old.counts.placed) }
 {}
 
-/// If a shrink makes the table smaller, the shrink rehashes and counts each entry. The `potential` (`specs/State`) is
-/// then at most the number of entries (`shrunk`). If the table keeps its size, the shrink changes nothing (`kept`).
+/// If a shrink makes the table smaller, it rehashes and counts each entry, and the `potential` (`specs/State`) is then
+/// at most the number of entries (`shrunk`). If the table keeps its size, the shrink changes nothing (`kept`).
 pub fn shrinks_pay_for_moves<K: Eq + Hash, V, L: Limiter<K, V>, S: KeyHasher<K>>()
     ensures shrunk { (old new : State K V L S) →
         Shrink old (Ok true) new →

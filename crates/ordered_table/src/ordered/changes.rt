@@ -111,7 +111,7 @@ impl<K, V, N: LinkType> OrderedTable<K, V, N> {
         self.linked.take(b, false)
     }
 
-    /// Takes out the oldest entry. The table must not be empty. Does not read this entry's `older` link.
+    /// Takes out the oldest entry, without reading its `older` link. The table must not be empty.
     ///
     /// Cost: `O(1)`.
     #[inline(always)]
@@ -145,8 +145,7 @@ impl<K: Drop, V: Drop, N: LinkType> OrderedTable<K, V, N> {
 
 impl<K: Eq + Hash, V, N: LinkType> OrderedTable<K, V, N> {
     /// Offers a limiter a new value for the entry in a full bucket. Returns whether the limiter accepted the value. If
-    /// the limiter accepted the value, the entry has the new value afterwards, and `value` is the old value. The order
-    /// stays.
+    /// it did, the entry has the new value, and `value` is the old value. The order stays.
     #[inline]
     pub fn offer<I: LookupKey<K>, L: Insertion<K, V, I>>(
         &mut self,

@@ -34,8 +34,7 @@ pub(crate) fn oldest<K, V, N: LinkType>(
 {
     let b = table.oldest();
     match promoted {
-        // In the links, the promoted bucket is the last bucket. So the bucket before the promoted bucket, if any, is
-        // the oldest.
+        // In the links, the promoted bucket is the last, so the bucket before it, if any, is the oldest.
         Some(p) if p == b => {
             if table.newest() == p {
                 p

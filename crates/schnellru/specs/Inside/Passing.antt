@@ -6,9 +6,9 @@ use Rattle.lru_model.specs.Callbacks.{CalledWith, noting, noted}
 use Rattle.lru_model.specs.State.{State}
 
 module _ {K V F : Type 0} (closure : Mut F (K × (V × Unit {0})) (Unit {0})) where
-  -- This part of a call changes the map from `old` to `new`, as `step` says. It changes the callback from f to g. The
-  -- callback gets the pairs of which the limiter is notified. `before` lists the pairs that the callback got before
-  -- this part. `after` lists all pairs that the callback got by the end of this part.
+  -- This part of a call changes the map from `old` to `new`, as `step` says, and the callback from f to g. The callback
+  -- gets the pairs of which the limiter is notified. By the end of this part, it got the pairs in `after`, which begins
+  -- with the pairs in `before`.
   abbrev pub Passes : {S H : Type 0} → Rules K V S → F → F → State K V S H → State K V S H
       → (Rules K V (S × List (K × V)) → State K V (S × List (K × V)) H → State K V (S × List (K × V)) H → Type 0)
       → Type 0

@@ -28,8 +28,8 @@ pub record IsRemoved {K V S : Type 0} (rules : Rules K V S) (by : Replaced K V S
   pub growth_left : growth_left_of (bucket_states new.slots) ≡ growth_left_of (bucket_states old.slots) + growth_left_at (bucket_states new.slots) b
   pub notified : limiter ≡ (rules.on_removed by.limiter by.key by.old_value).limiter
 
--- The pair in bucket b was evicted or removed. The limiter was notified of the pair, and may have changed the pair that
--- the call returns.
+-- The pair in bucket b was evicted or removed. The limiter was notified of the pair, and may have changed it before the
+-- call returns it.
 pub record IsTakenOut {K V S : Type 0} (rules : Rules K V S) (b : ℕ) (old new : OrderedTable K V) (limiter : S)
     (result : K × V) (after : S) : Type 0 where
   pub pair : K × V
@@ -37,8 +37,8 @@ pub record IsTakenOut {K V S : Type 0} (rules : Rules K V S) (b : ℕ) (old new 
   pub left : Some result ≡ left_of rules limiter (Some pair)
   pub notified : after ≡ notified_of rules (Some pair) limiter
 
--- The limiter was offered a new value for the stored pair of the key. The result says whether the limiter accepted the
--- value, and contains the value that the map does not keep.
+-- The limiter was offered a new value for the key's pair. The result is whether the limiter accepted it, and the value
+-- that the map does not keep.
 pub record IsOffered {K V S H I : Type 0} (rules : Rules K V S) (offers : Offers K V S I) (names : I → K → Bool) (i : I)
     (v : V) (old : State K V S H) (result : Bool × V) (new : State K V S H) : Type 0 where
   pub pair : K × V

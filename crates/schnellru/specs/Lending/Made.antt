@@ -35,7 +35,7 @@ module _ (K V L S N H : RattleType) (key : HashMembers K.Denot)
   lends_or r = LendsSoOk (map_row K V L S N H key limits links hashed hash) V m r
       (λ n w. Made (lent_or_none r) n w) (λ n. LendsNone (lent_or_none r) n)
 
-  -- What `lends_or` says, but with `Ok None` in place of `NotKept`.
+  -- what `lends_or` says, but with `Ok None` instead of `NotKept`
   abbrev pub lends_made : Result (Option (MutBor V.Denot)) E → Fml
   lends_made r = follows_so (map_row K V L S N H key limits links hashed hash) V m.ghost_name
       (name_lent r)

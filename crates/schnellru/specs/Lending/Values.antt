@@ -45,9 +45,9 @@ module _ (K V L S N H : RattleType) (key : HashMembers K.Denot)
     abbrev pub ends_as : State K.Denot V.Denot L.Denot S.Denot → Fml
     ends_as last = follows_so map_row map_row m.ghost_name none (λ _ _. ⊤) (λ n. n ≡ last)
 
-    -- If r is `Some`, r lends the value of a pair that satisfies `gives`. After the loan, the map is what `turned`
-    -- returns for the key of this pair, but the key has the last value written through r. If r is `None`, the map does
-    -- not change.
+    -- If r is `Some`, r lends the value of a pair that satisfies `gives`. After the loan, `turned` has changed the map
+    -- for the key of this pair, and the key has the last value written through r. If r is `None`, the map does not
+    -- change.
     abbrev pub lends_given : (K.Denot × V.Denot → Type 0)
         → ((K.Denot → Bool) → State K.Denot V.Denot L.Denot S.Denot → State K.Denot V.Denot L.Denot S.Denot)
         → Option (MutBor V.Denot) → Fml

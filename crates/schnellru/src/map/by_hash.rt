@@ -15,10 +15,10 @@ impl<K: Eq + Hash, V, L: Limiter<K, V>, S: KeyHasher<K>> LruMap<K, V, L, S> {
 
     /// Searches for an entry that `is_eq` accepts, lends its value for writing, and makes the entry the newest.
     ///
-    /// The map calls `is_eq` only with entries whose hashes agree with `hash` in the top 7 bits. The hashes of other
-    /// keys may agree, too, so `is_eq` has to compare keys. Tests, but no proof, show that `is_eq` gets each entry at
-    /// most once, and is not called again after it returned true. If the result is `None`, `is_eq` rejected each entry
-    /// with this hash, and nothing has changed. `map.hasher().hash_named(&key)` returns the hash of a key.
+    /// `is_eq` gets only entries whose hashes agree with `hash` in the top 7 bits. It has to compare keys, because the
+    /// hashes of other keys may agree, too. Tests, but no proof, show that `is_eq` gets each entry at most once, and is
+    /// not called again after it returned true. If the result is `None`, `is_eq` rejected each entry with this hash,
+    /// and nothing has changed. `map.hasher().hash_named(&key)` returns the hash of a key.
     ///
     /// Cost: `O(1)` expected, including the calls of `is_eq`.
     ///

@@ -1,4 +1,3 @@
-//! A handle on an entry that one search found.
 ghost use Rattle.std.specs.Prelude.{◌≡◌, Bool, None, Some, true, nat_eq, IfSome, IfNone};
 ghost use Rattle.std.specs.List.{list_any};
 ghost use Rattle.std.specs.Borrow.{sem};

@@ -9,11 +9,11 @@ use lru_limits::{KeyHasher, Limiter};
 use std::hash::Hash;
 
 impl<K: Eq + Hash, V, L: Limiter<K, V>, S: KeyHasher<K>> LruMap<K, V, L, S> {
-    /// Removes and returns the oldest entry if the closure returns true for it. In any other case, returns `None` and
-    /// changes nothing.
+    /// Removes and returns the oldest entry if the closure returns true for it. Otherwise, returns `None` and changes
+    /// nothing.
     ///
-    /// Suppose that each use writes the time into the value. Then `while map.pop_oldest_if(..).is_some() {}` removes
-    /// the entries that were not used since a given time.
+    /// If each use writes the time into the value, `while map.pop_oldest_if(..).is_some() {}` removes the entries that
+    /// were not used since a given time.
     ///
     /// ```
     /// assert_eq!(rt; map.pop_oldest_if(|key, _| *key == 9), None);

@@ -6,8 +6,8 @@ use lru_model::MoveReport;
 use std::hash::Hash;
 
 impl<K: Eq + Hash, V, L: Limiter<K, V>, S: KeyHasher<K>> LruMap<K, V, L, S> {
-    /// Returns three counts: the entries that inserts moved, the new entries that inserts stored, and the entries that
-    /// `shrink_to_fit` rehashed. Each count stops at `u64::MAX`.
+    /// Returns how many entries inserts moved and stored, and how many `shrink_to_fit` rehashed. Each count stops at
+    /// `u64::MAX`.
     ///
     /// `moved` is at most `2 * placed + shrunk`. Cost: `O(1)`.
     ///

@@ -1,5 +1,5 @@
 // Erased from crates/group_table/src/control.rt: do not edit.
-//! Control bytes: one for each bucket, and 16 more. So one read gets 16 bytes, from any bucket on.
+//! Control bytes: one for each bucket, and 16 more, so that one read gets 16 bytes from any bucket on.
 
 #[allow(unused_imports)]
 use crate::rattle_std::prelude::*;

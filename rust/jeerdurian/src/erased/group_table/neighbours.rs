@@ -1,6 +1,5 @@
 // Erased from crates/group_table/src/neighbours.rt: do not edit.
-//! Considers all runs of 16 neighbouring buckets that include bucket b, and tests whether each run contains an empty
-//! bucket.
+//! Tests whether each run of 16 neighbouring buckets that includes bucket b contains an empty bucket.
 
 #[allow(unused_imports)]
 use crate::rattle_std::prelude::*;

@@ -104,9 +104,9 @@ impl<T> Table<T> {
 
     /// Takes the entry out of a full bucket.
     ///
-    /// Considers all runs of 16 neighbouring buckets that include this bucket. If each run contains an empty bucket,
-    /// this bucket becomes empty, and the growth left rises by one. Otherwise, this bucket becomes deleted, so that
-    /// searches still go past it. In a table of up to 16 buckets, each run contains an empty bucket.
+    /// If each run of 16 neighbouring buckets that includes this bucket contains an empty bucket, this bucket becomes
+    /// empty, and the growth left rises by one. Otherwise, it becomes deleted, so that searches still go past it. In a
+    /// table of up to 16 buckets, it always becomes empty.
     #[inline(always)]
     pub fn take(&mut self, b: usize) -> T {
         full!(self.control.byte(b));

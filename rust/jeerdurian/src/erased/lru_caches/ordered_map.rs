@@ -162,8 +162,8 @@ impl<K: Eq + Hash, V, S: KeyHasher<K>> OrderedMap<K, V, S> {
 }
 
 impl<K: Eq + Hash, V, S: KeyHasher<K>> OrderedMap<K, V, S> {
-    /// Inserts a key with a value as the newest entry. If the key is in the map, replaces and returns the old value.
-    /// The entry keeps its key and its place in the order.
+    /// Inserts a key with a value as the newest entry. If the key is in the map, replaces and returns the old value,
+    /// and the entry keeps its key and its place.
     ///
     /// Cost: `O(1)` expected, amortised over the inserts.
     ///
@@ -187,7 +187,7 @@ impl<K: Eq + Hash, V, S: KeyHasher<K>> OrderedMap<K, V, S> {
     ///
     /// Cost: `O(len)`.
     ///
-    /// Follows std's `HashMap::retain`. There, the closure may also write the value.
+    /// Follows std's `HashMap::retain`, whose closure may write the value.
     pub fn retain<F: FnMut(&K, &V) -> bool>(&mut self, keep: F) {
         self.map.retain(keep);
     }

@@ -53,8 +53,8 @@ where
 /// The cache contains at most `capacity` pages. A write makes the cached page dirty. The cache writes a dirty page to
 /// the device when it evicts or flushes the page.
 ///
-/// Suppose that a `flush` returned `Ok`, and that no later call wrote a certain block. Then a crash leaves this block
-/// as the cache showed it at the flush. `docs/CACHES.md` names the premises.
+/// After a `flush` that returned `Ok`, a crash leaves each block as the cache showed it at the flush, unless a later
+/// call wrote the block. `docs/CACHES.md` names the premises.
 ///
 /// Call `close` or `discard` at the end. Code that drops or forgets a cache does not compile, because dirty pages would
 /// be lost.

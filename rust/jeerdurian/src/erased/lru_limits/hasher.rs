@@ -18,8 +18,8 @@ const REST_FACTOR: u64 = 0xa54f_f53a_5f1d_36f1;
 
 /// Builds hashers with four seeds. Contracts represent a `RandomState` by the hasher that it builds.
 ///
-/// In a map with an equal `RandomState`, the hash of a key is `state.hash_one(&key)`. Every value that names a key has
-/// the hash of this key. The default seeds are 1, 2, 3, 4, so an attacker can choose keys that collide.
+/// In a map with an equal `RandomState`, the hash of a key is `state.hash_one(&key)`. The default seeds are 1, 2, 3, 4,
+/// so an attacker can choose keys that collide.
 #[derive(Clone, Copy)]
 pub struct RandomState {
     state: u64,

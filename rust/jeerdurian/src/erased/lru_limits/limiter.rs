@@ -32,9 +32,9 @@ pub trait Limiter<K, V> {
     /// Called with each entry that is evicted, removed, popped or taken by an iterator, as soon as the entry is out of
     /// the map. The limiter may write to the key and the value before the caller of the map gets them.
     ///
-    /// Also called with an entry that `on_insert` returned, if the map cannot store the entry. If a clear or a `Drain`
-    /// drops an entry, the map does not call `on_removed`. The drop of the map or of an `IntoIter` does not call
-    /// `on_removed` either, but no contract says so.
+    /// Also called with an entry that `on_insert` returned, if the map cannot store the entry. Not called with an entry
+    /// that a clear or a `Drain` drops. The drop of the map or of an `IntoIter` does not call `on_removed` either, but
+    /// no contract says so.
     fn on_removed(&mut self, key: &mut K, value: &mut V);
 
     /// Called once by each clear of the map, even if the map is empty. Dropping a `Drain` counts as a clear.
@@ -45,8 +45,8 @@ pub trait Limiter<K, V> {
     /// Called by an insert that finds no bucket for a new entry, and by `try_reserve` and `try_insert` if too little
     /// growth is left. Not called if there is no larger table, or if the table is rehashed without growing. If the
     /// result is `false`, the insert evicts the oldest entries to store the new entry, and `try_reserve` and
-    /// `try_insert` fail. If the result is `true`, the allocation of the table may still fail. The limiter is not
-    /// notified of this failure.
+    /// `try_insert` fail. If the result is `true`, the allocation of the table may still fail, and the limiter is not
+    /// notified of this.
     fn on_grow(&mut self, new_memory_usage: usize) -> bool;
 }
 
@@ -56,9 +56,9 @@ pub trait Limiter<K, V> {
 /// limiter accepts the entry. The impl defines `offers`: what may be stored for an offered entry, when an offer may run
 /// out of memory, and what a replacement does. Each [`crate::Admission`] is an `Insertion`.
 pub trait Insertion<K: Eq + Hash, V, I: LookupKey<K>>: Limiter<K, V> {
-    /// Called by an insert with a new key and its value, before the insert evicts anything. The map has `length`
-    /// entries. Returns the entry to store, or `None` to reject the offered entry. After a rejection, the map's entries
-    /// are unchanged.
+    /// Returns the entry to store, or `None` to reject the offered entry. Called by an insert with a new key and its
+    /// value, before the insert evicts anything. The map has `length` entries. If the entry is rejected, they do not
+    /// change.
     ///
     /// # Errors
     ///
@@ -66,8 +66,8 @@ pub trait Insertion<K: Eq + Hash, V, I: LookupKey<K>>: Limiter<K, V> {
     /// out of memory.
     fn on_insert(&mut self, alloc: Global, length: usize, key: I, value: V) -> Result<Option<(K, V)>, AllocError>;
 
-    /// Called by an insert or an update before `new_value` replaces `old_value`. The map has `length` entries, and
-    /// `new_key` names the stored `old_key`. The limiter may change `old_key` only to an equal key. Returns whether the
-    /// new value is accepted. If the value is rejected, the map removes the entry.
+    /// Returns whether the new value is accepted. Called by an insert or an update before `new_value` replaces
+    /// `old_value`. The map has `length` entries, and `new_key` names the stored `old_key`. The limiter may change
+    /// `old_key` only to an equal key. If the value is rejected, the map removes the entry.
     fn on_replace(&mut self, length: usize, old_key: &mut K, new_key: I, old_value: &mut V, new_value: &mut V) -> bool;
 }

@@ -30,19 +30,18 @@ pub use runs::{
 pub use shrinks::{shrinks_keep_the_list, shrinks_leave_a_tight_table, shrinks_pay_for_moves};
 
 /// If an insert into a map of n entries leaves m entries, and passes p entries to its callback, m + p is at most n + 1
-/// (`few`). An insert with a callback also satisfies `Insert` (`step`).
+/// (`few`). An insert with a callback is also an `Insert` (`step`).
 pub fn inserts_pass_few<K: Eq + Hash, V, I: LookupKey<K>, L: Insertion<K, V, I>, S: KeyHasher<K>>() {}
 
-/// A `Report` (`specs/Exact`) says whether a table queried the limiter for an insert, and how many entries were evicted
-/// because growth was refused. If a table has up to 16 buckets, `small_report` computes the report from the entries,
-/// the limiter, the number of buckets, the growth left, and constants of the map. The insert changes the entries as the
-/// report says, unless memory runs out.
+/// An insert into a table of up to 16 buckets changes the entries as `small_report` (`specs/Exact`) says, unless memory
+/// runs out. `small_report` computes whether the table queries the limiter, and how many entries are evicted because
+/// growth is refused.
 pub fn small_inserts_are_exact<K: Eq + Hash, V, I: LookupKey<K>, L: Insertion<K, V, I>, S: KeyHasher<K>>() {}
 
-/// An insert changes the entries as the `Report` of the table says (`exact`; see `small_inserts_are_exact`). Every
-/// insert has a report (`given`). Suppose that the limiter and the arguments determine what `on_insert` does
-/// (`IsDetermined`), and that two inserts return `Ok`. If their arguments and reports are equal, and they begin with
-/// equal entries and limiters, they return equal results, and end with equal entries and limiters (`alike`).
+/// An insert changes the entries as the `Report` of the table (`specs/Exact`) says (`exact`). Every insert has a report
+/// (`given`). Suppose that the limiter and the arguments determine what `on_insert` does (`IsDetermined`), and that two
+/// inserts return `Ok`. If their arguments, reports, entries and limiters are equal, their results are equal, and so
+/// are the entries and limiters afterwards (`alike`).
 pub fn inserts_are_exact_unless_refused<K: Eq + Hash, V, I: LookupKey<K>, L: Insertion<K, V, I>, S: KeyHasher<K>>() {}
 
 /// An insert changes the entries as it would change a plain list without a table (`InsertsInList`), under two premises.
@@ -60,10 +59,10 @@ pub fn inserts_grow_little<K: Eq + Hash, V, I: LookupKey<K>, L: Insertion<K, V, 
 /// deleted (`only`).
 pub fn deleted_buckets_serve<K: Eq + Hash, V, I: LookupKey<K>, L: Insertion<K, V, I>, S: KeyHasher<K>>() {}
 
-/// An insert pays for the entries that it moves. The count of moved entries, plus the `potential` (`specs/State`),
-/// rises by at most 2 for the entry that the insert stores (`rise`). So inserts moved at most two entries for each
-/// stored entry, plus one for each entry that a shrink rehashed (`paid`). The table counts every insertion (`counted`).
-/// `rise` and `counted` hold until a count stops at `u64::MAX`.
+/// The count of moved entries, plus the `potential` (`specs/State`), rises by at most 2 for the entry that the insert
+/// stores (`rise`). So inserts moved at most two entries for each stored entry, plus one for each entry that a shrink
+/// rehashed (`paid`). The table counts every insertion (`counted`). `rise` and `counted` hold until a count stops at
+/// `u64::MAX`.
 pub fn inserts_pay_for_moves<K: Eq + Hash, V, I: LookupKey<K>, L: Insertion<K, V, I>, S: KeyHasher<K>>() {}
 
 /// If growth is refused (`IsRefusedGrowth`), the entries that stay and the new entry fill at least half of the capacity

@@ -81,14 +81,13 @@ where
     }
 }
 
-/// Three counts of a map: the entries that its inserts moved, the new entries that its inserts stored, and the entries
-/// that its shrinks rehashed.
+/// The numbers of entries that inserts moved, that inserts stored, and that shrinks rehashed.
 #[derive(Clone, Copy, Debug, PartialEq, Eq)]
 pub struct MoveReport {
-    /// Entries that inserts moved, because the table grew or was rehashed. Entries that `try_reserve` or `try_insert`
-    /// moved are not counted.
+    /// Entries that inserts moved, because the table grew or was rehashed. Moves by `try_reserve` and `try_insert` are
+    /// not counted.
     pub moved: u64,
-    /// New entries that inserts stored. Inserts by `try_insert` are counted, too.
+    /// New entries that inserts stored, including `try_insert`.
     pub placed: u64,
     /// Entries that `shrink_to_fit` rehashed.
     pub shrunk: u64,

@@ -67,8 +67,8 @@ impl<K: Eq + Hash, V, L: Limiter<K, V>, S: KeyHasher<K>> LruMap<K, V, L, S> {
         Some(self.entries.index_of(b))
     }
 
-    /// Returns the neighbour of a key's entry towards the oldest entry. Returns `None` if the key is not there, or if
-    /// its entry is the oldest. So code can step through a map without an iterator.
+    /// Returns the entry just older than a key's entry, or `None` if the key is not there or its entry is the oldest.
+    /// With this call, code can step through a map without an iterator.
     ///
     /// Cost: `O(1)` expected.
     pub fn peek_older<Q: LookupKey<K>>(&self, key: &Q) -> Option<(&K, &V)> {
@@ -79,8 +79,7 @@ impl<K: Eq + Hash, V, L: Limiter<K, V>, S: KeyHasher<K>> LruMap<K, V, L, S> {
         Some(self.entries.pair(self.entries.older_unless_last(b)))
     }
 
-    /// Returns the neighbour of a key's entry towards the newest entry. Returns `None` if the key is not there, or if
-    /// its entry is the newest.
+    /// Returns the entry just newer than a key's entry, or `None` if the key is not there or its entry is the newest.
     ///
     /// Cost: `O(1)` expected.
     pub fn peek_newer<Q: LookupKey<K>>(&self, key: &Q) -> Option<(&K, &V)> {

@@ -24,8 +24,8 @@ pub fn gets_that_insert_if_made_make_references<K: Eq + Hash, V, E, F: FnOnce() 
 pub fn calls_change_the_keys<K: Eq + Hash, V, S: KeyHasher<K>>() {}
 
 /// If a program made the references of a trace, and then makes one more reference, it made the references of the longer
-/// trace. The number of misses stays if the last reference hits (`hits`), and rises by one if the last reference misses
-/// (`misses`). The map still keeps to its length (`keeps`).
+/// trace. The number of misses stays if the last reference hits (`hits`), and rises by one otherwise (`misses`). The
+/// map still keeps to its length (`keeps`).
 pub fn programs_make_references<K: Eq + Hash, V, S: KeyHasher<K>>() {}
 
 /// After the references of a trace, the map contains the `max_length` keys that were referenced last (`keys`). A
@@ -45,12 +45,12 @@ pub fn more_capacity_never_misses_more<K: Eq + Hash, V, S: KeyHasher<K>>() {}
 /// calls of `calls_change_the_keys`.
 pub fn a_smaller_map_is_included<K: Eq + Hash, V, S: KeyHasher<K>>() {}
 
-/// Take a map with `ByLength(k)` that begins with any keys. For a number h ≤ k, take any policy of h places, even one
-/// that knows the trace in advance. The policy begins with the keys `first`, and loads (or bypasses) keys `paid` times
-/// for the same references. If the policy stores each referenced key, the map misses at most
-/// `k / (k + 1 - h) * paid + length first` times. The bound holds for a policy that may load keys ahead (`loads`), and
-/// for a policy that loads on demand and begins with at most h keys (`demands`). If the policy need not store
-/// referenced keys, and h < k, the map misses at most `k / (k - h) * paid + length first` times (`bypasses`).
+/// Take a map with `ByLength(k)` that begins with any keys, and any policy of h ≤ k places, even one that knows the
+/// trace in advance. The policy begins with the keys `first`, and loads (or bypasses) keys `paid` times for the same
+/// references. If the policy stores each referenced key, the map misses at most `k / (k + 1 - h) * paid + length first`
+/// times. The bound holds for a policy that may load keys ahead (`loads`), and for a policy that loads on demand and
+/// begins with at most h keys (`demands`). If the policy need not store referenced keys, and h < k, the map misses at
+/// most `k / (k - h) * paid + length first` times (`bypasses`).
 pub fn maps_are_competitive<K: Eq + Hash, V, S: KeyHasher<K>>() {
     references_keep_the_newest::<K, V, S>();
     crate::erased::lru_theory::lru_is_competitive::<K>();

@@ -9,11 +9,11 @@ use crate::erased::lru_caches::file_device::durable::Durable;
 use crate::erased::lru_caches::file_device::recorded::{RecordedFile, blocks_of};
 use crate::rattle_std::io::{Read, Seek, Write};
 
-/// A device whose blocks are parts of a file. Each block has `N` bytes.
+/// A device like `FileDevice`, whose blocks of `N` bytes contain checksums.
 ///
-/// A write replaces the last 8 bytes of a block by a checksum: the hash of the other bytes and of the block's number.
-/// Contracts do not see the checksum. A read returns `Ok` only if the checksum is right. So a read detects a torn,
-/// damaged or misplaced block, unless the hashes happen to be equal.
+/// A write replaces the last 8 bytes of the block by the hash of the other bytes and of the block's number. Contracts
+/// do not see this checksum. A read returns `Ok` only if the checksum is right, so it detects a torn, damaged or
+/// misplaced block, unless the hashes happen to be equal.
 
 pub struct HashedFileDevice<F, const N: usize> {
     file: RecordedFile<F>,

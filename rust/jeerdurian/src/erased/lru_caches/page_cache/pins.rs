@@ -41,8 +41,7 @@ impl<B: Copy, D: BlockDevice<B>, S: KeyHasher<u64>> PageCache<B, D, S> {
         self.keeps_dirty
     }
 
-    /// Sets whether the cache keeps dirty pages until a flush. While the cache keeps dirty pages, only flushes write to
-    /// the device.
+    /// Sets whether the cache keeps dirty pages until a flush. If it does, only flushes write to the device.
     ///
     /// Cost: `O(1)`.
     pub fn set_keeps_dirty(&mut self, keeps_dirty: bool) {

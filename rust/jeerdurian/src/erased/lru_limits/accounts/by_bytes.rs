@@ -13,7 +13,7 @@ use crate::erased::lru_limits::limiter::Limiter;
 /// minus the bytes of the table, but at least 0. `ByBytes` rejects an entry or a new value if the entry alone owns more
 /// than n bytes, or if the owned bytes would pass `u64::MAX`. Under the premises of `calls_keep_the_bytes` of
 /// `lru_model`, the table plus the owned bytes are within the limit after each call of the map. While the table grows,
-/// the old table also exists, and is not counted.
+/// the old table also exists, but is not counted.
 ///
 /// `shrink_to_fit` does not notify the limiter. To make the limiter count the smaller table, call
 /// `map.set_limiter(map.limiter().with_table(map.memory_usage() as u64))`.

@@ -15,9 +15,8 @@ use crate::rattle_std::hash::Hash;
 pub fn nothing_is_lost<K: Eq + Hash, V, I: LookupKey<K>, L: Insertion<K, V, I>, S: KeyHasher<K>>() {}
 
 /// If growth is left, an insert changes the entries as it would change a plain list without a table (`list`), whatever
-/// `on_grow` returns. Suppose that growth is left, that the limiter accepts a new entry, and that the limiter is not
-/// over its limit with this entry. Then the insert returns true, evicts nothing (`added`), and passes nothing to its
-/// callback (`passed`).
+/// `on_grow` returns. If the limiter also accepts a new entry, and is not over its limit with this entry, the insert
+/// returns true, evicts nothing (`added`), and passes nothing to its callback (`passed`).
 pub fn inserts_with_room_are_exact<K: Eq + Hash, V, I: LookupKey<K>, L: Insertion<K, V, I>, S: KeyHasher<K>>() {}
 
 /// After a successful insert with `ByLength`, the map has the first `max_length` entries of this list: the stored key

@@ -34,8 +34,8 @@ impl<K, V, N: LinkType> Chain<K, V, N> {
         }
     }
 
-    // Returns whether the link leads to a bucket. To save an instruction, compares the link with the number of buckets,
-    // not with `MAX`.
+    // Returns whether the link leads to a bucket. Compares it with the number of buckets, not with `MAX`, to save an
+    // instruction.
     #[inline]
     pub(crate) fn leads(&self, link: N) -> bool {
         self.table.has_bucket(link.into_usize())

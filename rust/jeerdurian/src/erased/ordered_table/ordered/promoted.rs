@@ -20,8 +20,7 @@ pub(crate) fn newest<K, V, N: LinkType>(table: &LinkedTable<K, V, N>, promoted: 
 pub(crate) fn oldest<K, V, N: LinkType>(table: &LinkedTable<K, V, N>, promoted: Option<usize>) -> usize {
     let b = table.oldest();
     match promoted {
-        // In the links, the promoted bucket is the last bucket. So the bucket before the promoted bucket, if any, is
-        // the oldest.
+        // In the links, the promoted bucket is the last, so the bucket before it, if any, is the oldest.
         Some(p) if p == b => {
             if table.newest() == p {
                 p

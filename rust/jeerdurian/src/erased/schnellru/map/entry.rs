@@ -1,6 +1,4 @@
 // Erased from crates/schnellru/src/map/entry.rt: do not edit.
-//! A handle on an entry that one search found.
-
 #[allow(unused_imports)]
 use crate::rattle_std::prelude::*;
 

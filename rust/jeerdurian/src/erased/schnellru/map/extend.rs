@@ -14,8 +14,8 @@ impl<K: Eq + Hash, V, L: Insertion<K, V, K>, S: KeyHasher<K>> LruMap<K, V, L, S>
     ///
     /// # Errors
     ///
-    /// The insert of an entry ran out of memory. The earlier entries were inserted. The later entries were not
-    /// inserted. No contract says whether the iterator yielded later entries.
+    /// The insert of an entry ran out of memory. The earlier entries were inserted, and the later entries were not. No
+    /// contract says whether the iterator yielded later entries.
     ///
     /// Follows std's `Extend::extend`.
     pub fn try_extend<T: IntoIterator<Item = (K, V)>>(&mut self, entries: T) -> Result<(), AllocError>

@@ -16,10 +16,10 @@ impl<K: Eq + Hash, V, L: Limiter<K, V>, S: KeyHasher<K>> LruMap<K, V, L, S> {
     /// removed. If the key is new, the limiter returns the entry to store, or `None` to reject it. If the limiter would
     /// be over its limit with one more entry, the oldest entry is evicted first.
     ///
-    /// If no bucket can take the new entry, the table grows. But if the table contains fewer than half of the entries
-    /// that it may hold, it is rehashed instead. If there is no larger table, or the limiter refuses it, the oldest
-    /// entries are evicted until a bucket can take the new entry. If the evictions leave fewer than half of the entries
-    /// that the table may hold, the table is rehashed. If there is no entry to evict, the new entry is not stored.
+    /// If no bucket can take the new entry, the table grows, or is rehashed if it contains fewer than half of the
+    /// entries that it may hold. If there is no larger table, or the limiter refuses it, the oldest entries are evicted
+    /// until a bucket can take the new entry. If the evictions leave fewer than half of the entries that the table may
+    /// hold, the table is rehashed. If there is no entry to evict, the new entry is not stored.
     ///
     /// At the end, if the key is in the map, the oldest entries are evicted while the limiter is over its limit. A
     /// replaced value is dropped before anything is evicted.
@@ -48,11 +48,10 @@ impl<K: Eq + Hash, V, L: Limiter<K, V>, S: KeyHasher<K>> LruMap<K, V, L, S> {
 
 impl<K: Eq + Hash, V, L: Limiter<K, V>, S: KeyHasher<K>> LruMap<K, V, L, S> {
     /// Does what `insert` does, and passes each evicted entry to the callback, oldest first. The callback also gets an
-    /// entry that is removed because its new value is rejected. It also gets a new entry that the limiter accepted, but
-    /// the map could not store.
+    /// entry whose new value is rejected, and a new entry that the limiter accepted but the map could not store.
     ///
-    /// The callback gets each of these entries once, even if the result is an `Err`. The callback gets an entry before
-    /// the limiter is called again (tested, not proved). The callback does not get a replaced value.
+    /// The callback gets each of these entries once, even if the result is an `Err`. It gets an entry before the
+    /// limiter is called again (tested, not proved). It does not get a replaced value.
     ///
     /// Cost: as `insert`, plus the calls of the callback.
     ///

@@ -7,11 +7,11 @@ use crate::erased::schnellru::map::LruMap;
 use crate::rattle_std::hash::Hash;
 
 impl<K: Eq + Hash, V, L: Limiter<K, V>, S: KeyHasher<K>> LruMap<K, V, L, S> {
-    /// Removes and returns the oldest entry if the closure returns true for it. In any other case, returns `None` and
-    /// changes nothing.
+    /// Removes and returns the oldest entry if the closure returns true for it. Otherwise, returns `None` and changes
+    /// nothing.
     ///
-    /// Suppose that each use writes the time into the value. Then `while map.pop_oldest_if(..).is_some() {}` removes
-    /// the entries that were not used since a given time.
+    /// If each use writes the time into the value, `while map.pop_oldest_if(..).is_some() {}` removes the entries that
+    /// were not used since a given time.
     ///
     /// Cost: `O(1)`, and one call of the closure.
     ///
