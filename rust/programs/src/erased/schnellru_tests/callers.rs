@@ -126,16 +126,16 @@ fn exchange(
     map.insert(new, text)
 }
 
-/// Each insert evicts only the oldest entries. Both inserts pay for the entries that they move. Afterwards, no two keys
-/// are equal.
-fn put_two(map: &mut LruMap<String, u64>, first: String, second: String, value: u64) -> Result<(), AllocError> {
+/// The insert and the update evict only the oldest entries, and pay for the entries that they move. Afterwards, no two
+/// keys are equal.
+fn put_and_update(map: &mut LruMap<String, u64>, first: String, second: String, value: u64) -> Result<(), AllocError> {
     laws::runs_keep_maps::<String, u64, String, ByLength, RandomState>();
     laws::runs_evict_the_oldest::<String, u64, String, ByLength, RandomState>();
     laws::runs_pay_for_moves::<String, u64, String, ByLength, RandomState>();
     let _len = map.len();
     map.insert(first, value)?;
     map.pop_newest();
-    map.insert(second, value)?;
+    map.update(second, value);
     Ok(())
 }
 
