@@ -3,7 +3,7 @@
 use std::fmt::Display;
 use thiserror::Error;
 
-/// What an insert did, with the value that the map does not keep.
+/// What an insert into a map did, with the value that the map does not keep.
 ///
 /// - If the key was new, `unkept` is `None`. `kept` is false if the limiter rejected the new entry, if the map could
 ///   not store it, or if the map stored and then evicted it.

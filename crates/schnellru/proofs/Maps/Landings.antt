@@ -1,10 +1,10 @@
 -- A pair is stored in the first free bucket of a linked table, as the newest.
-use Rattle.std.proofs.Common.{◌≡◌, ℕ, ◌^◌, ◌<◌, ◌∷◌, ◌++◌, length, refl, sym, ap, ◌∙◌, arith}
+use Rattle.std.proofs.Common.{◌≡◌, ℕ, ◌^◌, ◌<◌, ◌∷◌, ◌++◌, length, sym, ap, ◌∙◌, arith}
 use Rattle.std.proofs.Common.{slice_set, subst, Bool, None}
 use Rattle.std.specs.Prelude.{option_to_list}
 use Rattle.std.proofs.lemmas.List.{length-set, get_or-set_same}
 use Rattle.group_table.specs.Sizes.{full_capacity}
-use Rattle.group_table.specs.Bucket.{empty, full, entry_of, bucket_states, growth_left}
+use Rattle.group_table.specs.Bucket.{empty, full, entry_of, bucket_states}
 use Rattle.group_table.specs.Bucket.{IsFull}
 use Rattle.group_table.specs.Probe.{hash_tag, filled}
 use Rattle.group_table.specs.Change.{count_up, insertion_count}

@@ -1,5 +1,5 @@
 use Rattle.std.proofs.Common.{[], Ok, inl, refl, ap, subst, arith, sym}
-use Rattle.lru_model.specs.State.{buckets, growth_left}
+use Rattle.lru_model.specs.State.{buckets}
 use Rattle.lru_model.specs.Place.{placed, in_bucket, FillsBucket}
 use Rattle.lru_model.specs.Callbacks.{noted}
 use Rattle.schnellru.proofs.Maps.NotedStates.{noted_placed}

@@ -2,7 +2,7 @@ use Rattle.std.proofs.Common.{◌≡◌, ◌/◌, ◌<◌, ◌≤◌, suc, None,
 use Rattle.std.proofs.Common.{arith}
 use Rattle.group_table.specs.Sizes.{full_capacity}
 use Rattle.lru_model.specs.Lists.{lookup_entry}
-use Rattle.lru_model.specs.State.{buckets, growth_left}
+use Rattle.lru_model.specs.State.{buckets}
 use Rattle.lru_model.specs.Place.{HasPairsButNoGrowth}
 use Rattle.lru_model.specs.MayTake.{MayTakeEach}
 use Rattle.lru_model.specs.Callbacks.{noting, noted}
