@@ -84,9 +84,8 @@ fn owned_bytes_of_more_types() {
     let numbers = std::num::NonZeroU64::MIN.owned_bytes() + std::num::NonZero::<i8>::MIN.owned_bytes();
     let times = std::time::Duration::MAX.owned_bytes() + std::time::Instant::now().owned_bytes();
     assert_eq!((none, numbers, times), (0, 0, 0));
-    let text = String::with_capacity(17);
-    assert_eq!((1u8, 2u8, text.clone()).owned_bytes(), text.clone().owned_bytes());
-    assert_eq!((1u8, String::with_capacity(17), text, 2u8).owned_bytes(), 48);
+    let text = || String::with_capacity(17);
+    assert_eq!(((1u8, 2u8, text()).owned_bytes(), (1u8, text(), text(), 2u8).owned_bytes()), (48, 96));
     // A shared block has two counts: 16 + 17 bytes, rounded up to 40, count as 48 + 16.
     assert_eq!((Arc::<str>::from("a".repeat(17)).owned_bytes(), Rc::<[u8]>::from(vec![1; 17]).owned_bytes()), (64, 64));
     assert_eq!(Arc::new("a".repeat(17)).owned_bytes(), 64 + 48);
@@ -219,6 +218,7 @@ fn options_have_defaults() {
 }
 
 #[test]
+#[allow(clippy::manual_hash_one)]
 fn a_key_is_found_by_the_hash_that_its_hasher_builds() {
     use std::hash::{BuildHasher, Hash, Hasher};
     let mut map = LruMap::new(ByLength::new(3));
