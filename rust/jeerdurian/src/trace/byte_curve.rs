@@ -75,6 +75,7 @@ impl ByteCurve {
     }
 
     /// Returns how many counted references miss in an LRU cache with this limit. `None` if `new` did not get the limit.
+    /// Cost: in proportion to the number of limits.
     pub fn misses(&self, limit: u64) -> Option<u64> {
         self.0.misses(limit)
     }

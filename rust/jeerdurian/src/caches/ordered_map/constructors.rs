@@ -1,9 +1,9 @@
 //! How an ordered map is made.
 
 use super::OrderedMap;
+use crate::ReserveError;
 use crate::erased::lru_caches as proved;
 use crate::rattle_std::alloc::Global;
-use crate::{RandomState, ReserveError};
 use core::hash::{BuildHasher, Hash};
 
 #[cfg(feature = "runtime-rng")]
@@ -16,7 +16,7 @@ impl<K: Eq + Hash, V> OrderedMap<K, V> {
     /// assert!(map.is_empty());
     /// ```
     pub fn new() -> Self {
-        Self::with_hasher(RandomState::default())
+        Self::with_hasher(crate::RandomState::default())
     }
 
     /// Makes an empty map as `new` does, and reserves growth for this many entries. Cost: `O(buckets)`.
@@ -34,7 +34,7 @@ impl<K: Eq + Hash, V> OrderedMap<K, V> {
     /// # }
     /// ```
     pub fn with_capacity(capacity: usize) -> Result<Self, ReserveError> {
-        Self::with_capacity_and_hasher(capacity, RandomState::default())
+        Self::with_capacity_and_hasher(capacity, crate::RandomState::default())
     }
 }
 
