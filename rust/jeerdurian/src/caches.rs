@@ -10,7 +10,7 @@ mod page_cache;
 pub use counted::{CountedMap, Counts};
 pub use devices::{Durable, FileDevice, FileError, HashedFileDevice};
 pub use memo::{Loader, Memo};
-pub use ordered_map::{Entries, IntoEntries, Keys, OrderedMap, Values};
+pub use ordered_map::{Entries, EntriesMut, IntoEntries, Keys, OrderedMap, Values, ValuesMut};
 #[cfg(feature = "runtime-rng")]
 pub use page_cache::with_cache;
 pub use page_cache::{BlockDevice, PageCache, PageError, Unclosed};

@@ -1,6 +1,9 @@
-//! Impls of `Costed` and `OwnedBytes` for types that the erased crates do not cover.
+//! Impls of `Costed` for types that the erased crates do not cover. Signed numbers have none, because a negative cost
+//! means nothing.
 
-use crate::erased::lru_limits::{Costed, OwnedBytes};
+mod owned_bytes;
+
+use crate::erased::lru_limits::Costed;
 use alloc::boxed::Box;
 use alloc::rc::Rc;
 use alloc::sync::Arc;
@@ -30,6 +33,46 @@ impl<T> Costed for Vec<T> {
     }
 }
 
+impl<T, const N: usize> Costed for [T; N] {
+    /// Returns the number of items.
+    #[inline]
+    fn cost(&self) -> u64 {
+        N as u64
+    }
+}
+
+impl<T: Costed> Costed for Option<T> {
+    /// Returns the cost of the value, or 0 if there is none.
+    #[inline]
+    fn cost(&self) -> u64 {
+        self.as_ref().map_or(0, T::cost)
+    }
+}
+
+impl Costed for () {
+    /// Returns 0.
+    #[inline]
+    fn cost(&self) -> u64 {
+        0
+    }
+}
+
+macro_rules! costs_the_sum {
+    ($($part:ident $place:tt),*) => {
+        impl<$($part: Costed),*> Costed for ($($part,)*) {
+            /// Returns the sum of the costs of the parts, at most `u64::MAX`.
+            #[inline]
+            fn cost(&self) -> u64 {
+                0u64$(.saturating_add(self.$place.cost()))*
+            }
+        }
+    };
+}
+
+costs_the_sum!(A 0, B 1);
+costs_the_sum!(A 0, B 1, C 2);
+costs_the_sum!(A 0, B 1, C 2, D 3);
+
 macro_rules! costs_as_its_target {
     ($($pointer:ty)*) => {$(
         impl<T: Costed + ?Sized> Costed for $pointer {
@@ -43,60 +86,3 @@ macro_rules! costs_as_its_target {
 }
 
 costs_as_its_target!(&T Box<T> Rc<T> Arc<T>);
-
-macro_rules! owns_nothing {
-    ($($type:ty)*) => {$(
-        impl OwnedBytes for $type {
-            /// Returns 0.
-            #[inline]
-            fn owned_bytes(&self) -> u64 {
-                0
-            }
-        }
-    )*};
-}
-
-owns_nothing!(() i8 i16 i128 isize f32 f64);
-
-/// Returns the bytes of a block, rounded as the docs of `OwnedBytes` say.
-#[inline]
-fn block_bytes<T>(items: usize) -> u64 {
-    match items.saturating_mul(size_of::<T>()) as u64 {
-        0 => 0,
-        bytes => bytes.saturating_add(31) / 16 * 16,
-    }
-}
-
-fn items_own<T: OwnedBytes>(items: &[T]) -> u64 {
-    items.iter().fold(0, |sum, item| sum.saturating_add(item.owned_bytes()))
-}
-
-impl<T: OwnedBytes> OwnedBytes for Vec<T> {
-    /// Returns the bytes of the vector's block (its whole capacity), plus the bytes that its items own.
-    fn owned_bytes(&self) -> u64 {
-        block_bytes::<T>(self.capacity()).saturating_add(items_own(self))
-    }
-}
-
-impl<T: OwnedBytes, const N: usize> OwnedBytes for [T; N] {
-    /// Returns the bytes that the items own.
-    #[inline]
-    fn owned_bytes(&self) -> u64 {
-        items_own(self)
-    }
-}
-
-impl<T: OwnedBytes> OwnedBytes for Box<[T]> {
-    /// Returns the bytes of the block, plus the bytes that the items own.
-    fn owned_bytes(&self) -> u64 {
-        block_bytes::<T>(self.len()).saturating_add(items_own(self))
-    }
-}
-
-impl OwnedBytes for Box<str> {
-    /// Returns the bytes of the block.
-    #[inline]
-    fn owned_bytes(&self) -> u64 {
-        block_bytes::<u8>(self.len())
-    }
-}

@@ -49,15 +49,17 @@ mod of_std {
     use super::*;
     use crate::Admission;
     use crate::caches::{
-        BlockDevice, CountedMap, Entries, FileDevice, HashedFileDevice, IntoEntries, Keys, Loader, Memo, PageCache,
-        Unclosed, Values,
+        BlockDevice, CountedMap, Entries, EntriesMut, FileDevice, HashedFileDevice, IntoEntries, Keys, Loader, Memo,
+        PageCache, Unclosed, Values, ValuesMut,
     };
-    use crate::trace::{Best, ByteCurve, Curve};
+    use crate::trace::{Best, ByteCurve, Curve, DeleteCurve};
     use core::fmt::Debug;
     use core::hash::Hash;
 
     shows! {
         [K, V] Entries: Entries<'_, K, V>, left: |it| it.len();
+        [K, V] EntriesMut: EntriesMut<'_, K, V>, left: |it| it.len();
+        [K, V] ValuesMut: ValuesMut<'_, K, V>, left: |it| it.len();
         [K, V] Keys: Keys<'_, K, V>, left: |it| it.len();
         [K, V] Values: Values<'_, K, V>, left: |it| it.len();
         [K: Eq + Hash, V, S: BuildHasher] IntoEntries: IntoEntries<K, V, S>, left: |it| it.len();
@@ -71,5 +73,6 @@ mod of_std {
         [] Best: Best;
         [] ByteCurve: ByteCurve, keys: |it| it.keys();
         [] Curve: Curve, keys: |it| it.keys();
+        [] DeleteCurve: DeleteCurve, places: |it| it.places();
     }
 }

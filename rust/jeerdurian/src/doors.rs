@@ -7,6 +7,7 @@ use crate::Unlimited;
 use crate::erased::lru_limits::{KeyHasher, LookupKey};
 use crate::erased::ordered_table::OrderedTable;
 use crate::erased::schnellru as proved;
+use crate::fallible::out_of_memory;
 use crate::rattle_std::alloc::{AllocError, Global};
 use core::hash::{BuildHasher, Hash};
 
@@ -26,11 +27,6 @@ pub(crate) fn new_map<K: Hash + Eq, V, S: BuildHasher>(hasher: S) -> Map<K, V, S
 /// Clones a map. If memory runs out, the program ends, as with both crates.
 pub(crate) fn clone_map<K: Clone, V: Clone, S: Clone>(map: &Map<K, V, S>) -> Map<K, V, S> {
     map.try_clone().unwrap_or_else(|_| out_of_memory::<K, V>())
-}
-
-#[cold]
-fn out_of_memory<K, V>() -> ! {
-    alloc::alloc::handle_alloc_error(core::alloc::Layout::new::<(K, V)>())
 }
 
 /// Returns the hash of the key that `key` names.

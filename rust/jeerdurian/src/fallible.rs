@@ -12,6 +12,12 @@ impl core::error::Error for ReserveError {}
 
 impl<E: core::error::Error> core::error::Error for GetOrInsertError<E> {}
 
+/// Ends the program, because there is no memory for entries.
+#[cold]
+pub(crate) fn out_of_memory<K, V>() -> ! {
+    alloc::alloc::handle_alloc_error(core::alloc::Layout::new::<(K, V)>())
+}
+
 /// Drops what an insert evicts, the key first.
 fn discard<K, V>(key: K, value: V) {
     drop(key);

@@ -7,7 +7,7 @@ use core::hash::BuildHasher;
 /// Builds the default hasher of a map from its seeds.
 ///
 /// The hasher of `schnellru` has another algorithm. Proved: equal seeds and equal bytes give equal hashes.
-#[derive(Clone, Copy, Debug)]
+#[derive(Clone, Copy)]
 pub struct RandomState(lru_limits::RandomState);
 
 impl RandomState {
@@ -23,6 +23,13 @@ impl RandomState {
     /// ```
     pub const fn with_seeds(seeds: [u64; 4]) -> Self {
         RandomState(lru_limits::RandomState::with_seeds(seeds))
+    }
+}
+
+/// Does not show the seeds.
+impl core::fmt::Debug for RandomState {
+    fn fmt(&self, f: &mut core::fmt::Formatter<'_>) -> core::fmt::Result {
+        self.0.fmt(f)
     }
 }
 

@@ -98,7 +98,7 @@ macro_rules! passes_on {
         impl<$($parameters)*> core::iter::FusedIterator for $name $($bounds)* {}
     };
 }
-#[cfg(any(feature = "lru", feature = "hashlink"))]
+#[cfg(any(feature = "lru", feature = "hashlink", feature = "std"))]
 pub(crate) use passes_on;
 
 passes_on!(['a, K, V, L: Limiter<K, V>] Iter<'a, K, V, L>, (&'a K, &'a V), walk);

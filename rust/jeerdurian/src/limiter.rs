@@ -52,16 +52,26 @@ pub trait Limiter<K, V> {
     /// 112, 28,672, 1,879,048,192, or what memory holds.
     type LinkType: LinkType + Eq + Debug;
 
-    /// Returns whether a map of `length` entries is over the limit, so that its oldest entry is evicted.
+    /// Returns whether a map of `length` entries is over the limit. A map over its limit evicts its oldest entry.
     ///
-    /// Called before an insert of a new entry, with the length that the map will have, and after an insert.
+    /// Called in two cases:
+    ///
+    /// - Before an insert stores a new entry in a map that is not empty, `length` is the length of the map plus 1.
+    ///   `try_insert` calls `is_over_the_limit` on a copy of the limiter, even if the map is empty, and evicts nothing.
+    /// - In `trim`, in `set_limiter`, and at the end of an insert or an update that stored a value, `length` is the
+    ///   length of the map. The map repeats the call after each eviction, until the map is empty.
     fn is_over_the_limit(&self, length: usize) -> bool;
 
-    /// Called before a new entry is stored in a map of `length` entries. `None` rejects it.
+    /// Returns the entry to store, or `None` to reject the offered entry.
+    ///
+    /// Called by an insert with a new key and its value, before the insert evicts anything. The map has `length`
+    /// entries. If the entry is rejected, they do not change.
     fn on_insert(&mut self, length: usize, key: Self::KeyToInsert<'_>, value: V) -> Option<(K, V)>;
 
-    /// Called before `new_value` replaces `old_value`. The old key stays. `false` rejects the value, and the entry is
-    /// removed.
+    /// Returns whether the new value is accepted. If it is rejected, the map removes the entry.
+    ///
+    /// Called by an insert or an update before `new_value` replaces `old_value`. The map has `length` entries. The
+    /// stored `old_key` stays; the limiter may change it only to an equal key.
     fn on_replace(
         &mut self,
         length: usize,
@@ -71,16 +81,33 @@ pub trait Limiter<K, V> {
         new_value: &mut V,
     ) -> bool;
 
-    /// Called after an entry was evicted or removed. Also called if an accepted entry was not stored, because no table
-    /// can hold it or a callback panicked.
+    /// Called with each entry that is evicted, removed, popped or taken by an iterator, as soon as the entry is out of
+    /// the map. The limiter may write to the key and the value before the caller of the map gets them.
+    ///
+    /// Also called with an accepted entry that was not stored, because no table can hold it or a callback panicked. Not
+    /// called with an entry that a clear, a dropped `Drain`, a dropped `IntoIter` or a dropped map drops.
     fn on_removed(&mut self, key: &mut K, value: &mut V);
 
-    /// Called after the map was cleared.
+    /// Called once by each clear of the map, even if the map is empty. Dropping a `Drain` counts as a clear. Also
+    /// called if a panic leaves the map without entries.
     fn on_cleared(&mut self);
 
-    /// Called before the table grows to `new_memory_usage` bytes; `false` refuses the growth. Also called with 0 after
-    /// a panic has left the map without a table; the map ignores what this call returns.
+    /// Returns whether the map may have a larger table, of `new_memory_usage` bytes.
+    ///
+    /// Called by an insert that finds no bucket for a new entry, and by `try_reserve` and `try_insert` if too little
+    /// growth is left. Not called if there is no larger table, or if the table is rehashed without growing. If the
+    /// result is `false`, the insert evicts the oldest entries to store the new entry, and `try_reserve` and
+    /// `try_insert` fail. If the result is `true`, the allocation of the table may still fail, and the limiter is not
+    /// notified of this.
+    ///
+    /// Also called with 0 after a panic has left the map without a table; the map ignores what this call returns.
     fn on_grow(&mut self, new_memory_usage: usize) -> bool;
+
+    /// Returns for how many of `n` new entries `extend` reserves growth in a map of `length` entries.
+    #[doc(hidden)]
+    fn growth_for_extend(&self, _length: usize, _n: usize) -> usize {
+        0
+    }
 }
 
 /// A limiter that says in advance what it accepts. [`More::try_insert`](crate::More::try_insert) needs it.
@@ -95,9 +122,9 @@ pub trait Admission<K, V>: for<'a> Limiter<K, V, KeyToInsert<'a> = K> {
     fn on_stored(&mut self, length: usize, key: &K, value: &V);
 }
 
-// The callbacks of a proved limiter under schnellru's signatures.
+// The callbacks of a proved limiter under schnellru's signatures. `$growth` is `growth_for_extend`, if it is not 0.
 macro_rules! by_the_proved_limiter {
-    ([$($parameters:tt)*] $limiter:ty, $link:ty) => {
+    ([$($parameters:tt)*] $limiter:ty, $link:ty $(, $growth:expr)?) => {
         impl<$($parameters)*> Limiter<K, V> for $limiter {
             type KeyToInsert<'a> = K;
             type LinkType = $link;
@@ -133,6 +160,13 @@ macro_rules! by_the_proved_limiter {
             fn on_grow(&mut self, new_memory_usage: usize) -> bool {
                 proved::Limiter::<K, V>::on_grow(self, new_memory_usage)
             }
+
+            $(
+                fn growth_for_extend(&self, length: usize, n: usize) -> usize {
+                    let growth: fn(&Self, usize, usize) -> usize = $growth;
+                    growth(self, length, n)
+                }
+            )?
         }
 
         impl<$($parameters)*> Admission<K, V> for $limiter {
@@ -149,10 +183,10 @@ macro_rules! by_the_proved_limiter {
     };
 }
 
-by_the_proved_limiter!([K, V] ByLength, u32);
+by_the_proved_limiter!([K, V] ByLength, u32, |it, length, n| n.min((it.max_length() as usize).saturating_sub(length)));
 by_the_proved_limiter!([K, V] ByMemoryUsage, u32);
-by_the_proved_limiter!([K, V] Unlimited, usize);
-by_the_proved_limiter!([K, V] UnlimitedCompact, u32);
+by_the_proved_limiter!([K, V] Unlimited, usize, |_, _, n| n);
+by_the_proved_limiter!([K, V] UnlimitedCompact, u32, |_, _, n| n);
 by_the_proved_limiter!([K: OwnedBytes, V: OwnedBytes] ByBytes, u32);
 by_the_proved_limiter!([K, V: Costed] ByCost, usize);
 by_the_proved_limiter!([K: Costed, V: Costed, const OVERHEAD: u64] ByWeight<OVERHEAD>, usize);

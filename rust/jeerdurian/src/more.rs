@@ -71,8 +71,8 @@ where
     /// ```
     fn find_entry(&mut self, key: &(impl Hash + PartialEq<K> + ?Sized)) -> Option<OccupiedEntry<'_, K, V, L, S>>;
 
-    /// Returns a handle on the entry with this hash that the closure accepts. Proved: the same as for
-    /// [`LruMap::get_by_hash`], except the promotion. Cost: as [`LruMap::get_by_hash`].
+    /// Returns a handle on the entry with this hash that the closure accepts. [`LruMap::get_by_hash`] says which hash a
+    /// key has. Proved: the same as for this call, except the promotion. Cost: as this call.
     fn find_entry_by_hash(
         &mut self,
         hash: u64,
@@ -167,7 +167,8 @@ where
         L::KeyToInsert<'a>: Hash + PartialEq<K>;
 
     /// Updates as [`update`](Self::update) does, and passes each entry that the map evicts or removes to a callback.
-    /// Proved: the same as for `update`, and that the callback gets each of these entries once, in order.
+    /// Proved: the same as for `update`, and that the callback gets each of these entries once, in order. Cost: as
+    /// `update`, plus the calls of the callback.
     ///
     /// ```
     /// use jeerdurian::{ByCost, LruMap, More, Updated};

@@ -105,7 +105,8 @@ impl<N: Eq + Hash, K: Eq + Hash, V, L: Budget<K, V>> Default for TenantCache<N, 
 }
 
 impl<N: Eq + Hash, K: Eq + Hash, V, L: Budget<K, V>> TenantCache<N, K, V, L> {
-    /// Makes a cache without tenants and without a total limit, whose hashers have random seeds. It takes no memory.
+    /// Makes a cache without tenants and without a total limit, whose hashers have random seeds. Cost: `O(1)`, and no
+    /// memory.
     ///
     /// ```
     /// # use jeerdurian::tenants::TenantCache;
@@ -117,7 +118,7 @@ impl<N: Eq + Hash, K: Eq + Hash, V, L: Budget<K, V>> TenantCache<N, K, V, L> {
         Self::with_hasher(RandomState::default())
     }
 
-    /// Makes a cache as `new` does, whose hashers have these seeds. Equal seeds give equal hashes.
+    /// Makes a cache as `new` does, whose hashers have these seeds. Equal seeds give equal hashes. Cost: as `new`.
     ///
     /// ```
     /// # use jeerdurian::tenants::TenantCache;
@@ -136,7 +137,7 @@ where
     L: Budget<K, V>,
     S: BuildHasher + Copy,
 {
-    /// Makes a cache without tenants and without a total limit, with this hasher of names and keys. It takes no memory.
+    /// Makes a cache without tenants and without a total limit, with this hasher of names and keys. Cost: as `new`.
     ///
     /// Each tenant's map gets a copy of the hasher, so `S` must be `Copy`. [`RandomState`] is `Copy`, but std's
     /// `RandomState` and `BuildHasherDefault` are not.
@@ -151,7 +152,7 @@ where
         TenantCache { cache: proved::TenantCache::with_hasher(Global, hasher) }
     }
 
-    /// Returns the number of open tenants.
+    /// Returns the number of open tenants. Cost: `O(1)`.
     ///
     /// ```
     /// # let mut cache = jeerdurian::tenants::TenantCache::<u64, u64, u64>::new();
@@ -163,7 +164,7 @@ where
         self.cache.len()
     }
 
-    /// Returns whether no tenant is open.
+    /// Returns whether no tenant is open. Cost: `O(1)`.
     ///
     /// ```
     /// # let mut cache = jeerdurian::tenants::TenantCache::<u64, u64, u64>::new();
@@ -241,7 +242,7 @@ where
         self.cache.cost(&Borrowed(name))
     }
 
-    /// Returns the names of the open tenants, in any order.
+    /// Returns the names of the open tenants, in any order. Cost: `O(1)`, and `O(1)` for each name.
     ///
     /// ```
     /// # let mut cache = jeerdurian::tenants::TenantCache::<u64, u64, u64>::new();
@@ -254,6 +255,8 @@ where
     }
 
     /// Closes a tenant and drops its entries. Returns the number of these entries.
+    ///
+    /// Cost: `O(buckets)` of the tenant's table.
     ///
     /// # Errors
     ///
@@ -274,6 +277,8 @@ where
     }
 
     /// Closes a tenant as [`close`](Self::close) does, and passes each entry to the callback, oldest first.
+    ///
+    /// Cost: `O(1)` and one call of the callback for each entry.
     ///
     /// # Errors
     ///

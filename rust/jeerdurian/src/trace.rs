@@ -15,9 +15,11 @@
 
 mod best;
 mod byte_curve;
+mod delete_curve;
 
 pub use best::Best;
 pub use byte_curve::{ByteCurve, SizeError};
+pub use delete_curve::DeleteCurve;
 
 use crate::erased::lru_trace as proved;
 use crate::rattle_std::alloc::{AllocError, Global};
@@ -48,13 +50,21 @@ pub use crate::erased::lru_trace::Column;
 /// ```
 /// use jeerdurian::trace::{Form, Options, Policies};
 ///
-/// let options = Options { column: None, form: Form::Svg, policies: Policies::Best, sample: 0 };
-/// assert_eq!(options.form, Form::Svg);
+/// let options = Options { form: Form::Svg, policies: Policies::Best, ..Options::default() };
+/// assert_eq!(options.column, None);
 /// ```
 pub use crate::erased::lru_trace::Options;
 
-/// Which misses are counted: the misses of LRU after a warm-up, with limits of entries or of bytes, or also the misses
-/// of the best possible policies.
+impl Default for Options {
+    /// Returns the options of [`report`]: the whole line is the key, the form is `Text`, the policy is LRU without a
+    /// warm-up, and no key is left out.
+    fn default() -> Self {
+        text_of(LRU)
+    }
+}
+
+/// Which misses are counted: the misses of LRU after a warm-up, with limits of entries, for a trace that also deletes
+/// keys, or with limits of bytes; or also the misses of the best possible policies.
 ///
 /// ```
 /// use jeerdurian::trace::Policies;
@@ -135,7 +145,7 @@ impl Curve {
     }
 
     /// Looks ahead in the trace, for the best possible policies. Returns `None` if the curve does not keep the
-    /// references.
+    /// references. Cost: in proportion to the number of references.
     ///
     /// # Errors
     ///
@@ -192,7 +202,28 @@ impl Curve {
         self.0.refer(key)
     }
 
-    /// Returns the number of references.
+    /// References a key without counting the reference. Call this before the first `refer`. [`Best`] leaves these
+    /// references out: its caches begin with no keys.
+    ///
+    /// Cost: as `refer`.
+    ///
+    /// # Errors
+    ///
+    /// As for `refer`.
+    ///
+    /// ```
+    /// # use jeerdurian::trace::Curve;
+    /// let mut curve = Curve::new()?;
+    /// curve.warm_up("a")?;
+    /// curve.refer("a")?;
+    /// assert_eq!((curve.references(), curve.misses(1), curve.keys()), (1, 0, 1));
+    /// # Ok::<(), jeerdurian::AllocError>(())
+    /// ```
+    pub fn warm_up(&mut self, key: &str) -> Result<(), AllocError> {
+        self.0.warm_up(key)
+    }
+
+    /// Returns the number of counted references. Cost: `O(1)`.
     ///
     /// ```
     /// # use jeerdurian::trace::Curve;
@@ -204,7 +235,7 @@ impl Curve {
         self.0.references()
     }
 
-    /// Returns the number of keys that were referenced.
+    /// Returns the number of keys that were referenced, including the keys of the warm-up. Cost: `O(1)`.
     ///
     /// ```
     /// # use jeerdurian::trace::Curve;
@@ -275,8 +306,9 @@ pub fn report_with_best(mut reader: impl BufRead, mut writer: impl Write) -> Res
     proved::trace(Global, text_of(Policies::Best), &mut reader, &mut writer, &mut no_progress())
 }
 
-/// Does what `report` does, with options: for a column of the lines, for a sample of the keys, after a warm-up, with
-/// limits of bytes, or with the best possible policies; as text, csv or an svg picture.
+/// Does what `report` does, with options: for a column of the lines, for a sample of the keys, after a warm-up, for a
+/// trace that also deletes keys, with limits of bytes, or with the best possible policies; as text, csv or an svg
+/// picture.
 ///
 /// # Errors
 ///

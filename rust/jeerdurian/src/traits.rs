@@ -37,6 +37,13 @@ where
 {
 }
 
+/// Returns for how many of an iterator's entries a map reserves growth: for all that are promised if the map is empty,
+/// otherwise for half of them, because some keys may be there. Std's `HashMap` does the same.
+pub(crate) fn promised(entries: &impl Iterator, is_empty: bool) -> usize {
+    let least = entries.size_hint().0;
+    if is_empty { least } else { least.div_ceil(2) }
+}
+
 impl<K, V, L, S> Extend<(K, V)> for LruMap<K, V, L, S>
 where
     K: Hash + PartialEq,
@@ -46,6 +53,10 @@ where
     /// Inserts each entry as [`insert`](LruMap::insert) does. Drops the entries that the limiter rejects or that memory
     /// cannot hold.
     ///
+    /// Under `Unlimited`, `UnlimitedCompact` and `ByLength`, first reserves growth for the entries that the iterator
+    /// promises (`size_hint`), or for half of them if the map has entries, but for no entries above the limit. If the
+    /// reservation fails, the table grows with the inserts.
+    ///
     /// ```
     /// use jeerdurian::{ByLength, LruMap};
     ///
@@ -54,7 +65,10 @@ where
     /// assert!(map.iter().eq([(&3, &30), (&2, &20)]));
     /// ```
     fn extend<I: IntoIterator<Item = (K, V)>>(&mut self, entries: I) {
-        entries.into_iter().for_each(|(key, value)| _ = self.insert(key, value));
+        let entries = entries.into_iter();
+        let n = promised(&entries, self.is_empty());
+        let _ = self.map.try_reserve(self.limiter().growth_for_extend(self.len(), n));
+        entries.for_each(|(key, value)| _ = self.insert(key, value));
     }
 }
 

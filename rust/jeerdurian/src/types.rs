@@ -93,6 +93,9 @@ pub use crate::erased::lru_limits::Both;
 
 /// A value with a cost, for [`ByCost`] and [`ByWeight`].
 ///
+/// A tuple costs the sum of its parts, and an `Option` what its value costs. An array or a slice costs its number of
+/// items. A pointer costs what it points to.
+///
 /// ```
 /// use jeerdurian::{ByCost, Costed, LruMap};
 ///
@@ -114,6 +117,9 @@ pub use crate::erased::lru_limits::Costed;
 
 /// A value that reports which bytes it owns, for [`ByBytes`].
 ///
+/// A reference owns nothing. An `Arc` or `Rc` owns its whole block, so a block that several entries share is counted by
+/// each of them.
+///
 /// ```
 /// use jeerdurian::OwnedBytes;
 ///
@@ -133,7 +139,8 @@ pub use crate::erased::lru_limits::Costed;
 /// ```
 pub use crate::erased::lru_limits::OwnedBytes;
 
-/// The result of [`More::insert_full`](crate::More::insert_full).
+/// The result of [`More::insert_full`](crate::More::insert_full) and of
+/// [`TenantCache::put_full`](crate::tenants::TenantCache::put_full), which says what it returns for a rejected new key.
 ///
 /// ```
 /// use jeerdurian::{ByLength, Inserted, LruMap, More};

@@ -4,6 +4,8 @@ mod refusing;
 
 use jeerdurian::{ByBytes, LruMap, More, OwnedBytes};
 use refusing::held;
+use std::rc::Rc;
+use std::sync::Arc;
 
 type Texts = LruMap<String, Option<Vec<String>>, ByBytes>;
 
@@ -103,4 +105,9 @@ fn owned_bytes_are_those_of_the_allocator() {
     check(|| "a".repeat(100).into_boxed_str());
     check(|| vec!["a".repeat(100), "b".repeat(33)].into_boxed_slice());
     check(|| ["a".repeat(100), "b".repeat(33)]);
+    check(|| Arc::<str>::from("a".repeat(17)));
+    check(|| (0..50).map(|n| Rc::<[u16]>::from(vec![1; n])).collect::<Vec<_>>());
+    check(|| (Arc::new(1u8), Arc::new(1u128), Rc::new("a".repeat(100))));
+    check(|| std::path::PathBuf::from("a".repeat(100)));
+    check(|| std::borrow::Cow::<str>::Owned("a".repeat(100)));
 }

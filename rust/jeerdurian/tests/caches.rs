@@ -83,7 +83,11 @@ fn change(map: &mut OrderedMap<Key, Key>, kind: u64, n: u64) {
         15 => _ = map.move_to_back(&Key::new(n)),
         16 => _ = map.get_mut(&Key::new(n)).map(|value| *value = Key::new(n)),
         17 => map.retain(|key, _| *key.0 % 3 != 1),
-        18 => _ = (map.try_reserve(n as usize), map.shrink_to_fit()),
+        18 => {
+            _ = (map.try_reserve(n as usize), map.shrink_to_fit());
+            let lent: Vec<_> = map.iter_mut().collect();
+            lent.into_iter().for_each(|(key, value)| *value = Key::new(*key.0));
+        }
         _ => _ = std::mem::take(map).into_iter().nth(n as usize),
     }
 }

@@ -316,3 +316,83 @@ fn a_cache_is_dropped_if_its_work_panics() {
     assert!(catch_unwind(AssertUnwindSafe(|| with_cache(Counted::default(), 9, work))).is_err());
     assert_eq!(held(), bytes);
 }
+
+/// A file, or a device of one block, whose first sync panics.
+struct Panics<T>(T, bool);
+
+impl<T> Panics<T> {
+    fn sync(&mut self) {
+        assert!(std::mem::replace(&mut self.1, true), "the sync panics");
+    }
+}
+
+impl<T: Read> Read for Panics<T> {
+    fn read(&mut self, bytes: &mut [u8]) -> Result<usize> {
+        self.0.read(bytes)
+    }
+}
+
+impl<T: Write> Write for Panics<T> {
+    fn write(&mut self, bytes: &[u8]) -> Result<usize> {
+        self.0.write(bytes)
+    }
+
+    fn flush(&mut self) -> Result<()> {
+        self.0.flush()
+    }
+}
+
+impl<T: Seek> Seek for Panics<T> {
+    fn seek(&mut self, to: SeekFrom) -> Result<u64> {
+        self.0.seek(to)
+    }
+}
+
+impl<T> Durable for Panics<T> {
+    fn make_durable(&mut self) -> Result<()> {
+        self.sync();
+        Ok(())
+    }
+}
+
+impl BlockDevice<u8> for Panics<u8> {
+    type Error = ();
+
+    fn has(&self, n: u64) -> bool {
+        n < 2
+    }
+
+    fn read(&mut self, _: u64) -> std::result::Result<u8, ()> {
+        Ok(self.0)
+    }
+
+    fn write(&mut self, _: u64, block: &u8) -> std::result::Result<(), ()> {
+        self.0 = *block;
+        Ok(())
+    }
+
+    fn sync(&mut self) -> std::result::Result<(), ()> {
+        Panics::sync(self);
+        Ok(())
+    }
+}
+
+fn fails_after_a_panic<D: BlockDevice<[u8; 16], Error = FileError>>(mut device: D) {
+    assert_eq!((device.write(1, &[7; 16]), device.is_usable()), (Ok(()), true));
+    assert!(catch_unwind(AssertUnwindSafe(|| device.sync())).is_err() && !device.is_usable());
+    assert_eq!((device.sync(), device.read(1)), (Err(FileError::File), Err(FileError::File)));
+    assert_eq!(device.write(1, &[7; 16]), Err(FileError::File));
+}
+
+#[test]
+fn a_sync_that_panics_has_failed() {
+    std::panic::set_hook(Box::new(|_| {}));
+    let file = || Panics(Listed::new(usize::MAX), false);
+    fails_after_a_panic(FileDevice::<_, 16>::new(file(), 4));
+    fails_after_a_panic(HashedFileDevice::<_, 16>::new(file(), 4));
+    let mut cache = PageCache::new(Panics(0u8, false), 4);
+    assert_eq!(cache.write(0, 7), Ok(()));
+    assert!(catch_unwind(AssertUnwindSafe(|| cache.flush())).is_err());
+    assert_eq!((cache.flush(), cache.write(0, 8)), (Err(PageError::Broken), Err(PageError::Broken)));
+    assert_eq!((cache.read(0), cache.read(1)), (Ok(7), Err(PageError::Broken)));
+}

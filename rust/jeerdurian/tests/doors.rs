@@ -275,3 +275,67 @@ fn auto_traits_variance_and_bounds() {
     _ = (holds.0.put(1, 1), holds.1.insert(1, 1));
     assert_eq!((holds.counts(), holds.1.is_empty()), ([1, 1, 1, 1], true));
 }
+
+thread_local!(static VALUES: Cell<i64> = const { Cell::new(0) });
+
+/// A key whose drop panics if it has this number.
+#[derive(Clone, PartialEq, Eq, Hash)]
+struct Bomb(u64);
+
+impl Drop for Bomb {
+    fn drop(&mut self) {
+        assert!(self.0 != 1 || std::thread::panicking(), "the drop of a key panics");
+    }
+}
+
+struct Counted;
+
+impl Counted {
+    fn new() -> Self {
+        VALUES.set(VALUES.get() + 1);
+        Counted
+    }
+}
+
+impl Drop for Counted {
+    fn drop(&mut self) {
+        VALUES.set(VALUES.get() - 1);
+    }
+}
+
+/// Calls `f`, in which the drop of a key panics. Each value is dropped.
+fn drops_all(what: &str, f: impl FnOnce()) {
+    assert!(std::panic::catch_unwind(std::panic::AssertUnwindSafe(f)).is_err(), "{what} does not panic");
+    assert_eq!(VALUES.get(), 0, "{what} leaks a value");
+}
+
+#[test]
+fn values_are_dropped_if_the_drop_of_a_key_panics() {
+    std::panic::set_hook(Box::new(|_| {}));
+    let linked = || {
+        let mut cache = hashlink::LruCache::new(1);
+        assert!(cache.insert(Bomb(1), Counted::new()).is_none());
+        cache
+    };
+    drops_all("remove of an entry", || match linked().entry(Bomb(1)) {
+        Entry::Occupied(entry) => drop(entry.remove()),
+        Entry::Vacant(_) => unreachable!(),
+    });
+    drops_all("remove of a raw entry", || match linked().raw_entry_mut().from_key(&Bomb(1).clone()) {
+        RawEntryMut::Occupied(entry) => drop(entry.remove()),
+        RawEntryMut::Vacant(_) => unreachable!(),
+    });
+    drops_all("remove", || drop(linked().remove(&Bomb(1))));
+    drops_all("insert", || drop(linked().insert(Bomb(1), Counted::new())));
+    drops_all("an evicting insert", || drop(linked().insert(Bomb(2), Counted::new())));
+    let plain = || {
+        let mut cache = lru::LruCache::new(1);
+        assert!(cache.put(Bomb(1), Counted::new()).is_none());
+        cache
+    };
+    drops_all("pop", || drop(plain().pop(&Bomb(1))));
+    drops_all("put", || drop(plain().put(Bomb(1), Counted::new())));
+    drops_all("an evicting put", || drop(plain().put(Bomb(2), Counted::new())));
+    drops_all("push", || drop(plain().push(Bomb(1), Counted::new())));
+    drops_all("get_or_insert", || _ = plain().get_or_insert(Bomb(2), Counted::new));
+}

@@ -82,6 +82,8 @@ macro_rules! lend_alike {
             caches::Entries<'static, $type, u8>, caches::Entries<'static, u8, $type>,
             caches::Keys<'static, $type, u8>, caches::Values<'static, u8, $type>);
         same!(&'static mut Vec<$type>: IterMut<'static, $type, u8, ByLength>,
+            caches::EntriesMut<'static, $type, u8>, caches::EntriesMut<'static, u8, $type>,
+            caches::ValuesMut<'static, u8, $type>, caches::ValuesMut<'static, $type, u8>,
             OccupiedEntry<'static, $type, u8, ByLength, RandomState>,
             OccupiedEntry<'static, u8, $type, ByLength, RandomState>);
         same!(Vec<$type>:

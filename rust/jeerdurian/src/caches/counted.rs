@@ -1,9 +1,10 @@
 //! A map that counts hits, misses, insertions, rejections and evictions.
 
 use crate::erased::lru_caches as proved;
-use crate::keys::{Named, Offered};
+use crate::keys::{Borrowed, Offered};
 use crate::limiter::{Calls, Limiter};
 use crate::{ByLength, Iter, LruMap, RandomState};
+use core::borrow::Borrow;
 use core::hash::{BuildHasher, Hash};
 
 /// The hits, misses, insertions, rejections and evictions of a cache.
@@ -83,8 +84,12 @@ impl<K: Eq + Hash, V, L: Limiter<K, V>, S: BuildHasher> CountedMap<K, V, L, S> {
     /// let mut counted = CountedMap::new(LruMap::new(ByLength::new(2)));
     /// assert!(counted.insert("a", 1) && counted.contains(&"a") && !counted.contains(&"b"));
     /// ```
-    pub fn contains(&self, key: &(impl Hash + PartialEq<K> + ?Sized)) -> bool {
-        self.counted.map().contains(&Named(key))
+    pub fn contains<Q>(&self, key: &Q) -> bool
+    where
+        K: Borrow<Q>,
+        Q: Eq + Hash + ?Sized,
+    {
+        self.counted.map().contains(&Borrowed(key))
     }
 
     /// Returns the limiter. Cost: `O(1)`.
@@ -109,14 +114,22 @@ impl<K: Eq + Hash, V, L: Limiter<K, V>, S: BuildHasher> CountedMap<K, V, L, S> {
     }
 
     /// Returns the value of a key. The order stays, and nothing is counted. Cost: `O(1)` expected.
-    pub fn peek(&self, key: &(impl Hash + PartialEq<K> + ?Sized)) -> Option<&V> {
-        self.counted.map().peek(&Named(key))
+    pub fn peek<Q>(&self, key: &Q) -> Option<&V>
+    where
+        K: Borrow<Q>,
+        Q: Eq + Hash + ?Sized,
+    {
+        self.counted.map().peek(&Borrowed(key))
     }
 
     /// Returns the value of a key, as the newest, and counts a hit. If the key is not there, counts a miss. Cost:
     /// `O(1)` expected.
-    pub fn get(&mut self, key: &(impl Hash + PartialEq<K> + ?Sized)) -> Option<&V> {
-        if !self.counted.promote(&Named(key)) {
+    pub fn get<Q>(&mut self, key: &Q) -> Option<&V>
+    where
+        K: Borrow<Q>,
+        Q: Eq + Hash + ?Sized,
+    {
+        if !self.counted.promote(&Borrowed(key)) {
             return None;
         }
         self.counted.map().peek_newest().map(|(_, value)| value)
@@ -133,7 +146,11 @@ impl<K: Eq + Hash, V, L: Limiter<K, V>, S: BuildHasher> CountedMap<K, V, L, S> {
     }
 
     /// Does what `LruMap::remove` does. A removal counts nothing. Cost: `O(1)` expected.
-    pub fn remove(&mut self, key: &(impl Hash + PartialEq<K> + ?Sized)) -> Option<V> {
-        self.counted.remove(&Named(key))
+    pub fn remove<Q>(&mut self, key: &Q) -> Option<V>
+    where
+        K: Borrow<Q>,
+        Q: Eq + Hash + ?Sized,
+    {
+        self.counted.remove(&Borrowed(key))
     }
 }

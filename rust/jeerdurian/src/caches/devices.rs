@@ -26,11 +26,13 @@ pub use crate::erased::lru_caches::FileError;
 
 impl core::error::Error for FileError {}
 
-/// Defines a device for callers in Rust: the proved device, with Rust's allocator.
+impl Eq for FileError {}
+
+/// Defines a device for callers in Rust: the proved device, with Rust's allocator, and whether a sync has panicked.
 macro_rules! file_device {
     ($(#[$docs:meta])* $name:ident, $least:literal) => {
         $(#[$docs])*
-        pub struct $name<F, const N: usize>(proved::$name<F, N>);
+        pub struct $name<F, const N: usize>(proved::$name<F, N>, bool);
 
         impl<F: Read + Write + Seek, const N: usize> $name<F, N> {
             /// Makes a device of the first `count` blocks of a file. It reads nothing, and takes no memory for them.
@@ -43,7 +45,7 @@ macro_rules! file_device {
             #[allow(unused_comparisons, clippy::absurd_extreme_comparisons)]
             pub fn new(file: F, count: u64) -> Self {
                 const { assert!(N >= $least, "a block has fewer bytes than its checksum") };
-                $name(proved::$name::new(file, count))
+                $name(proved::$name::new(file, count), false)
             }
 
             /// Makes a device of all whole blocks of the file.
@@ -60,7 +62,7 @@ macro_rules! file_device {
             #[allow(unused_comparisons, clippy::absurd_extreme_comparisons)]
             pub fn open(file: F) -> Result<Self, FileError> {
                 const { assert!(N >= $least, "a block has fewer bytes than its checksum") };
-                proved::$name::open(file).map($name)
+                proved::$name::open(file).map(|device| $name(device, false))
             }
 
             /// Returns the number of blocks.
@@ -120,7 +122,7 @@ macro_rules! file_device {
             }
 
             fn is_usable(&self) -> bool {
-                proved::BlockDevice::<[u8; N]>::is_usable(&self.0)
+                !self.1 && proved::BlockDevice::<[u8; N]>::is_usable(&self.0)
             }
 
             fn read(&mut self, n: u64) -> Result<[u8; N], FileError> {
@@ -141,7 +143,11 @@ macro_rules! file_device {
                 if !self.is_usable() {
                     return Err(FileError::File);
                 }
-                proved::BlockDevice::<[u8; N]>::sync(&mut self.0)
+                // A sync that panics has failed, too.
+                self.1 = true;
+                let synced = proved::BlockDevice::<[u8; N]>::sync(&mut self.0);
+                self.1 = synced.is_err();
+                synced
             }
         }
     };
@@ -150,7 +156,7 @@ macro_rules! file_device {
 file_device!(
     /// A device of the blocks of a file, of `N` bytes each. Only the file is kept in memory, no blocks.
     ///
-    /// A call fails with `File` if the file fails, if the device has no such block, or after a `sync` failed.
+    /// A call fails with `File` if the file fails, if the device has no such block, or after a `sync` failed or panicked.
     ///
     /// ```
     /// use jeerdurian::caches::{BlockDevice, FileDevice};

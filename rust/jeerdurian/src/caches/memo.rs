@@ -1,10 +1,11 @@
 //! Functions that remember their newest results.
 
 use crate::erased::lru_caches as proved;
-use crate::keys::Named;
+use crate::keys::Borrowed;
 use crate::limiter::{Admission, Calls};
 use crate::rattle_std::alloc::Global;
 use crate::{ByLength, RandomState};
+use core::borrow::Borrow;
 use core::hash::{BuildHasher, Hash};
 
 /// A function that remembers its newest results, up to a limit.
@@ -29,7 +30,7 @@ where
 
 #[cfg(feature = "runtime-rng")]
 impl<K: Eq + Hash, V, F: Fn(&K) -> V, L: Admission<K, V>> Memo<K, V, F, L> {
-    /// Makes an empty memo of a function, with a hasher with random seeds. It takes no memory.
+    /// Makes an empty memo of a function, with a hasher with random seeds. Cost: `O(1)`, and no memory.
     ///
     /// ```
     /// # use jeerdurian::{ByLength, caches::Memo};
@@ -42,7 +43,7 @@ impl<K: Eq + Hash, V, F: Fn(&K) -> V, L: Admission<K, V>> Memo<K, V, F, L> {
 }
 
 impl<K: Eq + Hash, V, F: Fn(&K) -> V, L: Admission<K, V>, S: BuildHasher> Memo<K, V, F, L, S> {
-    /// Makes an empty memo of a function, with this hasher of keys. It takes no memory.
+    /// Makes an empty memo of a function, with this hasher of keys. Cost: `O(1)`, and no memory.
     ///
     /// ```
     /// # use jeerdurian::{ByLength, RandomState, caches::Memo};
@@ -53,7 +54,7 @@ impl<K: Eq + Hash, V, F: Fn(&K) -> V, L: Admission<K, V>, S: BuildHasher> Memo<K
         Memo { memo: proved::Memo::with_hasher(Global, Calls(limiter), hasher, function) }
     }
 
-    /// Returns the number of stored results.
+    /// Returns the number of stored results. Cost: `O(1)`.
     ///
     /// ```
     /// # use jeerdurian::{ByLength, caches::Memo};
@@ -64,7 +65,7 @@ impl<K: Eq + Hash, V, F: Fn(&K) -> V, L: Admission<K, V>, S: BuildHasher> Memo<K
         self.memo.len()
     }
 
-    /// Returns whether no result is stored.
+    /// Returns whether no result is stored. Cost: `O(1)`.
     ///
     /// ```
     /// # use jeerdurian::{ByLength, caches::Memo};
@@ -153,8 +154,10 @@ impl<K: Eq + Hash, V, F: Fn(&K) -> V, L: Admission<K, V>, S: BuildHasher> Memo<K
     /// let mut lengths = Memo::new(ByLength::new(9), |text: &String| text.len());
     /// assert_eq!((lengths.get("word"), lengths.answer("word".to_string()), lengths.get("word")), (None, 4, Some(4)));
     /// ```
-    pub fn get(&mut self, key: &(impl Hash + PartialEq<K> + ?Sized)) -> Option<V>
+    pub fn get<Q>(&mut self, key: &Q) -> Option<V>
     where
+        K: Borrow<Q>,
+        Q: Eq + Hash + ?Sized,
         V: Clone,
     {
         self.get_with(key, V::clone)
@@ -162,22 +165,38 @@ impl<K: Eq + Hash, V, F: Fn(&K) -> V, L: Admission<K, V>, S: BuildHasher> Memo<K
 
     /// Does what [`get`](Self::get) does, but lends the result to a closure instead of cloning it, and returns what the
     /// closure returns.
-    pub fn get_with<R>(&mut self, key: &(impl Hash + PartialEq<K> + ?Sized), read: impl FnOnce(&V) -> R) -> Option<R> {
-        self.memo.get_with(&Named(key), read)
+    ///
+    /// Cost: as `get`, with a call of the closure instead of a clone.
+    ///
+    /// ```
+    /// # use jeerdurian::{ByLength, caches::Memo};
+    /// let mut names = Memo::new(ByLength::new(9), |n: &u64| n.to_string());
+    /// assert_eq!((names.answer(123).len(), names.get_with(&123, |name| name.len())), (3, Some(3)));
+    /// ```
+    pub fn get_with<Q, R>(&mut self, key: &Q, read: impl FnOnce(&V) -> R) -> Option<R>
+    where
+        K: Borrow<Q>,
+        Q: Eq + Hash + ?Sized,
+    {
+        self.memo.get_with(&Borrowed(key), read)
     }
 
-    /// Removes the stored result of a key, and returns whether it was there.
+    /// Removes the stored result of a key, and returns whether it was there. Cost: `O(1)` expected.
     ///
     /// ```
     /// # use jeerdurian::{ByLength, caches::Memo};
     /// let mut lengths = Memo::new(ByLength::new(9), |text: &String| text.len());
     /// assert!(lengths.answer("word".to_string()) == 4 && lengths.remove("word") && !lengths.remove("word"));
     /// ```
-    pub fn remove(&mut self, key: &(impl Hash + PartialEq<K> + ?Sized)) -> bool {
-        self.memo.remove(&Named(key))
+    pub fn remove<Q>(&mut self, key: &Q) -> bool
+    where
+        K: Borrow<Q>,
+        Q: Eq + Hash + ?Sized,
+    {
+        self.memo.remove(&Borrowed(key))
     }
 
-    /// Drops all stored results.
+    /// Drops all stored results. Cost: as [`LruMap::clear`](crate::LruMap::clear).
     pub fn clear(&mut self) {
         self.memo.clear();
     }
@@ -234,7 +253,7 @@ where
 
 #[cfg(feature = "runtime-rng")]
 impl<K: Eq + Hash, V, E, F: Fn(&K) -> Result<V, E>, L: Admission<K, V>> Loader<K, V, F, L> {
-    /// Makes an empty loader that calls this function, with a hasher with random seeds. It takes no memory.
+    /// Makes an empty loader that calls this function, with a hasher with random seeds. Cost: `O(1)`, and no memory.
     ///
     /// ```
     /// # use jeerdurian::{ByLength, caches::Loader};
@@ -253,7 +272,7 @@ where
     L: Admission<K, V>,
     S: BuildHasher,
 {
-    /// Makes an empty loader that calls this function, with this hasher of keys. It takes no memory.
+    /// Makes an empty loader that calls this function, with this hasher of keys. Cost: `O(1)`, and no memory.
     ///
     /// ```
     /// # use jeerdurian::{ByLength, RandomState, caches::Loader};
@@ -265,7 +284,7 @@ where
         Loader { loader: proved::Loader::with_hasher(Global, Calls(limiter), hasher, function) }
     }
 
-    /// Returns the number of stored values.
+    /// Returns the number of stored values. Cost: `O(1)`.
     ///
     /// ```
     /// # use jeerdurian::{ByLength, caches::Loader};
@@ -276,7 +295,7 @@ where
         self.loader.len()
     }
 
-    /// Returns whether no value is stored.
+    /// Returns whether no value is stored. Cost: `O(1)`.
     ///
     /// ```
     /// # use jeerdurian::{ByLength, caches::Loader};
@@ -329,18 +348,22 @@ where
     }
 
     /// Removes the stored value of a key, and returns whether it was there. The next [`load`](Self::load) of the key
-    /// calls the function.
+    /// calls the function. Cost: `O(1)` expected.
     ///
     /// ```
     /// # use jeerdurian::{ByLength, caches::Loader};
     /// let mut next = Loader::new(ByLength::new(9), |n: &u64| n.checked_add(1).ok_or(*n));
     /// assert!(next.load(1) == Ok(2) && next.remove(&1) && !next.remove(&1));
     /// ```
-    pub fn remove(&mut self, key: &(impl Hash + PartialEq<K> + ?Sized)) -> bool {
-        self.loader.remove(&Named(key))
+    pub fn remove<Q>(&mut self, key: &Q) -> bool
+    where
+        K: Borrow<Q>,
+        Q: Eq + Hash + ?Sized,
+    {
+        self.loader.remove(&Borrowed(key))
     }
 
-    /// Drops all stored values.
+    /// Drops all stored values. Cost: as [`LruMap::clear`](crate::LruMap::clear).
     ///
     /// ```
     /// # use jeerdurian::{ByLength, caches::Loader};

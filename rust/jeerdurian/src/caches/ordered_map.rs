@@ -1,16 +1,17 @@
 //! A hash map in the order of insertion.
 
+mod constructors;
 mod iter;
 mod traits;
 
 use crate::erased::lru_caches as proved;
 use crate::keys::Borrowed;
-use crate::rattle_std::alloc::{AllocError, Global};
+use crate::rattle_std::alloc::AllocError;
 use crate::{RandomState, ReserveError};
 use core::borrow::Borrow;
 use core::hash::{BuildHasher, Hash};
 
-pub use iter::{Entries, IntoEntries, Keys, Values};
+pub use iter::{Entries, EntriesMut, IntoEntries, Keys, Values, ValuesMut};
 
 /// A hash map whose entries are in the order of insertion, oldest first.
 ///
@@ -36,35 +37,8 @@ pub struct OrderedMap<K: Eq + Hash, V, S: BuildHasher = RandomState> {
     map: proved::OrderedMap<K, V, S>,
 }
 
-#[cfg(feature = "runtime-rng")]
-impl<K: Eq + Hash, V> OrderedMap<K, V> {
-    /// Makes an empty map, whose hasher has random seeds. It takes no memory.
-    ///
-    /// ```
-    /// # use jeerdurian::caches::OrderedMap;
-    /// let map: OrderedMap<u64, u64> = OrderedMap::new();
-    /// assert!(map.is_empty());
-    /// ```
-    pub fn new() -> Self {
-        Self::with_hasher(RandomState::default())
-    }
-}
-
 impl<K: Eq + Hash, V, S: BuildHasher> OrderedMap<K, V, S> {
-    /// Makes an empty map with this hasher. It takes no memory.
-    ///
-    /// ```
-    /// # use jeerdurian::caches::OrderedMap;
-    /// use std::hash::RandomState;
-    ///
-    /// let map: OrderedMap<u64, u64, RandomState> = OrderedMap::with_hasher(RandomState::new());
-    /// assert!(map.is_empty());
-    /// ```
-    pub fn with_hasher(hasher: S) -> Self {
-        OrderedMap { map: proved::OrderedMap::with_hasher(Global, hasher) }
-    }
-
-    /// Returns the number of entries.
+    /// Returns the number of entries. Cost: `O(1)`.
     ///
     /// ```
     /// # let mut map = jeerdurian::caches::OrderedMap::new();
@@ -76,7 +50,7 @@ impl<K: Eq + Hash, V, S: BuildHasher> OrderedMap<K, V, S> {
         self.map.len()
     }
 
-    /// Returns whether there are no entries.
+    /// Returns whether there are no entries. Cost: `O(1)`.
     ///
     /// ```
     /// # let mut map = jeerdurian::caches::OrderedMap::new();
@@ -161,7 +135,7 @@ impl<K: Eq + Hash, V, S: BuildHasher> OrderedMap<K, V, S> {
         self.map.get_key_value(&Borrowed(key))
     }
 
-    /// Returns the oldest entry.
+    /// Returns the oldest entry. Cost: `O(1)`.
     ///
     /// ```
     /// # let mut map = jeerdurian::caches::OrderedMap::new();
@@ -173,7 +147,7 @@ impl<K: Eq + Hash, V, S: BuildHasher> OrderedMap<K, V, S> {
         self.map.first()
     }
 
-    /// Returns the newest entry.
+    /// Returns the newest entry. Cost: `O(1)`.
     ///
     /// ```
     /// # let mut map = jeerdurian::caches::OrderedMap::new();
@@ -241,7 +215,7 @@ impl<K: Eq + Hash, V, S: BuildHasher> OrderedMap<K, V, S> {
         self.map.remove_entry(&Borrowed(key))
     }
 
-    /// Removes and returns the oldest entry.
+    /// Removes and returns the oldest entry. Cost: `O(1)`.
     ///
     /// ```
     /// # let mut map = jeerdurian::caches::OrderedMap::new();
@@ -253,7 +227,7 @@ impl<K: Eq + Hash, V, S: BuildHasher> OrderedMap<K, V, S> {
         self.map.pop_first()
     }
 
-    /// Removes and returns the newest entry.
+    /// Removes and returns the newest entry. Cost: `O(1)`.
     ///
     /// ```
     /// # let mut map = jeerdurian::caches::OrderedMap::new();
@@ -286,6 +260,8 @@ impl<K: Eq + Hash, V, S: BuildHasher> OrderedMap<K, V, S> {
 
     /// Removes the entries for which the closure returns false. Calls the closure with each entry, oldest first.
     ///
+    /// Cost: `O(len)`.
+    ///
     /// ```
     /// # let mut map = jeerdurian::caches::OrderedMap::new();
     /// # map.insert(1, 11).unwrap();
@@ -297,7 +273,7 @@ impl<K: Eq + Hash, V, S: BuildHasher> OrderedMap<K, V, S> {
         self.map.retain(keep);
     }
 
-    /// Drops all entries. The table keeps its memory.
+    /// Drops all entries. The table keeps its memory. Cost: `O(buckets)`; `O(1)` if every bucket is empty.
     ///
     /// ```
     /// # let mut map = jeerdurian::caches::OrderedMap::new();
@@ -310,7 +286,7 @@ impl<K: Eq + Hash, V, S: BuildHasher> OrderedMap<K, V, S> {
         self.map.clear();
     }
 
-    /// Returns the entries, oldest first.
+    /// Returns the entries, oldest first. Cost: `O(1)`, and `O(1)` for each step from either end.
     ///
     /// ```
     /// # let mut map = jeerdurian::caches::OrderedMap::new();
@@ -322,7 +298,7 @@ impl<K: Eq + Hash, V, S: BuildHasher> OrderedMap<K, V, S> {
         self.map.iter()
     }
 
-    /// Returns the keys, oldest first.
+    /// Returns the keys, oldest first. Cost: as `iter`.
     ///
     /// ```
     /// # let mut map = jeerdurian::caches::OrderedMap::new();
@@ -334,7 +310,7 @@ impl<K: Eq + Hash, V, S: BuildHasher> OrderedMap<K, V, S> {
         self.map.keys()
     }
 
-    /// Returns the values, in the order of the entries, oldest first.
+    /// Returns the values, in the order of the entries, oldest first. Cost: as `iter`.
     ///
     /// ```
     /// # let mut map = jeerdurian::caches::OrderedMap::new();
@@ -347,6 +323,8 @@ impl<K: Eq + Hash, V, S: BuildHasher> OrderedMap<K, V, S> {
     }
 
     /// Reserves growth for n more entries, so that inserting them does not grow the table.
+    ///
+    /// Cost: `O(1)` if there is enough growth left, else `O(old buckets + new buckets)`.
     ///
     /// # Errors
     ///
@@ -363,6 +341,8 @@ impl<K: Eq + Hash, V, S: BuildHasher> OrderedMap<K, V, S> {
     }
 
     /// Shrinks the table to the fewest buckets that hold the entries, and returns whether it had more buckets.
+    ///
+    /// Cost: `O(1)` if the table stays, else `O(buckets)`.
     ///
     /// # Errors
     ///

@@ -61,7 +61,7 @@ pub struct PageCache<B: Copy, D: BlockDevice<B>, S = RandomState> {
 #[cfg(feature = "runtime-rng")]
 impl<B: Copy, D: BlockDevice<B>> PageCache<B, D> {
     /// Makes an empty cache of a device, for at most `capacity` pages; 0 counts as 1. Its hasher of block numbers has
-    /// random seeds. It takes no memory.
+    /// random seeds. Cost: `O(1)`, and no memory.
     ///
     /// The blocks lie in the table, which grows by doubling. In a trial, the cache took up to about 4.2 times the
     /// memory of its pages, and up to 6.2 times while its table grew. Choose `capacity` so that this memory is there.
@@ -78,7 +78,7 @@ impl<B: Copy, D: BlockDevice<B>> PageCache<B, D> {
 }
 
 impl<B: Copy, D: BlockDevice<B>, S: BuildHasher> PageCache<B, D, S> {
-    /// Makes an empty cache as `new` does, with this hasher of block numbers.
+    /// Makes an empty cache as `new` does, with this hasher of block numbers. Cost: `O(1)`, and no memory.
     ///
     /// ```
     /// # use jeerdurian::caches::{FileDevice, PageCache};
@@ -91,7 +91,7 @@ impl<B: Copy, D: BlockDevice<B>, S: BuildHasher> PageCache<B, D, S> {
         PageCache { cache: proved::PageCache::with_hasher(Global, Called(device, false), capacity, hasher) }
     }
 
-    /// Returns the number of cached pages.
+    /// Returns the number of cached pages. Cost: `O(1)`.
     ///
     /// ```
     /// # use jeerdurian::caches::{FileDevice, PageCache};
@@ -103,7 +103,7 @@ impl<B: Copy, D: BlockDevice<B>, S: BuildHasher> PageCache<B, D, S> {
         self.cache.len()
     }
 
-    /// Returns whether no page is cached.
+    /// Returns whether no page is cached. Cost: `O(1)`.
     ///
     /// ```
     /// # use jeerdurian::caches::{FileDevice, PageCache};
@@ -115,7 +115,7 @@ impl<B: Copy, D: BlockDevice<B>, S: BuildHasher> PageCache<B, D, S> {
         self.cache.is_empty()
     }
 
-    /// Returns whether a page is cached. The order of use stays.
+    /// Returns whether a page is cached. The order of use stays. Cost: `O(1)` expected.
     ///
     /// ```
     /// # use jeerdurian::caches::{FileDevice, PageCache};
@@ -129,7 +129,7 @@ impl<B: Copy, D: BlockDevice<B>, S: BuildHasher> PageCache<B, D, S> {
     }
 
     /// Returns how many calls that read, write or pin a page found it cached. Failed calls do not count. The count
-    /// stops at `u64::MAX`.
+    /// stops at `u64::MAX`. Cost: `O(1)`.
     ///
     /// ```
     /// # use jeerdurian::caches::{FileDevice, PageCache};
@@ -143,7 +143,7 @@ impl<B: Copy, D: BlockDevice<B>, S: BuildHasher> PageCache<B, D, S> {
     }
 
     /// Returns how many calls that read, write or pin a page did not find it cached, counted as by
-    /// [`hits`](Self::hits).
+    /// [`hits`](Self::hits). Cost: `O(1)`.
     ///
     /// ```
     /// # use jeerdurian::caches::{FileDevice, PageCache};
@@ -155,7 +155,7 @@ impl<B: Copy, D: BlockDevice<B>, S: BuildHasher> PageCache<B, D, S> {
         self.cache.misses()
     }
 
-    /// Returns how many pages were evicted, at most `u64::MAX`.
+    /// Returns how many pages were evicted, at most `u64::MAX`. Cost: `O(1)`.
     ///
     /// ```
     /// # use jeerdurian::caches::{FileDevice, PageCache};
@@ -168,7 +168,7 @@ impl<B: Copy, D: BlockDevice<B>, S: BuildHasher> PageCache<B, D, S> {
         self.cache.evictions()
     }
 
-    /// Returns the device. Writes that are only in dirty pages are not on it.
+    /// Returns the device. Writes that are only in dirty pages are not on it. Cost: `O(1)`.
     ///
     /// ```
     /// # use jeerdurian::caches::{FileDevice, PageCache};
@@ -207,7 +207,8 @@ impl<B: Copy, D: BlockDevice<B>, S: BuildHasher> PageCache<B, D, S> {
         self.cache.read(n)
     }
 
-    /// Does what `read` does, but lends the block to a closure, and returns what the closure returns.
+    /// Does what `read` does, but lends the block to a closure, and returns what the closure returns. Cost: as `read`,
+    /// plus a call of the closure.
     ///
     /// # Errors
     ///
@@ -223,7 +224,7 @@ impl<B: Copy, D: BlockDevice<B>, S: BuildHasher> PageCache<B, D, S> {
         self.cache.read_with(n, read)
     }
 
-    /// Reads the blocks of these numbers into the cache, in order, each as `read` does.
+    /// Reads the blocks of these numbers into the cache, in order, each as `read` does. Cost: as a `read` of each.
     ///
     /// # Errors
     ///
@@ -259,7 +260,7 @@ impl<B: Copy, D: BlockDevice<B>, S: BuildHasher> PageCache<B, D, S> {
 
     /// Lends a block to a closure that may write to it, makes its page dirty and the newest, and returns what the
     /// closure returns. If the page is not cached, the block is read first. If the closure panics, the page is dirty,
-    /// with what the closure wrote.
+    /// with what the closure wrote. Cost: as `read`, plus a call of the closure.
     ///
     /// # Errors
     ///
@@ -277,7 +278,7 @@ impl<B: Copy, D: BlockDevice<B>, S: BuildHasher> PageCache<B, D, S> {
     }
 
     /// Pins a page, and makes it the newest. If it is not cached, first reads it. A pinned page is not evicted until
-    /// [`unpin`](Self::unpin): one `unpin` ends all pins of a page. A flush writes pinned pages, too.
+    /// [`unpin`](Self::unpin): one `unpin` ends all pins of a page. A flush writes pinned pages, too. Cost: as `read`.
     ///
     /// # Errors
     ///
@@ -294,7 +295,7 @@ impl<B: Copy, D: BlockDevice<B>, S: BuildHasher> PageCache<B, D, S> {
         self.cache.pin(n)
     }
 
-    /// Ends all pins of a page, and returns whether it was pinned. The order of use stays.
+    /// Ends all pins of a page, and returns whether it was pinned. The order of use stays. Cost: `O(1)` expected.
     ///
     /// ```
     /// # use jeerdurian::caches::{FileDevice, PageCache};
@@ -306,7 +307,7 @@ impl<B: Copy, D: BlockDevice<B>, S: BuildHasher> PageCache<B, D, S> {
         self.cache.unpin(n)
     }
 
-    /// Returns whether a page is pinned. The order of use stays.
+    /// Returns whether a page is pinned. The order of use stays. Cost: `O(1)` expected.
     ///
     /// ```
     /// # use jeerdurian::caches::{FileDevice, PageCache};
@@ -318,7 +319,7 @@ impl<B: Copy, D: BlockDevice<B>, S: BuildHasher> PageCache<B, D, S> {
         self.cache.is_pinned(n)
     }
 
-    /// Returns whether dirty pages are kept until a flush. By default they are not.
+    /// Returns whether dirty pages are kept until a flush. By default they are not. Cost: `O(1)`.
     ///
     /// ```
     /// # use jeerdurian::caches::{FileDevice, PageCache};
@@ -332,7 +333,7 @@ impl<B: Copy, D: BlockDevice<B>, S: BuildHasher> PageCache<B, D, S> {
 
     /// Sets whether dirty pages are kept until a flush. If they are, calls write to the device only to flush, so a log
     /// of the writes can be written and synced before. If each page is dirty or pinned, a call that must evict a page
-    /// returns `Full`.
+    /// returns `Full`. Cost: `O(1)`.
     ///
     /// ```
     /// # use jeerdurian::caches::{FileDevice, PageCache, PageError};
@@ -347,7 +348,7 @@ impl<B: Copy, D: BlockDevice<B>, S: BuildHasher> PageCache<B, D, S> {
     }
 
     /// Writes the dirty pages to the device, in the order of their numbers, and then calls `sync`. The pages stay
-    /// cached, and are clean then.
+    /// cached, and are clean then. Cost for n dirty pages: `O(len + n log n)`, n writes of the device, and a `sync`.
     ///
     /// # Errors
     ///
@@ -366,7 +367,7 @@ impl<B: Copy, D: BlockDevice<B>, S: BuildHasher> PageCache<B, D, S> {
     }
 
     /// Writes a page to the device if it is cached and dirty. It does not call `sync`: until a flush, a crash may lose the
-    /// block. The page is clean then.
+    /// block. The page is clean then. Cost: `O(1)` expected, and at most one write of the device.
     ///
     /// # Errors
     ///

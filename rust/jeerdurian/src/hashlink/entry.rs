@@ -21,6 +21,10 @@ impl<K: Eq + Hash, V, S: BuildHasher> LruCache<K, V, S> {
     }
 
     /// Looks up an entry by a borrowed key or a hash. Evicts as [`entry`](Self::entry) does.
+    ///
+    /// These calls of `hashlink` are missing: `from_key_hashed_nocheck`; `and_modify`; `key_mut`, `into_key`,
+    /// `get_key_value`, `get_key_value_mut`, `into_key_value`, `replace_key` and `replace_value`;
+    /// `insert_hashed_nocheck` and `insert_with_hasher`.
     pub fn raw_entry_mut(&mut self) -> RawEntryBuilderMut<'_, K, V, S> {
         self.evict_above_capacity();
         RawEntryBuilderMut { map: &mut self.map }
@@ -124,7 +128,9 @@ macro_rules! occupied {
 
             /// Removes the entry, and returns its value.
             pub fn remove(self) -> V {
-                self.entries.take(self.b).1
+                // Not `.1`, so that the value is dropped, too, if the drop of the key panics.
+                let (_, value) = self.entries.take(self.b);
+                value
             }
 
             /// Removes the entry, and returns it.
@@ -238,7 +244,21 @@ impl<'a, K: Eq + Hash, V, S: BuildHasher> RawEntryBuilderMut<'a, K, V, S> {
         self.from_hash(hash, |key| k == key.borrow())
     }
 
-    /// Looks up the entry with this hash that `is_match` accepts.
+    /// Looks up the entry with this hash that `is_match` accepts. The hash of a key is what the cache's hasher builds
+    /// for it.
+    ///
+    /// ```
+    /// use jeerdurian::hashlink::{LruCache, lru_cache::RawEntryMut};
+    /// use std::hash::{BuildHasher, Hash, Hasher, RandomState};
+    ///
+    /// let state = RandomState::new();
+    /// let mut cache = LruCache::with_hasher(2, state.clone());
+    /// cache.insert("a", 1);
+    /// let mut hasher = state.build_hasher();
+    /// "a".hash(&mut hasher);
+    /// let entry = cache.raw_entry_mut().from_hash(hasher.finish(), |key| *key == "a");
+    /// assert!(matches!(entry, RawEntryMut::Occupied(_)));
+    /// ```
     pub fn from_hash(self, hash: u64, mut is_match: impl FnMut(&K) -> bool) -> RawEntryMut<'a, K, V, S> {
         match self.map.entries.find_by(hash, |key, _| is_match(key)) {
             Some(b) => RawEntryMut::Occupied(RawOccupiedEntryMut { entries: &mut self.map.entries, b }),

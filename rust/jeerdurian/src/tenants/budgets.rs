@@ -57,7 +57,7 @@ where
     }
 
     /// Sets the budget as [`set_budget`](Self::set_budget) does, and passes each evicted entry to the callback, oldest
-    /// first.
+    /// first. Cost: as `set_budget`, plus the calls of the callback.
     ///
     /// # Errors
     ///
@@ -79,7 +79,7 @@ where
         self.cache.set_budget_with(&Borrowed(name), budget, &mut lost)
     }
 
-    /// Sets the total limit: the greatest sum of all budgets. `None` lifts the limit.
+    /// Sets the total limit: the greatest sum of all budgets. `None` lifts the limit. Cost: `O(1)`.
     ///
     /// # Errors
     ///
@@ -98,7 +98,7 @@ where
         self.cache.set_total_limit(limit)
     }
 
-    /// Returns the greatest sum of all budgets, if there is a limit.
+    /// Returns the greatest sum of all budgets, if there is a limit. Cost: `O(1)`.
     ///
     /// ```
     /// # let mut cache = jeerdurian::tenants::TenantCache::<u64, u64, u64>::new();
@@ -110,7 +110,7 @@ where
         self.cache.total_limit()
     }
 
-    /// Returns the sum of the budgets of all tenants. It is at most the total limit, if there is one.
+    /// Returns the sum of the budgets of all tenants. It is at most the total limit, if there is one. Cost: `O(1)`.
     ///
     /// ```
     /// # let mut cache = jeerdurian::tenants::TenantCache::<u64, u64, u64>::new();

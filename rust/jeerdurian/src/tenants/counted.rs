@@ -45,7 +45,7 @@ where
     L: Budget<K, V>,
     S: BuildHasher + Copy,
 {
-    /// Returns the counts of a tenant since it was opened, or since its last `take_counts`.
+    /// Returns the counts of a tenant since it was opened, or since its last `take_counts`. Cost: `O(1)` expected.
     ///
     /// # Errors
     ///
@@ -58,7 +58,7 @@ where
         self.cache.counts(&Borrowed(name))
     }
 
-    /// Sets the counts of a tenant. So you can count other calls by the methods of [`Counts`].
+    /// Sets the counts of a tenant. So you can count other calls by the methods of [`Counts`]. Cost: `O(1)` expected.
     ///
     /// # Errors
     ///
@@ -71,7 +71,7 @@ where
         self.cache.set_counts(&Borrowed(name), counts)
     }
 
-    /// Returns the counts of a tenant, and resets them to zero.
+    /// Returns the counts of a tenant, and resets them to zero. Cost: `O(1)` expected.
     ///
     /// # Errors
     ///
@@ -84,7 +84,7 @@ where
         self.cache.take_counts(&Borrowed(name))
     }
 
-    /// Does what `get` does, and counts a hit or a miss.
+    /// Does what `get` does, and counts a hit or a miss. Cost: `O(1)` expected.
     ///
     /// # Errors
     ///
@@ -99,7 +99,7 @@ where
         self.cache.get_counted(&Borrowed(name), &Borrowed(key))
     }
 
-    /// Does what `put` does, and counts an insertion or a rejection, and the evictions.
+    /// Does what `put` does, and counts an insertion or a rejection, and the evictions. Cost: as `put`, plus a search.
     ///
     /// # Errors
     ///
@@ -113,6 +113,8 @@ where
     }
 
     /// Does what `get_or_put` does. Counts a hit, or counts a miss and what `put_counted` counts.
+    ///
+    /// Cost: as `get` if the key is there, else as `put_counted`.
     ///
     /// # Errors
     ///

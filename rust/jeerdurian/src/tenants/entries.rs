@@ -44,6 +44,8 @@ where
     /// value of a stored key is rejected, the callback gets the removed entry. If the new entry cannot be stored, the
     /// callback gets it.
     ///
+    /// Cost: as `put`, plus the calls of the callback.
+    ///
     /// # Errors
     ///
     /// As for `put`.
@@ -64,12 +66,18 @@ where
         self.cache.put_with(&Borrowed(name), key, value, &mut lost)
     }
 
-    /// Inserts as [`put_with`](Self::put_with) does, and also returns the replaced value, or the new value if it is
-    /// rejected.
+    /// Inserts as [`put_with`](Self::put_with) does, and also returns the value that the tenant does not keep: the
+    /// replaced value, or the new value if it is rejected.
+    ///
+    /// If the new entry of an absent key is rejected, `kept` is false, `unkept` is the given value, the tenant stays as
+    /// it is, the callback gets nothing, and the key is dropped. If the key was there and is not kept, the callback got
+    /// the key's entry, with the old value if the new value was rejected.
+    ///
+    /// Cost: as `put_with`.
     ///
     /// # Errors
     ///
-    /// As for `put`. After `Memory` the callback got the key and the value.
+    /// As for `put`. After `NotOpen` the key and the value are dropped; after `Memory` the callback got them.
     ///
     /// ```
     /// # let mut cache = jeerdurian::tenants::TenantCache::<u64, u64, u64>::new();
@@ -77,6 +85,8 @@ where
     /// # cache.put(&1, 7, 2).unwrap();
     /// let replaced = cache.put_full(&1, 7, 3, |_, _| {}).unwrap();
     /// assert_eq!((replaced.kept, replaced.unkept), (true, Some(2)));
+    /// let rejected = cache.put_full(&1, 8, 9, |_, _| unreachable!()).unwrap();
+    /// assert_eq!((rejected.kept, rejected.unkept), (false, Some(9)));
     /// ```
     pub fn put_full<T>(
         &mut self,
@@ -119,6 +129,8 @@ where
     /// Returns a tenant's value of a key. If the key is not there, inserts it with the value that the closure returns.
     ///
     /// Returns `None` if the new entry is not there afterwards, as `put` returns `false`.
+    ///
+    /// Cost: as `get` if the key is there, else as `put`.
     ///
     /// # Errors
     ///
@@ -235,6 +247,8 @@ where
 
     /// Removes a tenant's entries for which the closure returns false. Calls the closure with each entry, oldest first.
     ///
+    /// Cost: `O(n)` for n entries of the tenant.
+    ///
     /// # Errors
     ///
     /// `NotOpen`: nothing has changed.
@@ -255,6 +269,8 @@ where
     }
 
     /// Drops the entries of a tenant, which stays open.
+    ///
+    /// Cost: as [`LruMap::clear`](crate::LruMap::clear).
     ///
     /// # Errors
     ///

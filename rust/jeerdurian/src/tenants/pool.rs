@@ -19,9 +19,6 @@ use core::hash::{BuildHasher, Hash};
 /// Proved of the sources: the total of all costs stays within the limit. While a tenant's cost is within its share, no
 /// call of another tenant changes the tenant. The proofs assume that a cost never changes while its entry is stored.
 ///
-/// In the examples of the calls, `pool` has a limit of 5 and two open tenants: 1 with a share of 3 and the entry (7, 2),
-/// and 2 with a share of 1 and no entry.
-///
 /// ```
 /// use jeerdurian::tenants::TenantPool;
 ///
@@ -53,7 +50,7 @@ where
 }
 
 impl<N: Eq + Hash, K: Eq + Hash, V, L: Budget<K, V>> TenantPool<N, K, V, L> {
-    /// Makes a pool without tenants, whose hashers have random seeds. It takes no memory.
+    /// Makes a pool without tenants, whose hashers have random seeds. Cost: `O(1)`, and no memory.
     ///
     /// ```
     /// # use jeerdurian::tenants::TenantPool;
@@ -73,7 +70,7 @@ where
     L: Budget<K, V>,
     S: BuildHasher + Copy,
 {
-    /// Makes a pool without tenants, with this hasher of names and keys. It takes no memory.
+    /// Makes a pool without tenants, with this hasher of names and keys. Cost: `O(1)`, and no memory.
     ///
     /// Each tenant's map gets a copy of the hasher, so `S` must be `Copy`. [`RandomState`] is `Copy`, but std's
     /// `RandomState` and `BuildHasherDefault` are not.
@@ -87,22 +84,22 @@ where
         TenantPool { pool: proved::TenantPool::with_hasher(Global, hasher, limit) }
     }
 
-    /// Returns the number of open tenants.
+    /// Returns the number of open tenants. Cost: `O(1)`.
     pub fn len(&self) -> usize {
         self.pool.len()
     }
 
-    /// Returns whether no tenant is open.
+    /// Returns whether no tenant is open. Cost: `O(1)`.
     pub fn is_empty(&self) -> bool {
         self.pool.is_empty()
     }
 
-    /// Returns the limit of the sum of all entries' costs.
+    /// Returns the limit of the sum of all entries' costs. Cost: `O(1)`.
     pub fn limit(&self) -> u64 {
         self.pool.limit()
     }
 
-    /// Returns the sum of the costs of the entries of all tenants.
+    /// Returns the sum of the costs of the entries of all tenants. Cost: `O(1)`.
     pub fn total_cost(&self) -> u128 {
         self.pool.total_cost()
     }
@@ -137,7 +134,7 @@ where
         if_unwound(&mut self.pool, proved::TenantPool::sum_again, |pool| pool.put(&Borrowed(name), key, value))
     }
 
-    /// Returns a tenant's value of a key, and makes its entry the tenant's newest.
+    /// Returns a tenant's value of a key, and makes its entry the tenant's newest. Cost: `O(1)` expected.
     ///
     /// # Errors
     ///
@@ -152,7 +149,7 @@ where
         self.pool.get(&Borrowed(name), &Borrowed(key))
     }
 
-    /// Returns a tenant's value of a key. The order stays.
+    /// Returns a tenant's value of a key. The order stays. Cost: `O(1)` expected.
     ///
     /// # Errors
     ///
@@ -167,7 +164,7 @@ where
         self.pool.peek(&Borrowed(name), &Borrowed(key))
     }
 
-    /// Returns whether a tenant has an entry of a key. The order stays.
+    /// Returns whether a tenant has an entry of a key. The order stays. Cost: `O(1)` expected.
     ///
     /// # Errors
     ///
@@ -182,7 +179,7 @@ where
         self.pool.contains(&Borrowed(name), &Borrowed(key))
     }
 
-    /// Removes a key of a tenant. Returns its value.
+    /// Removes a key of a tenant. Returns its value. Cost: `O(1)` expected.
     ///
     /// # Errors
     ///
@@ -197,7 +194,7 @@ where
         if_unwound(&mut self.pool, proved::TenantPool::sum_again, |pool| pool.remove(&Borrowed(name), &Borrowed(key)))
     }
 
-    /// Returns the sum of the costs of a tenant's entries.
+    /// Returns the sum of the costs of a tenant's entries. Cost: `O(1)` expected.
     ///
     /// # Errors
     ///
@@ -210,7 +207,7 @@ where
         self.pool.cost(&Borrowed(name))
     }
 
-    /// Returns the share of a tenant.
+    /// Returns the share of a tenant. Cost: `O(1)` expected.
     ///
     /// # Errors
     ///
@@ -224,6 +221,8 @@ where
     }
 
     /// Closes a tenant and drops its entries. Returns the number of these entries. Its share is free then.
+    ///
+    /// Cost: `O(buckets)` of the tenant's table.
     ///
     /// # Errors
     ///

@@ -12,9 +12,13 @@ use crate::rattle_std::vec::Vec;
 /// ```
 pub use crate::erased::lru_trace::SizeError;
 
+impl core::error::Error for SizeError {}
+
 /// How often LRU caches with limits of bytes miss on a trace, counted in one pass.
 ///
-/// A key keeps the size of its first reference. Proved: each count is exact.
+/// A key keeps the size of its first reference. A cache with a limit of n bytes contains the newest keys that together
+/// take at most n bytes. So a key of more than n bytes empties this cache, and a map under [`ByCost`](crate::ByCost)
+/// rejects the key. Proved: each count is exact.
 ///
 /// ```
 /// use jeerdurian::trace::ByteCurve;
@@ -46,7 +50,7 @@ impl ByteCurve {
         self.0.refer(key, bytes)
     }
 
-    /// References a key without counting the reference. Call this before the first `refer`.
+    /// References a key without counting the reference. Call this before the first `refer`. Cost: as `refer`.
     ///
     /// # Errors
     ///
@@ -55,22 +59,23 @@ impl ByteCurve {
         self.0.warm_up(key, bytes)
     }
 
-    /// Returns the number of counted references.
+    /// Returns the number of counted references. Cost: `O(1)`.
     pub fn references(&self) -> u64 {
         self.0.references()
     }
 
-    /// Returns the number of different keys, including the keys of the warm-up.
+    /// Returns the number of different keys, including the keys of the warm-up. Cost: `O(1)`.
     pub fn keys(&self) -> usize {
         self.0.keys()
     }
 
-    /// Returns how many bytes all keys take together, including the keys of the warm-up.
+    /// Returns how many bytes all keys take together, including the keys of the warm-up. Cost: `O(1)`.
     pub fn bytes(&self) -> u64 {
         self.0.bytes()
     }
 
     /// Returns how many counted references miss in an LRU cache with this limit. `None` if `new` did not get the limit.
+    /// Cost: in proportion to the number of limits.
     pub fn misses(&self, limit: u64) -> Option<u64> {
         self.0.misses(limit)
     }

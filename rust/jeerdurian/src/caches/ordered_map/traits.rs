@@ -1,12 +1,20 @@
 //! The traits of Rust's library that an ordered map implements.
 
 use super::OrderedMap;
+use crate::fallible::out_of_memory;
+use crate::traits::promised;
 use core::hash::{BuildHasher, Hash};
 
-#[cfg(feature = "runtime-rng")]
-impl<K: Eq + Hash, V> Default for OrderedMap<K, V> {
+impl<K: Eq + Hash, V, S: BuildHasher + Default> Default for OrderedMap<K, V, S> {
+    /// Makes an empty map with the default hasher. Cost: `O(1)`, and no memory.
+    ///
+    /// ```
+    /// # use jeerdurian::caches::OrderedMap;
+    /// let map: OrderedMap<u64, u64, std::hash::RandomState> = OrderedMap::default();
+    /// assert!(map.is_empty());
+    /// ```
     fn default() -> Self {
-        Self::new()
+        Self::with_hasher(S::default())
     }
 }
 
@@ -26,11 +34,6 @@ impl<K: Eq + Hash + core::fmt::Debug, V: core::fmt::Debug, S: BuildHasher> core:
     }
 }
 
-#[cold]
-fn out_of_memory<K, V>() -> ! {
-    alloc::alloc::handle_alloc_error(core::alloc::Layout::new::<(K, V)>())
-}
-
 impl<K: Eq + Hash + Clone, V: Clone, S: BuildHasher + Clone> Clone for OrderedMap<K, V, S> {
     /// Clones the entries, in order. If memory runs out, calls `handle_alloc_error`, which ends the program.
     ///
@@ -47,6 +50,9 @@ impl<K: Eq + Hash + Clone, V: Clone, S: BuildHasher + Clone> Clone for OrderedMa
 impl<K: Eq + Hash, V, S: BuildHasher> Extend<(K, V)> for OrderedMap<K, V, S> {
     /// Inserts each entry. If memory runs out, calls `handle_alloc_error`, which ends the program.
     ///
+    /// First reserves growth for the entries that the iterator promises (`size_hint`), or for half of them if the map
+    /// has entries. If the reservation fails, the table grows with the inserts.
+    ///
     /// ```
     /// # use jeerdurian::caches::OrderedMap;
     /// let mut map: OrderedMap<u64, u64> = OrderedMap::new();
@@ -54,6 +60,8 @@ impl<K: Eq + Hash, V, S: BuildHasher> Extend<(K, V)> for OrderedMap<K, V, S> {
     /// assert!(map.iter().eq([(&1, &11), (&2, &20)]));
     /// ```
     fn extend<I: IntoIterator<Item = (K, V)>>(&mut self, entries: I) {
+        let entries = entries.into_iter();
+        let _ = self.try_reserve(promised(&entries, self.is_empty()));
         for (key, value) in entries {
             self.insert(key, value).unwrap_or_else(|_| out_of_memory::<K, V>());
         }
@@ -69,8 +77,22 @@ impl<K: Eq + Hash, V, S: BuildHasher + Default> FromIterator<(K, V)> for Ordered
     /// assert!(map.keys().eq([&1, &2]));
     /// ```
     fn from_iter<I: IntoIterator<Item = (K, V)>>(entries: I) -> Self {
-        let mut map = Self::with_hasher(S::default());
+        let mut map = Self::default();
         map.extend(entries);
         map
+    }
+}
+
+#[cfg(feature = "runtime-rng")]
+impl<K: Eq + Hash, V, const N: usize> From<[(K, V); N]> for OrderedMap<K, V> {
+    /// Makes a map of these entries, as [`extend`](OrderedMap::extend) does.
+    ///
+    /// ```
+    /// # use jeerdurian::caches::OrderedMap;
+    /// let map = OrderedMap::from([(1, 11), (2, 20)]);
+    /// assert!(map.keys().eq([&1, &2]));
+    /// ```
+    fn from(entries: [(K, V); N]) -> Self {
+        entries.into_iter().collect()
     }
 }

@@ -3,10 +3,12 @@
 use super::{BlockDevice, PageCache, PageError};
 use crate::RandomState;
 use crate::erased::lru_caches as proved;
+use core::error::Error;
+use core::fmt::{self, Display, Formatter};
 use core::hash::BuildHasher;
 
 impl<B: Copy, D: BlockDevice<B>, S: BuildHasher> PageCache<B, D, S> {
-    /// Flushes the cache, and returns the device.
+    /// Flushes the cache, and returns the device. Cost: as `flush`.
     ///
     /// # Errors
     ///
@@ -28,7 +30,7 @@ impl<B: Copy, D: BlockDevice<B>, S: BuildHasher> PageCache<B, D, S> {
         }
     }
 
-    /// Drops the cached pages and returns the device. Writes since the last flush may be lost.
+    /// Drops the cached pages and returns the device. Writes since the last flush may be lost. Cost: `O(1)`.
     ///
     /// ```
     /// # use jeerdurian::caches::{FileDevice, PageCache};
@@ -77,7 +79,7 @@ pub fn with_cache<B: Copy, D: BlockDevice<B>, R>(
 /// # let file = std::io::Cursor::new(*b"zeroone.two.");
 /// # let mut cache = PageCache::new(FileDevice::<_, 4>::new(file, 3), 2);
 /// assert_eq!(cache.write(1, *b"uno."), Ok(()));
-/// let device = match cache.close() {
+/// let device = match cache.close() { // or `cache.close()?`
 ///     Ok(device) => device,
 ///     Err(unclosed) => {
 ///         println!("{}", unclosed.error);
@@ -92,3 +94,13 @@ pub struct Unclosed<B: Copy, D: BlockDevice<B>, S = RandomState> {
     /// Why the flush failed.
     pub error: PageError<D::Error>,
 }
+
+impl<B: Copy, D: BlockDevice<B, Error: Display>, S> Display for Unclosed<B, D, S> {
+    fn fmt(&self, f: &mut Formatter<'_>) -> fmt::Result {
+        write!(f, "the cache is not closed: {}", self.error)
+    }
+}
+
+impl<B: Copy, D: BlockDevice<B, Error: Error>, S> Error for Unclosed<B, D, S> {}
+
+impl<E: Eq> Eq for PageError<E> {}

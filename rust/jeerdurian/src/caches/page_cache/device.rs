@@ -4,7 +4,8 @@ use crate::erased::lru_caches as proved;
 
 /// A device of numbered blocks, such as a disk or a file. Any call may fail.
 ///
-/// The promises of a [`PageCache`](super::PageCache) are proved for devices whose calls do what their docs say.
+/// The promises of a [`PageCache`](super::PageCache) are proved for devices whose calls do what their docs say. A cache
+/// passes blocks by value through the stack, so blocks of several hundred KiB may overflow the stack of a thread.
 ///
 /// ```
 /// use jeerdurian::caches::BlockDevice;
@@ -38,7 +39,8 @@ pub trait BlockDevice<B> {
     /// Returns whether the device has a block of this number. A cache calls this before it reads or writes the block.
     fn has(&self, n: u64) -> bool;
 
-    /// Returns whether all `sync`s succeeded so far. A cache itself remembers if one of its syncs failed.
+    /// Returns whether all `sync`s succeeded so far. A cache itself remembers if one of its syncs failed or
+    /// panicked.
     fn is_usable(&self) -> bool {
         true
     }
@@ -90,6 +92,8 @@ impl<B, D: BlockDevice<B>> proved::BlockDevice<B> for Called<D> {
     }
 
     fn sync(&mut self) -> Result<(), D::Error> {
+        // A sync that panics has failed, too.
+        self.1 = true;
         let synced = self.0.sync();
         self.1 = synced.is_err();
         synced

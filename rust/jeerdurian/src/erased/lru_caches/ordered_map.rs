@@ -25,7 +25,7 @@ mod more;
 /// the examples, `map` contains (1, 11) and then (2, 20).
 
 pub struct OrderedMap<K, V, S = RandomState> {
-    map: LruMap<K, V, Unlimited, S>,
+    pub(crate) map: LruMap<K, V, Unlimited, S>,
 }
 
 impl<K: Eq + Hash, V> OrderedMap<K, V, RandomState> {
