@@ -6,8 +6,8 @@ use Rattle.lru_tenants.specs.Inside.{HoldsPool}
 use Rattle.lru_tenants.specs.Pool.{Closes}
 use Rattle.lru_tenants.specs.TenantRuns.{OfOpen}
 use Rattle.lru_tenants.specs.declared.error.TenantError.TheVariants.{NotOpen}
-use Rattle.lru_tenants.proofs.PoolKept.{pool_of, is_pool, own-cost, own-share, pool-absent, pool-removed, leaves-removed}
-use Rattle.lru_tenants.proofs.PoolKept.{on-from, closed-same}
+use Rattle.lru_tenants.proofs.Changes.{on-removed}
+use Rattle.lru_tenants.proofs.PoolKept.{is_pool, own-cost, own-share, pool-absent, pool-removed}
 use Rattle.lru_tenants.proofs.pool.TenantPool.close.Goals as goal
 
 pub invariant_of-self : goal.invariant_of-self
@@ -27,9 +27,11 @@ returns-in_default-clause-closes g c =
     let ps = c.self.inside.tenants.pairs in let names = g.T.LookupKey.names c.args.name.now in
     let found : c.remove.result ≡ lookup names ps = c.remove.ensures.step.value
     ∙ ap (option_map (λ p. p.1)) (option_map_id _) ∙ sym (lookup-entry names ps) in
-    rw (ap (λ st. st.pairs) c.remove.ensures.step.state.is, ← c.self.view_is)
-    (closed-same (Err NotOpen) (OfOpen Closes) c.self.inside.limit c.self.inside.hasher ps
-    (sym found ∙ c.in_default.is) (refl, refl))
+    rw (ap (λ st. st.pairs) c.remove.ensures.step.state.is, ← c.self.view_is) (
+      refl,
+      on-removed (g.met.T.LookupKey.laws.one c.args.name.now) (OfOpen Closes) (Err NotOpen) g.met.N.Eq.laws ps
+          c.len-len.ensures.map.distinct None (sym found ∙ c.in_default.is) (refl, refl),
+    )
 
 pub overflow_sub-self : goal.overflow_sub-self
 overflow_sub-self g c =
@@ -67,10 +69,8 @@ returns-clause-closes g c =
     let ps = c.self.inside.tenants.pairs in let names = g.T.LookupKey.names c.args.name.now in
     let found : c.remove.result ≡ lookup names ps = c.remove.ensures.step.value
     ∙ ap (option_map (λ p. p.1)) (option_map_id _) ∙ sym (lookup-entry names ps) in
-    let there = sym found ∙ c.in-Some.is in
-    rw (ap (λ st. st.pairs) c.remove.ensures.step.state.is, ← c.self.view_is)
-    (on-from (OfOpen Closes) _ (pool_of ps c.self.inside.limit c.self.inside.hasher)
-    (pool_of (without names ps) c.self.inside.limit c.self.inside.hasher)
-    (Some c.in-Some.own) None there (ap Ok c.len.ensures.len, refl)
-    (leaves-removed g.met.N.Eq.laws names (g.met.T.LookupKey.laws.one c.args.name.now) c.self.inside.limit
-    c.self.inside.hasher ps c.in-Some.own there c.len-len.ensures.map.distinct))
+    rw (ap (λ st. st.pairs) c.remove.ensures.step.state.is, ← c.self.view_is) (
+      refl,
+      on-removed (g.met.T.LookupKey.laws.one c.args.name.now) (OfOpen Closes) _ g.met.N.Eq.laws ps
+          c.len-len.ensures.map.distinct (Some c.in-Some.own) (sym found ∙ c.in-Some.is) (ap Ok c.len.ensures.len, refl),
+    )
