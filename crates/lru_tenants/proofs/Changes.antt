@@ -6,9 +6,10 @@ use Rattle.std.proofs.lemmas.Map.{lookup-set_value, lookup-remove_entry}
 use Rattle.std.proofs.lemmas.Map.Views.{IfSome-lookup_from_All}
 use Rattle.std.specs.Cmp.{IsEquivalence}
 use Rattle.std.specs.List.{All, IsDistinct}
-use Rattle.std.specs.Map.{keys_of, lookup, remove_entry, set_value, values_of}
-use Rattle.std.specs.Prelude.{IfSome}
-use Rattle.lru_model.proofs.CallerLemmas.{no_pair, without_none}
+use Rattle.std.proofs.lemmas.Iterator.Adapters.{option_map_id}
+use Rattle.std.specs.Map.{keys_of, lookup, lookup_entry, remove_entry, set_value, values_of}
+use Rattle.std.specs.Prelude.{IfSome, option_map}
+use Rattle.lru_model.proofs.CallerLemmas.{lookup-entry, no_pair, without_none}
 use Rattle.lru_tenants.specs.Tenants.{Changes, ChangesOnly}
 use Rattle.lru_tenants.specs.TenantRuns.{Opens, Takes}
 use Rattle.lru_tenants.specs.declared.error.TenantError.TheVariants.{AlreadyOpen, Memory, OverTotal}
@@ -26,6 +27,12 @@ found-name {K} test (entry ∷ entries) x e = go (found-name test entries x) (te
         → cond is (Some entry.1) (lookup test entries) ≡ Some x → (k : K) × (test k ≡ true)
     go later true is e = (entry.0, is)
     go later false is e = later e
+
+-- what `LruMap::remove` returns if the limiter changes no removed entry
+pub found-removed : {K X : Type 0} (test : K → Bool) (entries : List (K × X)) {value : Option X}
+    → value ≡ option_map (λ p. p.1) (option_map (λ p. p) (lookup_entry test entries)) → value ≡ lookup test entries
+found-removed test entries is =
+    is ∙ ap (option_map (λ p. p.1)) (option_map_id (lookup_entry test entries)) ∙ sym (lookup-entry test entries)
 
 module _ {N X : Type 0} {eq : N → N → Bool} {names : N → Bool}
     (one : (x y : N) → names x ≡ true → names y ≡ eq x y) where

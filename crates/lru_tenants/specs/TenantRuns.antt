@@ -127,11 +127,13 @@ module _ {N K V L S : Type 0} (rules : Rules K V L) (offers : Offers K V L K) (c
   TenantStep cache (calls.Close name) old answer new = (result : Result ℕ TenantError)
       × OfOpen Closes old result new × (answer ≡ answers.Closed result)
 
+  -- The call changes the tenant that it names as `TenantStep` says, and nothing else.
   abbrev pub CacheStep : Cache N K V L S → TenantCall N K V → TenantAnswer V → Cache N K V L S → Type 0
   CacheStep old call answer new = On same (same (named call)) (TenantStep old call) old answer new
       × AreTenants eq cost account budget_of new
 
-  -- The calls, one after another, change the cache from `old` to `new`, and return these answers.
+  -- The calls change the cache from `old` to `new`, and return these answers. Each call finds the cache as the previous
+  -- call left it.
   abbrev pub IsRun : Cache N K V L S → List (TenantCall N K V) → List (TenantAnswer V) → Cache N K V L S → Type 0
   IsRun old [] [] new = new ≡ old
   IsRun old (call ∷ calls) (answer ∷ answers) new =

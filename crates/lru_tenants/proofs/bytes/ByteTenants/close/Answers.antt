@@ -1,13 +1,10 @@
-use Rattle.std.proofs.Common.{◌≡◌, Some, None, Ok, Err, sym, refl, ap, ◌∙◌, option_map, length}
-use Rattle.std.proofs.lemmas.Iterator.Adapters.{option_map_id}
+use Rattle.std.proofs.Common.{Some, None, Ok, Err, sym, refl, ap, ◌∙◌, length}
 use Rattle.lru_limits.specs.Bytes.{both_own}
-use Rattle.lru_model.specs.Lists.{lookup}
 use Rattle.lru_model.specs.Runs.Step.{removes}
-use Rattle.lru_model.proofs.CallerLemmas.{lookup-entry}
 use Rattle.lru_tenants.specs.TenantRuns.{OfOpen, Closes}
 use Rattle.lru_tenants.specs.declared.error.TenantError.TheVariants.{NotOpen}
 use Rattle.lru_tenants.proofs.ByteChanges.{left-rest}
-use Rattle.lru_tenants.proofs.Changes.{on-removed}
+use Rattle.lru_tenants.proofs.Changes.{found-removed, on-removed}
 use Rattle.lru_tenants.proofs.ByteSums.{is_within, holds-removed}
 use Rattle.lru_tenants.proofs.bytes.ByteTenants.close.Goals as goal
 
@@ -40,8 +37,7 @@ returns-clause-within g c = is_within g.N.OwnedBytes.owned (both_own g.K.OwnedBy
 pub returns-in_default-clause-closes : goal.returns-in_default-clause-closes
 returns-in_default-clause-closes g c =
     let names = g.T.LookupKey.names c.args.name.now in let old = c.self.inside.tenants in
-    let found : c.remove.result ≡ lookup names old.pairs = c.remove.ensures.step.value
-    ∙ ap (option_map (λ p. p.1)) (option_map_id _) ∙ sym (lookup-entry names old.pairs) in
+    let found = found-removed names old.pairs c.remove.ensures.step.value in
     rw (← c.self.view_is) (
       left-rest old c.remove.new.self _ c.remove.ensures.step.state (c.calls_keep_the_bytes.ensures.limit old
           c.remove.new.self c.len-len.ensures.map.sized (removes names c.remove.result c.remove.ensures.step)
@@ -54,8 +50,7 @@ returns-in_default-clause-closes g c =
 pub returns-clause-closes : goal.returns-clause-closes
 returns-clause-closes g c =
     let names = g.T.LookupKey.names c.args.name.now in let old = c.self.inside.tenants in
-    let found : c.remove.result ≡ lookup names old.pairs = c.remove.ensures.step.value
-    ∙ ap (option_map (λ p. p.1)) (option_map_id _) ∙ sym (lookup-entry names old.pairs) in
+    let found = found-removed names old.pairs c.remove.ensures.step.value in
     rw (← c.self.view_is) (
       left-rest old c.remove.new.self _ c.remove.ensures.step.state (c.calls_keep_the_bytes.ensures.limit old
           c.remove.new.self c.len-len.ensures.map.sized (removes names c.remove.result c.remove.ensures.step)
