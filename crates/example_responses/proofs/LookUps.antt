@@ -11,15 +11,16 @@ use Rattle.lru_caches.specs.Counted.{looked_up as count_look_up}
 use Rattle.lru_limits.specs.Budget.{Budget}
 use Rattle.lru_limits.specs.Rules.{Rules}
 use Rattle.lru_model.specs.Calls.{promoted, Remove}
-use Rattle.lru_model.specs.Lists.{lookup, lookup_entry, after, front, front_places, without}
-use Rattle.lru_model.specs.State.{State, notified_of}
-use Rattle.lru_tenants.specs.Cache.{Cache, tenant, IsTenant, Leaves, On}
+use Rattle.lru_model.specs.Lists.{lookup, lookup_entry, after, front, without}
+use Rattle.lru_model.specs.State.{notified_of}
+use Rattle.lru_tenants.specs.Cache.{Cache, IsTenant, On}
 use Rattle.lru_tenants.specs.Counting.{CountsGet, counted}
 use Rattle.lru_tenants.specs.TenantRuns.{OfOpen, IfOpen, read_of}
+use Rattle.lru_tenants.specs.Tenants.{ChangesOnly}
 use Rattle.lru_tenants.specs.declared.counting.Counting.{Counting}
 use Rattle.lru_tenants.specs.declared.error.TenantError.{TenantError}
-use Rattle.example_responses.specs.LookUps.{Host, fresh_at, without_stale, looked_up, with_list, DropsStale, GetsCopy}
-use Rattle.example_responses.specs.LookUps.{IsCopy, Copies}
+use Rattle.example_responses.specs.LookUps.{Host, fresh_at, without_stale, looked_up, DropsStale, GetsCopy}
+use Rattle.example_responses.specs.LookUps.{Copies}
 use Rattle.example_responses.specs.declared.cache.Response.{Response}
 use Rattle.std.specs.Prelude.{IfSome, IfOk}
 use Rattle.lru_model.proofs.CallerLemmas.{without_none}
@@ -61,7 +62,7 @@ module _ {K V : Type 0} {eq : K → K → Bool} (laws : IsEquivalence eq) (names
 
 pub distinct-keys : {N K V L S : Type 0} {keys : K → K → Bool} {cost : K → V → ℕ} {account budget : L → ℕ}
     (cache : Cache N K V L S) (test : N → Bool) → All (IsTenant keys cost account budget) (values_of cache.tenants)
-    → IfSome (tenant test cache) (λ map. IsDistinct keys (keys_of map.pairs))
+    → IfSome (lookup test cache.tenants) (λ map. IsDistinct keys (keys_of map.pairs))
 distinct-keys {keys = keys} {cost = cost} {account = account} {budget = budget} cache test all =
     IfSome-lookup_from_All (λ map. IsDistinct keys (keys_of map.pairs)) test cache.tenants
     (All-weaker (IsTenant keys cost account budget) (λ map. IsDistinct keys (keys_of map.pairs))
@@ -89,21 +90,12 @@ fresh-before now (Some response) = go (nat_lt now response.expires) refl
     go true e = grind (arith, e)
     go false e = tt
 
-leaves-both : {N K V L S : Type 0} {eq : N → N → Bool} (host : N → Bool) (mid-left left : Option (State K V L S))
-    (old mid new : Cache N K V L S) → Leaves eq host mid-left old mid → Leaves eq host left mid new
-    → Leaves eq host left old new
-leaves-both {N} {K} {V} {L} {S} {eq} host mid-left left old mid new first second = record {
-  one = second.one;
-  own = second.own;
-  tenants = λ other. second.tenants other ∙ go other (host other) (first.tenants other);
-  hasher = second.hasher ∙ first.hasher;
-  total_limit = second.total_limit ∙ first.total_limit;
+only-both : {N X : Type 0} {eq : N → N → Bool} {host : N → Bool} {old mid new : List (N × X)}
+    → ChangesOnly eq host old mid → ChangesOnly eq host mid new → ChangesOnly eq host old new
+only-both first second = record {
+  one = first.one;
+  others = λ other apart. second.others other apart ∙ first.others other apart;
 }
-  where
-    go : (other : N) (b : Bool) → tenant (eq other) mid ≡ cond b mid-left (tenant (eq other) old)
-        → cond b left (tenant (eq other) mid) ≡ cond b left (tenant (eq other) old)
-    go other true is = refl
-    go other false is = is
 
 module _ {K S : Type 0} (names : K → Bool) (now : ℕ) where
   pub fresh-said : (was : Option (Host K S)) (found : Option Response)
@@ -140,16 +132,16 @@ module _ {N K S : Type 0} {eq : N → N → Bool} {keys : K → K → Bool} (law
     (one : (x y : K) → names x ≡ true → names y ≡ keys x y) (now : ℕ) (rules : Rules K Response (Counting Budget))
     (host : N → Bool) (old new : Cache N K Response (Counting Budget) S) where
   pub stale-dropped : KeepsLimit rules → (removed : Option Response)
-      → Ok false ≡ read_of (λ map. is_some (fresh_at now (lookup names map.pairs))) (tenant host old)
-      → IfSome (tenant host old) (λ map. IsDistinct keys (keys_of map.pairs))
+      → Ok false ≡ read_of (λ map. is_some (fresh_at now (lookup names map.pairs))) (lookup host old.tenants)
+      → IfSome (lookup host old.tenants) (λ map. IsDistinct keys (keys_of map.pairs))
       → On eq host (IfOpen (Remove rules names)) old (Ok removed) new
       → On eq host (OfOpen (DropsStale names now)) old (Ok tt) new
-  stale-dropped keeps removed said distinct (left, removes, leaves) =
-      (left, go (tenant host old) said distinct removes, leaves)
+  stale-dropped keeps removed said distinct (rest, (removes, only)) =
+      (rest, (go (lookup host old.tenants) said distinct removes, only))
     where
       go : (was : Option (Host K S)) → Ok false ≡ read_of (λ map. is_some (fresh_at now (lookup names map.pairs))) was
-          → IfSome was (λ map. IsDistinct keys (keys_of map.pairs)) → IfOpen (Remove rules names) was (Ok removed) left
-          → OfOpen (DropsStale names now) was (Ok tt) left
+          → IfSome was (λ map. IsDistinct keys (keys_of map.pairs)) → IfOpen (Remove rules names) was (Ok removed) (lookup host new.tenants)
+          → OfOpen (DropsStale names now) was (Ok tt) (lookup host new.tenants)
       go None said distinct does = absurd (ok≢err said)
       go (Some map) said distinct (result, own, remove, says, is) =
           let no = sym (ok-same said) in
@@ -181,9 +173,9 @@ front-kept {K} names now xs finds = go (fresh_at now (lookup names xs)) finds
 
 module _ {N K S : Type 0} {eq : N → N → Bool} (names : K → Bool) (now : ℕ) (host : N → Bool)
     (old : Cache N K Response (Counting Budget) S) where
-  pub fresh-stays : Ok true ≡ read_of (λ map. is_some (fresh_at now (lookup names map.pairs))) (tenant host old)
-      → Leaves eq host (tenant host old) old old → On eq host (OfOpen (DropsStale names now)) old (Ok tt) old
-  fresh-stays said leaves = (tenant host old, go (tenant host old) said, leaves)
+  pub fresh-stays : Ok true ≡ read_of (λ map. is_some (fresh_at now (lookup names map.pairs))) (lookup host old.tenants)
+      → ChangesOnly eq host old.tenants old.tenants → On eq host (OfOpen (DropsStale names now)) old (Ok tt) old
+  fresh-stays said only = (refl, (go (lookup host old.tenants) said, only))
     where
       go : (was : Option (Host K S)) → Ok true ≡ read_of (λ map. is_some (fresh_at now (lookup names map.pairs))) was
           → OfOpen (DropsStale names now) was (Ok tt) was
@@ -201,16 +193,21 @@ module _ {N K S : Type 0} {eq : N → N → Bool} (names : K → Bool) (now : �
       → On eq host (OfOpen (DropsStale names now)) old (Ok tt) mid
       → On eq host (IfOpen (CountsGet names)) mid said new → said ≡ Ok found → Copies found answer
       → On eq host (OfOpen (GetsCopy names now)) old answer new
-  gets-copy mid new found said answer (mid-left, drops, first) (left, gets, second) told copied =
-      (left, go (tenant host old) drops, leaves-both host mid-left left old mid new first second)
+  gets-copy mid new found said answer (rest, (drops, first)) (more, (gets, second)) told copied = (
+    more ∙ ap {A = Cache N K Response (Counting Budget) S} (λ cache. record cache { tenants = new.tenants }) rest,
+    (go (lookup host old.tenants) drops, only-both first second),
+  )
     where
-      go : (was : Option (Host K S)) → OfOpen (DropsStale names now) was (Ok tt) mid-left
+      left : Option (Host K S)
+      left = lookup host new.tenants
+
+      go : (was : Option (Host K S)) → OfOpen (DropsStale names now) was (Ok tt) (lookup host mid.tenants)
           → OfOpen (GetsCopy names now) was answer left
       go None (says, is) = absurd (ok≢err says)
       go (Some map) (own, says, is, state, finds) =
           let (result, after, (value, counts), tells, now-is) =
-          subst (λ t. IfOpen (CountsGet names) t (Ok found) left) (first.own ∙ is)
-          (subst (λ a. IfOpen (CountsGet names) (tenant host mid) a left) told gets) in
+          subst (λ t. IfOpen (CountsGet names) t (Ok found) left) is
+          (subst (λ a. IfOpen (CountsGet names) (lookup host mid.tenants) a left) told gets) in
           let fresh : found ≡ fresh_at now (lookup names map.pairs) = ok-same tells ∙ value ∙ finds in
           let flag : is_some result ≡ is_some (fresh_at now (lookup names map.pairs)) =
           ap is_some (value ∙ finds) in
@@ -235,7 +232,7 @@ pub copy-fresh : {N K S : Type 0} {eq : N → N → Bool} (names : K → Bool) (
     (old new : Cache N K Response (Counting Budget) S) (answer : Result (Option Response) TenantError)
     → On eq host (OfOpen (GetsCopy names now)) old answer new
     → IfOk answer (λ found. IfSome found (λ response. now < response.expires))
-copy-fresh {K = K} {S = S} names now host old new answer (left, gets, leaves) = go (tenant host old) gets
+copy-fresh {K = K} {S = S} names now host old new answer (rest, (gets, only)) = go (lookup host old.tenants) gets
   where
     Fresh : Result (Option Response) TenantError → Type 0
     Fresh a = IfOk a (λ found. IfSome found (λ response. now < response.expires))
@@ -247,7 +244,7 @@ copy-fresh {K = K} {S = S} names now host old new answer (left, gets, leaves) = 
       | inr e ↦ subst Fresh (sym e) tt
     ]
 
-    go : (was : Option (Host K S)) → OfOpen (GetsCopy names now) was answer left → Fresh answer
+    go : (was : Option (Host K S)) → OfOpen (GetsCopy names now) was answer (lookup host new.tenants) → Fresh answer
     go None (says, is) = subst Fresh (sym says) tt
     go (Some map) (own, copied, is, state) =
         copies (fresh_at now (lookup names map.pairs)) (fresh-before now (lookup names map.pairs)) copied

@@ -15,7 +15,7 @@ use Rattle.lru_limits.specs.Texts.{names_text}
 use Rattle.lru_model.specs.Retains.{Answers, Retains, retained}
 use Rattle.lru_model.specs.Lists.{lookup}
 use Rattle.lru_model.specs.State.{State}
-use Rattle.lru_tenants.specs.Cache.{Cache, tenant, On}
+use Rattle.lru_tenants.specs.Cache.{Cache, On}
 use Rattle.lru_tenants.specs.TenantRuns.{IfOpen, OfOpen}
 use Rattle.lru_tenants.specs.declared.counting.Counting.{Counting}
 use Rattle.lru_tenants.specs.declared.error.TenantError.{TenantError}
@@ -50,11 +50,12 @@ module _ {K V L F : Type 0} (rules : Rules K V L) (closure : Mut F (Bor K × (Bo
       (answer : Result (Unit {0}) TenantError) where
     pub retains-filter : On eq host (IfOpen (λ old done new. Retains closure rules f old new)) old answer new
         → On eq host (IfOpen (λ old done new. new.pairs ≡ filter (λ pair. test pair.0) old.pairs)) old answer new
-    retains-filter (left, does, leaves) = (left, go (tenant host old) does, leaves)
+    retains-filter (rest, (does, only)) = (rest, (go (lookup host old.tenants) does, only))
       where
         go : (was : Option (State K V L S))
-            → IfOpen (λ old done new. Retains closure rules f old new) was answer left
-            → IfOpen (λ old done new. new.pairs ≡ filter (λ pair. test pair.0) old.pairs) was answer left
+            → IfOpen (λ old done new. Retains closure rules f old new) was answer (lookup host new.tenants)
+            → IfOpen (λ old done new. new.pairs ≡ filter (λ pair. test pair.0) old.pairs) was answer
+            (lookup host new.tenants)
         go None does = does
         go (Some own) (result, after, done, says, is) = (
           result,
@@ -78,13 +79,13 @@ pub purged-missing : {N S : Type 0} {eq : N → N → Bool} (host : N → Bool) 
     (done : Unit {0}) (answer : Result (Option Response) TenantError)
     → On eq host (IfOpen (PurgesBelow prefix)) old (Ok done) mid
     → On eq host (OfOpen (GetsCopy (names_text path) now)) mid answer new → IfOk answer (λ found. found ≡ None)
-purged-missing {N} {S} {eq} host prefix path now below old mid new done answer (left, purges, leaves)
-    (after, looks, others) = go (tenant host old) purges
+purged-missing {N} {S} {eq} host prefix path now below old mid new done answer (rest, (purges, only))
+    (more, (looks, others)) = go (lookup host old.tenants) purges
   where
-    go : (was : Option (Host (String Global) S)) → IfOpen (PurgesBelow prefix) was (Ok done) left
+    go : (was : Option (Host (String Global) S)) → IfOpen (PurgesBelow prefix) was (Ok done) (lookup host mid.tenants)
         → IfOk answer (λ found. found ≡ None)
     go None (says, is) = absurd (true≢false (ap is_ok says))
     go (Some was) (result, own, does, says, is) =
-        let looked = subst (λ t. OfOpen (GetsCopy (names_text path) now) t answer after) (leaves.own ∙ is) looks in
+        let looked = subst (λ t. OfOpen (GetsCopy (names_text path) now) t answer (lookup host new.tenants)) is looks in
         subst (λ a. IfOk a (λ found. found ≡ None)) (sym (subst (λ o. Copies (fresh_at now o) answer)
         (none-below prefix path below was own does) looked.1)) refl

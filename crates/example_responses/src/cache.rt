@@ -4,7 +4,7 @@ ghost use Rattle.std.specs.Prelude.{string_bytes, string_eq, vec_len};
 ghost use Rattle.std.specs.List.{starts_with};
 ghost use Rattle.lru_limits.specs.Texts.{names_text};
 ghost use Rattle.lru_model.specs.Lists.{lookup};
-ghost use Rattle.lru_tenants.specs.Cache.{On, tenant};
+ghost use Rattle.lru_tenants.specs.Cache.{On};
 ghost use Rattle.lru_tenants.specs.TenantRuns.{read_of, OfOpen, IfOpen};
 ghost use Rattle.lru_tenants.specs.declared.error.TenantError.TheVariants.{Memory};
 ghost use Rattle.example_responses.specs.LookUps.{fresh_at, Copies, DropsStale, GetsCopy};
@@ -38,7 +38,7 @@ type Responses = TenantCache<String, String, Response, Counting<ByWeight<OVERHEA
 
 fn is_fresh(entries: &Responses, host: &str, path: &str, now: u64) -> Result<bool, TenantError>
     ensures { result ≡ read_of (λ map. is_some (fresh_at now (lookup (names_text path.now) map.pairs)))
-        (tenant (names_text host.now) entries.now) }
+        (lookup (names_text host.now) entries.now.tenants) }
 {
     match entries.peek(&host, &path)? {
         Some(response) => Ok(now < response.expires),
@@ -154,7 +154,7 @@ impl ResponseCache {
     }
 
     fn others(&self, host: &str, path: &str) -> u64
-        ensures { result ≡ others (names_text path.now) (tenant (names_text host.now) self.now.entries) }
+        ensures { result ≡ others (names_text path.now) (lookup (names_text host.now) self.now.entries.tenants) }
     {
         match (
             self.entries.entries(&host),
@@ -178,8 +178,8 @@ impl ResponseCache {
             ⟦<Counting<ByWeight<OVERHEAD>> as Budgeted<String, Response>>⟧.budget_of
             ⟦<RandomState as KeyHasher<String>>⟧.hash_of string_eq (names_text host.now) path.now response
             self.old.entries result.0 self.new.entries }
-        ensures evicted { result.1 ≡ others (names_text path.now) (tenant (names_text host.now) self.old.entries)
-            - others (names_text path.now) (tenant (names_text host.now) self.new.entries) }
+        ensures evicted { result.1 ≡ others (names_text path.now) (lookup (names_text host.now) self.old.entries.tenants)
+            - others (names_text path.now) (lookup (names_text host.now) self.new.entries.tenants) }
     {
         let before = self.others(host, path);
         let stored = put_path(self.alloc, &mut self.entries, host, path, response);

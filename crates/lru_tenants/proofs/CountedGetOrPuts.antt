@@ -8,14 +8,12 @@ use Rattle.std.specs.Result.{result_map_both}
 use Rattle.std.specs.declared.alloc.AllocError.{AllocError}
 use Rattle.lru_caches.specs.Counted.{looked_up, inserted, evicted}
 use Rattle.lru_caches.specs.declared.counted.Counts.{Counts}
-use Rattle.lru_limits.specs.Laws.{IsLookup}
 use Rattle.lru_limits.specs.Rules.{Rules, Offers}
 use Rattle.lru_model.specs.Calls.{promoted}
 use Rattle.lru_model.specs.GetOrInserts.{MakesNewest, got, inserted as made}
 use Rattle.lru_model.specs.Inserts.{Insert}
 use Rattle.lru_model.specs.Lists.{first, lookup}
 use Rattle.lru_model.specs.State.{State}
-use Rattle.lru_tenants.proofs.Changes.{cache_of}
 use Rattle.lru_tenants.proofs.CountedPuts.{some-mapped}
 use Rattle.lru_tenants.proofs.GetOrPuts.{gets_value, Ends, ends-open}
 use Rattle.lru_tenants.specs.Counting.{counted, got_or_put, CountsGetOrInsert, CountsGetOrPut, CountsInsert}
@@ -105,13 +103,11 @@ module _ {K V L S : Type 0} (rules : Rules K V (Counting L)) (offers : Offers K 
               ∙ ap (λ a. got_or_put old (result_map_both is_some (λ e. e) a) n left.limiter.counts) (sym says))),
         )
 
-    pub counted-ends : {N Q : Type 0} {same : N → N → Bool} {named : Q → N → Bool} {query_input : Q → List (List ℕ)}
-        {key_input : N → List (List ℕ)} (looks_up : IsLookup named same query_input key_input) (name : Q)
-        → IsEquivalence same → {hasher : S} {limit : Option ℕ} (old : List (N × State K V (Counting L) S))
-        → lookup (named name) old ≡ Some was
-        → Ends eq key answer CountedCall looks_up name
-        (cache_of old hasher limit) (cache_of (set_value (named name) old new) hasher limit)
-    counted-ends looks_up name laws old is =
+    pub counted-ends : {N : Type 0} {same : N → N → Bool} {names : N → Bool}
+        (one : (x y : N) → names x ≡ true → names y ≡ same x y) → IsEquivalence same
+        → (old : List (N × State K V (Counting L) S)) → lookup names old ≡ Some was
+        → Ends eq key answer CountedCall one old (set_value names old new)
+    counted-ends one laws old is =
         let (left, gets, counts) = counts-call in
-        ends-open eq key answer CountedCall looks_up name laws old was new is counts-call
+        ends-open eq key answer CountedCall one laws old was new is counts-call
         (gets_value rules offers (λ s. budget_of s.limiter) eq hash_of makes key answer was (Some left) gets)

@@ -1,17 +1,16 @@
-use Rattle.std.proofs.Common.{◌≡◌, ℕ, Bool, List, Option, Some, None, Result, Ok, Err, refl, sym, ap, ◌∙◌, subst}
+use Rattle.std.proofs.Common.{◌≡◌, ℕ, Bool, true, List, Option, Some, None, Result, Ok, Err, refl, sym, ap, ◌∙◌, subst}
 use Rattle.std.proofs.lemmas.Option.{none-some}
 use Rattle.std.specs.Cmp.{IsEquivalence}
 use Rattle.std.specs.Map.{set_value}
 use Rattle.std.specs.Prelude.{IfSome, option_map}
 use Rattle.std.specs.declared.alloc.AllocError.{AllocError}
-use Rattle.lru_limits.specs.Laws.{IsLookup}
 use Rattle.lru_limits.specs.Rules.{Rules, Offers}
 use Rattle.lru_model.specs.GetOrInserts.{MakesNewest, got, inserted}
 use Rattle.lru_model.specs.Lists.{first, after, front, lookup, lookup_entry, without}
 use Rattle.lru_model.specs.State.{State}
 use Rattle.lru_model.proofs.CallerLemmas.{lookup-entry}
-use Rattle.lru_tenants.proofs.Changes.{cache_of, on-written}
-use Rattle.lru_tenants.specs.Cache.{Cache, tenant, On}
+use Rattle.lru_tenants.proofs.Changes.{on-written}
+use Rattle.lru_tenants.specs.Tenants.{Changes}
 use Rattle.lru_tenants.specs.GetOrPuts.{GetsOrPuts, newest_answer}
 use Rattle.lru_tenants.specs.TenantRuns.{OfOpen}
 use Rattle.lru_tenants.specs.declared.error.TenantError.{TenantError}
@@ -32,18 +31,18 @@ module _ {K V L S : Type 0} (eq : K → K → Bool) (key : K) (answer : Result (
   GetsValue map = IfSome (lookup (eq key) map.pairs) (λ w. answer ≡ Ok (Some w))
 
   module _ (Does : State K V L S → Result (Option V) TenantError → Option (State K V L S) → Type 0)
-      {N Q : Type 0} {same : N → N → Bool} {named : Q → N → Bool} {query_input : Q → List (List ℕ)}
-      {key_input : N → List (List ℕ)} (looks_up : IsLookup named same query_input key_input) (name : Q) where
-    pub record Ends (old new : Cache N K V L S) : Type 0 where
-      pub on : On same (named name) (OfOpen Does) old answer new
-      pub not_open : tenant (named name) old ≡ None → answer ≡ Err NotOpen
-      pub there : IfSome (tenant (named name) old) GetsValue
+      {N : Type 0} {same : N → N → Bool} {names : N → Bool}
+      (one : (x y : N) → names x ≡ true → names y ≡ same x y) where
+    pub record Ends (old new : List (N × State K V L S)) : Type 0 where
+      pub on : Changes same names (OfOpen Does) old answer new
+      pub not_open : lookup names old ≡ None → answer ≡ Err NotOpen
+      pub there : IfSome (lookup names old) GetsValue
 
-    pub ends-open : IsEquivalence same → {hasher : S} {limit : Option ℕ} (old : List (N × State K V L S))
-        (was left : State K V L S) → lookup (named name) old ≡ Some was → Does was answer (Some left) → GetsValue was
-        → Ends (cache_of old hasher limit) (cache_of (set_value (named name) old left) hasher limit)
+    pub ends-open : IsEquivalence same → (old : List (N × State K V L S)) (was left : State K V L S)
+        → lookup names old ≡ Some was → Does was answer (Some left) → GetsValue was
+        → Ends old (set_value names old left)
     ends-open laws old was left is does value = record {
-      on = on-written looks_up name (OfOpen Does) answer laws old was left is does;
+      on = on-written one (OfOpen Does) answer laws old was left is does;
       not_open = λ none. absurd (none-some was (sym none ∙ is));
       there = subst (λ t. IfSome t GetsValue) (sym is) value;
     }
@@ -63,12 +62,10 @@ module _ {K V L S : Type 0} (rules : Rules K V L) (offers : Offers K V L K) (bud
           ∙ ap Ok (front-value (eq key) map.pairs w e)
       go left (Some w) e result (inserted none v may step) said = absurd (none-some w (sym none ∙ e))
 
-  module _ {N Q : Type 0} {same : N → N → Bool} {named : Q → N → Bool} {query_input : Q → List (List ℕ)}
-      {key_input : N → List (List ℕ)} (looks_up : IsLookup named same query_input key_input) (name : Q) where
-    pub ends : IsEquivalence same → {hasher : S} {limit : Option ℕ} (old : List (N × State K V L S))
-        (was left : State K V L S) → lookup (named name) old ≡ Some was
-        → GetsOrPuts rules offers budget_of eq hash_of makes key was answer (Some left)
-        → Ends eq key answer (GetsOrPuts rules offers budget_of eq hash_of makes key) looks_up name
-        (cache_of old hasher limit) (cache_of (set_value (named name) old left) hasher limit)
+  module _ {N : Type 0} {same : N → N → Bool} {names : N → Bool}
+      (one : (x y : N) → names x ≡ true → names y ≡ same x y) where
+    pub ends : IsEquivalence same → (old : List (N × State K V L S)) (was left : State K V L S)
+        → lookup names old ≡ Some was → GetsOrPuts rules offers budget_of eq hash_of makes key was answer (Some left)
+        → Ends eq key answer (GetsOrPuts rules offers budget_of eq hash_of makes key) one old (set_value names old left)
     ends laws old was left is does = ends-open eq key answer (GetsOrPuts rules offers budget_of eq hash_of makes key)
-        looks_up name laws old was left is does (gets_value was (Some left) does)
+        one laws old was left is does (gets_value was (Some left) does)

@@ -1,11 +1,9 @@
-use Rattle.std.proofs.Common.{◌≡◌, ℕ, Bool, List, Some, Option, Ok, sym, ap, subst}
+use Rattle.std.proofs.Common.{◌≡◌, ℕ, Bool, List, sym, subst}
 use Rattle.lru_limits.specs.Laws.{IsLookup}
 use Rattle.lru_model.specs.Calls.{promoted}
-use Rattle.lru_model.specs.Lists.{lookup}
 use Rattle.lru_model.proofs.CallerLemmas.{promoted_is_map, promoted-summed}
 use Rattle.lru_model.specs.State.{State}
 use Rattle.lru_tenants.specs.Cache.{IsTenant}
-use Rattle.lru_tenants.specs.TenantRuns.{Gets}
 
 module _ {K V L S Q : Type 0} {names : Q → K → Bool} {eq : K → K → Bool} {query_input : Q → List (List ℕ)}
     {key_input : K → List (List ℕ)} (looks_up : IsLookup names eq query_input key_input) (q : Q)
@@ -23,10 +21,3 @@ module _ {K V L S Q : Type 0} {names : Q → K → Bool} {eq : K → K → Bool}
       → IsTenant eq cost account budget new
   promoted-tenant map new turned is =
       subst (IsTenant eq cost account budget) (sym turned) (promoted_is_tenant map is)
-
-pub gets-open : {K V L S : Type 0} (names : K → Bool) (was : Option (State K V L S)) (map left : State K V L S)
-    (found : Option V)
-    → was ≡ Some map → found ≡ lookup names map.pairs → left ≡ promoted names map
-    → Gets names was (Ok found) (Some left)
-gets-open names was map left found is value turned =
-    subst (λ t. Gets names t (Ok found) (Some left)) (sym is) (ap Ok value, ap Some turned)

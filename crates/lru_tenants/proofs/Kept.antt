@@ -10,9 +10,11 @@ use Rattle.std.proofs.lemmas.List.Sums.{sum_by-cons}
 use Rattle.std.proofs.lemmas.Map.Entries.{sum_by-set_value, sum_by-remove_entry}
 use Rattle.std.proofs.lemmas.Map.Views.{All-map-remove_entry, All-values-set_value}
 use Rattle.lru_model.specs.State.{State}
-use Rattle.lru_tenants.specs.Cache.{IsTenant, is_above, budgets_with}
+use Rattle.lru_tenants.specs.Cache.{Cache, IsTenant, is_above, is_over, budgets_with}
 use Rattle.lru_tenants.specs.Inside.{Holds}
-use Rattle.lru_tenants.proofs.Changes.{cache_of}
+
+abbrev pub cache_of : {N K V L S : Type 0} → List (N × State K V L S) → S → Option ℕ → Cache N K V L S
+cache_of tenants hasher limit = record { tenants = tenants; hasher = hasher; total_limit = limit }
 
 pub not-above : (limit : Option ℕ) (sum : ℕ) → is_above limit sum ≡ false → IfSome limit (λ most. sum ≤ most)
 not-above None sum e = tt
@@ -55,13 +57,17 @@ module _ {N K V L S : Type 0} {eq : K → K → Bool} {cost : K → V → ℕ} {
         + unwrap_or (option_map (λ map. budget map.limiter) (lookup names old)) 0 ≡ sum
     sum-removed = omega (arith, kept.sum, sum_by-remove_entry (λ map. budget map.limiter) names old)
 
-    pub sum-more : lookup names old ≡ None → (hasher : S) (own : ℕ)
+    sum-more : lookup names old ≡ None → (hasher : S) (own : ℕ)
         → sum + own ≡ budgets_with budget names own (cache_of old hasher limit)
     sum-more none hasher own = omega (
       arith,
       kept.sum,
       ap (λ o. unwrap_or (option_map (λ map. budget map.limiter) o) 0) none,
     )
+
+    pub over-more : lookup names old ≡ None → (hasher : S) (own : ℕ) {over : Bool} → is_above limit (sum + own) ≡ over
+        → is_over budget names own (cache_of old hasher limit) ≡ over
+    over-more none hasher own is = ap (is_above limit) (sym (sum-more none hasher own)) ∙ is
 
     pub kept-removed : (next : ℕ) → next + unwrap_or (option_map (λ map. budget map.limiter) (lookup names old)) 0 ≡ sum
         → Holds eq cost account budget (remove_entry names old) next limit

@@ -10,47 +10,48 @@ use Rattle.lru_model.specs.Lists.{IsFront, last, lookup_entry, without}
 use Rattle.lru_model.specs.State.{State}
 use Rattle.lru_model.specs.Theorems.{IsSummed, SaysWhether}
 use Rattle.lru_model.proofs.Theorems.Sums.{total, total-is, total-least, split-least, split_named}
-use Rattle.lru_tenants.proofs.Changes.{found-name}
+use Rattle.lru_tenants.proofs.Changes.{found-name, only-written, same-tenant, written}
 use Rattle.lru_tenants.proofs.Pools.{evictions-spare, says-there, spared-same, spared-trans}
-use Rattle.lru_tenants.proofs.PoolKept.{same-part, part-written, others-written}
 use Rattle.lru_tenants.proofs.Pops.{no-last}
 use Rattle.lru_tenants.specs.Inside.{has_entries}
 use Rattle.lru_tenants.specs.declared.error.TenantError.{TenantError}
 use Rattle.lru_tenants.specs.declared.error.TenantError.TheVariants.{NotOpen}
-use Rattle.lru_tenants.specs.Pool.{Part, Pool, PoolRun, Spared, Evictions, has_key, part, with_map, PutsIfOpen}
-use Rattle.lru_tenants.specs.Pool.{Leaves, SparesOthers}
+use Rattle.lru_tenants.specs.Pool.{Part, Pool, PoolRun, Spared, SparesOthers, Evictions, has_key, with_map, PutsIfOpen}
 
 module _ {N K V L S : Type 0} (account : L → ℕ) (eq : N → N → Bool) (names : N → Bool) where
-  pub leaves-spares : (left : Option (Part K V L S)) (old new : Pool N K V L S) → Leaves eq names left old new
+  pub same-spares : (old new : Pool N K V L S)
+      → ((other : N) → names other ≡ false → lookup (eq other) new.tenants ≡ lookup (eq other) old.tenants)
       → SparesOthers account eq names old new
-  leaves-spares left old new leaves other apart =
-      subst (Spared account (part (eq other) old)) (sym (leaves.others other apart))
-      (spared-same account (part (eq other) old))
+  same-spares old new same other apart =
+      subst (Spared account (lookup (eq other) old.tenants)) (sym (same other apart))
+      (spared-same account (lookup (eq other) old.tenants))
 
   pub spares-trans : (old mid new : Pool N K V L S) → SparesOthers account eq names old mid
       → SparesOthers account eq names mid new → SparesOthers account eq names old new
   spares-trans old mid new first more other apart =
-      spared-trans account (part (eq other) old) (part (eq other) mid) (part (eq other) new) (first other apart)
-      (more other apart)
+      spared-trans account (lookup (eq other) old.tenants) (lookup (eq other) mid.tenants)
+      (lookup (eq other) new.tenants) (first other apart) (more other apart)
 
 pub run-spares : {N K V L S : Type 0} (account : L → ℕ) (eq : N → N → Bool) (name : N) (calls : List (N → Bool))
     (old new : Pool N K V L S) → PoolRun account eq old calls new → All (λ names. names name ≡ false) calls
-    → Spared account (part (eq name) old) (part (eq name) new)
+    → Spared account (lookup (eq name) old.tenants) (lookup (eq name) new.tenants)
 run-spares account eq name [] old new same all =
-    subst (λ pool. Spared account (part (eq name) old) (part (eq name) pool)) (sym same)
-    (spared-same account (part (eq name) old))
+    subst (λ pool. Spared account (lookup (eq name) old.tenants) (lookup (eq name) pool.tenants)) (sym same)
+    (spared-same account (lookup (eq name) old.tenants))
 run-spares account eq name (names ∷ more) old new (mid, spares, run) all =
-    spared-trans account (part (eq name) old) (part (eq name) mid) (part (eq name) new)
+    spared-trans account (lookup (eq name) old.tenants) (lookup (eq name) mid.tenants) (lookup (eq name) new.tenants)
     (spares name (All-head (λ names. names name ≡ false) names more all))
     (run-spares account eq name more mid new run (All-tail (λ names. names name ≡ false) names more all))
 
 module _ {N K V L S : Type 0} (names : N → Bool)
     (does : Part K V L S → Pool N K V L S → Result Bool TenantError → Pool N K V L S → Type 0) (old : Pool N K V L S) where
   pub puts-open : (answer : Result Bool TenantError) (new : Pool N K V L S) (was : Part K V L S)
-      → part names old ≡ Some was → does was old answer new → PutsIfOpen does (part names old) old answer new
+      → lookup names old.tenants ≡ Some was → does was old answer new
+      → PutsIfOpen does (lookup names old.tenants) old answer new
   puts-open answer new was there done = subst (λ o. PutsIfOpen does o old answer new) (sym there) done
 
-  pub puts-closed : part names old ≡ None → PutsIfOpen does (part names old) old (Err NotOpen) old
+  pub puts-closed : lookup names old.tenants ≡ None
+      → PutsIfOpen does (lookup names old.tenants) old (Err NotOpen) old
   puts-closed none = subst (λ o. PutsIfOpen does o old (Err NotOpen) old) (sym none) (refl, refl)
 
 pub cost-falls : {K V L S : Type 0} (cost : K → V → ℕ) (account : L → ℕ) (old new : State K V L S)
@@ -101,15 +102,15 @@ module _ {N K V L S : Type 0} {rules : Rules K V L} {account : L → ℕ} {eq : 
   pub put-spares : (other : N) → names other ≡ false
       → Spared account (lookup (eq other) old) (lookup (eq other) new)
   put-spares other apart = subst (λ o. Spared account o (lookup (eq other) new))
-      (others-written laws names one old was (with_map left was) there other apart)
+      ((only-written one laws old was (with_map left was) there).others other apart)
       (evictions-spare laws limit new (set_value names old (with_map left was)) run other)
 
   pub own-spared : Spared account (Some (with_map left was)) (lookup names new)
   own-spared = let (name, is) = found-name names old was there in
       let mid = set_value names old (with_map left was) in
       subst (λ o. Spared account o (lookup names new))
-      (sym (same-part laws names one name is mid) ∙ part-written laws names one old was (with_map left was) there)
-      (subst (Spared account (lookup (eq name) mid)) (sym (same-part laws names one name is new))
+      (sym (same-tenant one name is mid) ∙ written one laws old was (with_map left was) there)
+      (subst (Spared account (lookup (eq name) mid)) (sym (same-tenant one name is new))
       (evictions-spare laws limit new mid run name))
 
   pub put-there : (named : K → Bool) (kept : Bool) → SaysWhether rules named (Ok kept) left

@@ -2,11 +2,11 @@
 --     `names name`: whether the call names the tenant of this name.
 --     `of_name name`: how many bytes the name owns.
 --     `of_pair key value`: how many bytes the entry owns.
-use Rattle.std.specs.Prelude.{◌≡◌, ℕ, ◌+◌, ◌≤◌, Bool, false, List, Option, nat_lt, sum_by, unwrap_or}
+use Rattle.std.specs.Prelude.{◌≡◌, ℕ, ◌+◌, ◌≤◌, Bool, List, Option, nat_lt, sum_by, unwrap_or}
 use Rattle.lru_limits.specs.Bytes.{Bytes, both_own, in_word}
-use Rattle.lru_model.specs.Lists.{lookup}
 use Rattle.lru_model.specs.Sizes.{usage, max_of_32_bits}
 use Rattle.lru_model.specs.State.{State, buckets, empty_map}
+use Rattle.lru_tenants.specs.Tenants.{Changes}
 
 pub record ByteCache (N K V S : Type 0) : Type 0 where
   -- the open tenants by their names, in no particular order
@@ -29,9 +29,6 @@ fresh entry_bytes hasher own =
     empty_map (record { limit = own; owned = 0; table = 0 }) hasher entry_bytes max_of_32_bits
 
 module _ {N K V S : Type 0} where
-  abbrev pub tenant : (N → Bool) → ByteCache N K V S → Option (State K V Bytes S)
-  tenant named cache = lookup named cache.tenants
-
   -- the bytes of a tenant's table, plus the bytes that the tenant's name and entries own
   abbrev pub taken : (N → ℕ) → (K → V → ℕ) → N × State K V Bytes S → ℕ
   taken of_name of_pair t = of_name t.0 + table_bytes t.1 + sum_by (λ pair. of_pair pair.0 pair.1) t.1.pairs
@@ -47,14 +44,9 @@ module _ {N K V S : Type 0} where
   abbrev pub is_over : (N → ℕ) → N → ℕ → ByteCache N K V S → Bool
   is_over of_name name own cache = nat_lt cache.limit (reserved of_name cache + in_word (of_name name + own))
 
-  pub record Leaves (eq : N → N → Bool) (names : N → Bool) (left : Option (State K V Bytes S))
-      (old new : ByteCache N K V S) : Type 0 where
-    pub own : tenant names new ≡ left
-    pub others : (other : N) → names other ≡ false → tenant (eq other) new ≡ tenant (eq other) old
-    pub is : new ≡ record old { tenants = new.tenants }
-
+  -- a call changes the named tenant as `Does` says, and nothing else
   abbrev pub On : {R : Type 0} → (N → N → Bool) → (N → Bool)
       → (Option (State K V Bytes S) → R → Option (State K V Bytes S) → Type 0) → ByteCache N K V S → R
       → ByteCache N K V S → Type 0
   On eq names Does old answer new =
-      (left : Option (State K V Bytes S)) × Does (tenant names old) answer left × Leaves eq names left old new
+      (new ≡ record old { tenants = new.tenants }) × Changes eq names Does old.tenants answer new.tenants

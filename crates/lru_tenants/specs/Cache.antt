@@ -1,6 +1,6 @@
 -- A cache of tenants: a map for each open tenant.
 --     `names name`: whether the call names the tenant of this name.
-use Rattle.std.specs.Prelude.{◌≡◌, ℕ, ◌≤◌, ◌<◌, ◌+◌, ◌-◌, ◌^◌, nat_lt, Bool, true, false, List, cond, Option, Some, None}
+use Rattle.std.specs.Prelude.{◌≡◌, ℕ, ◌≤◌, ◌<◌, ◌+◌, ◌-◌, ◌^◌, nat_lt, Bool, false, List, Option, Some, None}
 use Rattle.std.specs.Prelude.{sum_by}
 use Rattle.std.specs.Option.{option_map, unwrap_or}
 use Rattle.std.specs.List.{All}
@@ -8,6 +8,7 @@ use Rattle.std.specs.Map.{values_of}
 use Rattle.lru_model.specs.Lists.{lookup}
 use Rattle.lru_model.specs.State.{State, IsMap, empty_map}
 use Rattle.lru_model.specs.Theorems.{IsSummed}
+use Rattle.lru_tenants.specs.Tenants.{Changes}
 
 abbrev pub with_limiter : {K V L S : Type 0} → L → State K V L S → State K V L S
 with_limiter limiter map = record map { limiter = limiter }
@@ -31,28 +32,16 @@ pub record Cache (N K V L S : Type 0) : Type 0 where
   pub total_limit : Option ℕ
 
 module _ {N K V L S : Type 0} where
-  abbrev pub tenant : (N → Bool) → Cache N K V L S → Option (State K V L S)
-  tenant named cache = lookup named cache.tenants
-
   -- The empty map of a new tenant. `made` makes the limiter, an entry takes `entry_bytes` bytes, and `max` is
   -- `LinkType::MAX` as a number.
   abbrev pub fresh : (ℕ → L) → ℕ → ℕ → Cache N K V L S → ℕ → State K V L S
   fresh made entry_bytes max cache budget = empty_map (made budget) cache.hasher entry_bytes max
 
-  pub record Leaves (eq : N → N → Bool) (names : N → Bool) (left : Option (State K V L S)) (old new : Cache N K V L S)
-      : Type 0 where
-    -- if the call names the tenant x, the call names exactly the tenants whose names equal x
-    pub one : (x y : N) → names x ≡ true → names y ≡ eq x y
-    pub own : tenant names new ≡ left
-    pub tenants : (other : N) → tenant (eq other) new ≡ cond (names other) left (tenant (eq other) old)
-    pub hasher : new.hasher ≡ old.hasher
-    pub total_limit : new.total_limit ≡ old.total_limit
-
-  -- a call changes the named tenant as `Does` says, and does not change the other tenants
+  -- a call changes the named tenant as `Does` says, and nothing else
   abbrev pub On : {R : Type 0} → (N → N → Bool) → (N → Bool)
       → (Option (State K V L S) → R → Option (State K V L S) → Type 0) → Cache N K V L S → R → Cache N K V L S → Type 0
   On eq names Does old answer new =
-      (left : Option (State K V L S)) × Does (tenant names old) answer left × Leaves eq names left old new
+      (new ≡ record old { tenants = new.tenants }) × Changes eq names Does old.tenants answer new.tenants
 
   abbrev pub AreTenants : (K → K → Bool) → (K → V → ℕ) → (L → ℕ) → (L → ℕ) → Cache N K V L S → Type 0
   AreTenants eq cost account budget cache = All (IsTenant eq cost account budget) (values_of cache.tenants)
@@ -63,7 +52,7 @@ module _ {N K V L S : Type 0} where
   -- the sum of the budgets if the named tenant had the budget `own`
   abbrev pub budgets_with : (L → ℕ) → (N → Bool) → ℕ → Cache N K V L S → ℕ
   budgets_with budget named own cache =
-      budgets budget cache - unwrap_or (option_map (λ map. budget map.limiter) (tenant named cache)) 0 + own
+      budgets budget cache - unwrap_or (option_map (λ map. budget map.limiter) (lookup named cache.tenants)) 0 + own
 
   abbrev pub is_over : (L → ℕ) → (N → Bool) → ℕ → Cache N K V L S → Bool
   is_over budget named own cache = is_above cache.total_limit (budgets_with budget named own cache)

@@ -1,4 +1,5 @@
 -- What the contracts of `lru_tenants` cite.
+pub mod Tenants
 pub mod Cache
 pub mod Pool
 pub mod Bytes

@@ -14,6 +14,7 @@ use Rattle.lru_model.specs.Inserts.{Insert}
 use Rattle.lru_model.specs.Lists.{IsFront, lookup}
 use Rattle.lru_model.specs.State.{State, empty_map}
 use Rattle.lru_tenants.specs.Cache.{IsTenant}
+use Rattle.lru_tenants.specs.Tenants.{Changes}
 use Rattle.lru_tenants.specs.declared.error.TenantError.{TenantError}
 use Rattle.lru_tenants.specs.declared.error.TenantError.TheVariants.{NotOpen, Memory}
 
@@ -106,9 +107,6 @@ put_answer (Ok kept) there = Ok there
 put_answer (Err e) there = Err Memory
 
 module _ {N K V L S : Type 0} where
-  abbrev pub part : (N → Bool) → Pool N K V L S → Option (Part K V L S)
-  part named pool = lookup named pool.tenants
-
   abbrev pub opened : (ℕ → L) → ℕ → ℕ → Pool N K V L S → ℕ → Part K V L S
   opened made entry_bytes max pool share = (share, empty_map (made pool.limit) pool.hasher entry_bytes max)
 
@@ -121,21 +119,15 @@ module _ {N K V L S : Type 0} where
     pub within : total_cost account pool.tenants ≤ pool.limit
     pub shares : total_share pool.tenants ≤ pool.limit
 
-  -- after the call the named tenant is `left`, and the other tenants have not changed
-  pub record Leaves (eq : N → N → Bool) (names : N → Bool) (left : Option (Part K V L S)) (old new : Pool N K V L S)
-      : Type 0 where
-    pub own : part names new ≡ left
-    pub others : (other : N) → names other ≡ false → part (eq other) new ≡ part (eq other) old
-    pub is : new ≡ record old { tenants = new.tenants }
-
+  -- a call changes the named tenant as `Does` says, and nothing else
   abbrev pub On : {R : Type 0} → (N → N → Bool) → (N → Bool)
       → (Option (Part K V L S) → R → Option (Part K V L S) → Type 0) → Pool N K V L S → R → Pool N K V L S → Type 0
   On eq names Does old answer new =
-      (left : Option (Part K V L S)) × Does (part names old) answer left × Leaves eq names left old new
+      (new ≡ record old { tenants = new.tenants }) × Changes eq names Does old.tenants answer new.tenants
 
   abbrev pub SparesOthers : (L → ℕ) → (N → N → Bool) → (N → Bool) → Pool N K V L S → Pool N K V L S → Type 0
   SparesOthers account eq names old new =
-      (other : N) → names other ≡ false → Spared account (part (eq other) old) (part (eq other) new)
+      (other : N) → names other ≡ false → Spared account (lookup (eq other) old.tenants) (lookup (eq other) new.tenants)
 
   -- The calls change the pool from `old` to `new`. Each call spares the tenants that it does not name (`Spares`).
   abbrev pub PoolRun : (L → ℕ) → (N → N → Bool) → Pool N K V L S → List (N → Bool) → Pool N K V L S → Type 0
@@ -154,8 +146,8 @@ module _ {N K V L S : Type 0} where
     pub evictions : Evictions rules account eq old.limit new.tenants
         (set_value names old.tenants (with_map left own))
     pub failed : OnErr result (new.tenants ≡ set_value names old.tenants (with_map left own))
-    pub spared : Spared account (Some (with_map left own)) (part names new)
-    pub said : answer ≡ put_answer result (has_key (same key) (part names new))
+    pub spared : Spared account (Some (with_map left own)) (lookup names new.tenants)
+    pub said : answer ≡ put_answer result (has_key (same key) (lookup names new.tenants))
     pub is : new ≡ record old { tenants = new.tenants }
 
   abbrev pub PutsIfOpen : (Part K V L S → Pool N K V L S → Result Bool TenantError → Pool N K V L S → Type 0)

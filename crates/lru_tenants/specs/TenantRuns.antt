@@ -1,6 +1,7 @@
 -- What a call does to the tenant that it names, and what a run of calls does to each tenant.
---     `fresh budget`: the empty map of a newly opened tenant.
-use Rattle.std.specs.Prelude.{◌≡◌, ◌≤◌, ◌⊎◌, ℕ, Bool, true, false, List, [], length, reverse, Option, Some, None}
+--     `fresh cache budget`: the empty map of a tenant that was newly opened in this cache.
+--     `same x y`: whether x and y are the same name.
+use Rattle.std.specs.Prelude.{◌≡◌, ◌⊎◌, ℕ, Bool, true, false, List, [], ◌∷◌, length, reverse, Option, Some, None}
 use Rattle.std.specs.Prelude.{option_map, IfSome}
 use Rattle.std.specs.Prelude.{Result, Ok, Err}
 use Rattle.std.specs.declared.alloc.AllocError.{AllocError}
@@ -10,7 +11,7 @@ use Rattle.lru_model.specs.Callbacks.{InsertPasses, TrimPasses}
 use Rattle.lru_model.specs.Inserts.{Insert}
 use Rattle.lru_model.specs.Lists.{lookup}
 use Rattle.lru_model.specs.State.{State, Trims}
-use Rattle.lru_tenants.specs.Cache.{with_limiter, is_above, IsTenant}
+use Rattle.lru_tenants.specs.Cache.{Cache, with_limiter, is_over, IsTenant, AreTenants, On}
 use Rattle.lru_tenants.specs.Isolation.{OwnRun}
 use Rattle.lru_tenants.specs.declared.error.TenantError.{TenantError}
 use Rattle.lru_tenants.specs.declared.error.TenantError.TheVariants.{AlreadyOpen, NotOpen, Memory, OverTotal}
@@ -45,6 +46,9 @@ abbrev pub OfOpen : {X R : Type 0} → (X → Result R TenantError → Option X 
     → Result R TenantError → Option X → Type 0
 OfOpen does None answer new = (answer ≡ Err NotOpen) × (new ≡ None)
 OfOpen does (Some map) answer new = does map answer new
+
+abbrev pub Takes : {X : Type 0} → Option X → Option X → Option X → Type 0
+Takes old taken new = (taken ≡ old) × (new ≡ None)
 
 module _ {K V L S : Type 0} where
   abbrev pub read_of : {R : Type 0} → (State K V L S → R) → Option (State K V L S) → Result R TenantError
@@ -106,27 +110,45 @@ module _ {K V L S : Type 0} where
       pub is : new ≡ Some left
 
 module _ {N K V L S : Type 0} (rules : Rules K V L) (offers : Offers K V L K) (cost : K → V → ℕ)
-    (account budget_of : L → ℕ) (eq : K → K → Bool) (hash_of : S → K → ℕ) (fresh : ℕ → State K V L S)
-    (total_limit : Option ℕ) where
-  -- The call may return `answer` and change the named tenant from `old` to `new`. `sum` is the sum of all budgets, the
-  -- new budget included. The sum depends on the other tenants, so the step only says that the sum is at least the new
-  -- budget.
-  abbrev pub TenantStep : TenantCall N K V → Option (State K V L S) → TenantAnswer V → Option (State K V L S) → Type 0
-  TenantStep (calls.Open name budget) old answer new = (result : Result (Unit {0}) TenantError) × (sum : ℕ)
-      × (budget ≤ sum) × Opens (is_above total_limit sum) (fresh budget) old result new
+    (account budget_of : L → ℕ) (eq : K → K → Bool) (hash_of : S → K → ℕ) (fresh : Cache N K V L S → ℕ → State K V L S)
+    (same : N → N → Bool) where
+  -- In this cache, the call may return `answer` and change the named tenant from `old` to `new`.
+  abbrev pub TenantStep : Cache N K V L S → TenantCall N K V → Option (State K V L S) → TenantAnswer V
+      → Option (State K V L S) → Type 0
+  TenantStep cache (calls.Open name budget) old answer new = (result : Result (Unit {0}) TenantError)
+      × Opens (is_over budget_of (same name) budget cache) (fresh cache budget) old result new
       × (answer ≡ answers.Opened result)
-  TenantStep (calls.Put name key value) old answer new = (result : Result Bool TenantError)
+  TenantStep cache (calls.Put name key value) old answer new = (result : Result Bool TenantError)
       × OfOpen (Puts rules offers budget_of eq hash_of key value) old result new × (answer ≡ answers.Put result)
-  TenantStep (calls.Get name key) old answer new = (result : Result (Option V) TenantError)
+  TenantStep cache (calls.Get name key) old answer new = (result : Result (Option V) TenantError)
       × Gets (eq key) old result new × (answer ≡ answers.Got result)
-  TenantStep (calls.Cost name) old answer new =
+  TenantStep cache (calls.Cost name) old answer new =
       (answer ≡ answers.Cost (read_of (λ map. account map.limiter) old)) × (new ≡ old)
-  TenantStep (calls.Close name) old answer new = (result : Result ℕ TenantError)
+  TenantStep cache (calls.Close name) old answer new = (result : Result ℕ TenantError)
       × OfOpen Closes old result new × (answer ≡ answers.Closed result)
 
-  abbrev pub KeptStep : TenantCall N K V → Option (State K V L S) → TenantAnswer V → Option (State K V L S) → Type 0
-  KeptStep call old answer new = TenantStep call old answer new × IfSome new (IsTenant eq cost account budget_of)
+  -- The call changes the tenant that it names as `TenantStep` says, and nothing else.
+  abbrev pub CacheStep : Cache N K V L S → TenantCall N K V → TenantAnswer V → Cache N K V L S → Type 0
+  CacheStep old call answer new = On same (same (named call)) (TenantStep old call) old answer new
+      × AreTenants eq cost account budget_of new
 
-  abbrev pub IsOwnRun : (N → Bool) → Option (State K V L S) → List (TenantCall N K V) → List (TenantAnswer V)
+  -- The calls change the cache from `old` to `new`, and return these answers. Each call finds the cache as the previous
+  -- call left it.
+  abbrev pub IsRun : Cache N K V L S → List (TenantCall N K V) → List (TenantAnswer V) → Cache N K V L S → Type 0
+  IsRun old [] [] new = new ≡ old
+  IsRun old (call ∷ calls) (answer ∷ answers) new =
+      (mid : Cache N K V L S) × CacheStep old call answer mid × IsRun mid calls answers new
+  IsRun old [] (answer ∷ answers) new = ⊥
+  IsRun old (call ∷ calls) [] new = ⊥
+
+  -- A step of a tenant in a cache that differs from `first` at most in its tenants. Before the call, the tenants are
+  -- `tenants`.
+  abbrev pub OwnStep : Cache N K V L S → TenantCall N K V → Option (State K V L S) → TenantAnswer V
       → Option (State K V L S) → Type 0
-  IsOwnRun = OwnRun named KeptStep
+  OwnStep first call old answer new = (tenants : List (N × State K V L S)) × (lookup (same (named call)) tenants ≡ old)
+      × TenantStep (record first { tenants = tenants }) call old answer new
+      × IfSome new (IsTenant eq cost account budget_of)
+
+  abbrev pub IsOwnRun : Cache N K V L S → (N → Bool) → Option (State K V L S) → List (TenantCall N K V)
+      → List (TenantAnswer V) → Option (State K V L S) → Type 0
+  IsOwnRun first = OwnRun named (OwnStep first)

@@ -6,8 +6,8 @@ ghost use Rattle.lru_limits.specs.Mixing.{seeded};
 ghost use Rattle.lru_limits.specs.Admissions.{offers_of};
 ghost use Rattle.lru_model.specs.Lists.{is_empty};
 ghost use Rattle.ordered_table.specs.EntrySize.{entry_size};
-ghost use Rattle.lru_tenants.specs.Cache.{tenant, budgets, budgets_with, is_over, fresh, IsTenant, AreTenants, Leaves, On};
-ghost use Rattle.lru_tenants.specs.TenantRuns.{OfOpen, Opens, SetsBudget, Puts, Closes};
+ghost use Rattle.lru_tenants.specs.Cache.{budgets, budgets_with, is_over, fresh, IsTenant, AreTenants, On};
+ghost use Rattle.lru_tenants.specs.TenantRuns.{OfOpen, Opens, SetsBudget, Puts, Closes, Takes};
 
 use crate::error::TenantError;
 use lru_limits::Budgeted;
@@ -286,8 +286,7 @@ impl<
     }
 
     pub(crate) fn take_tenant<T: LookupKey<N>>(&mut self, name: &T) -> Option<LruMap<K, V, L, S>>
-        ensures taken { result ≡ tenant (T.names name.now) self.old }
-        ensures leaves { Leaves N.eq (T.names name.now) None self.old self.new }
+        ensures takes { On N.eq (T.names name.now) Takes self.old result self.new }
         ensures total { budgets L.budget_of self.new ≡ budgets_with L.budget_of (T.names name.now) 0 self.old }
         ensures tenants { AreTenants K.eq L.cost_of L.account L.budget_of self.new }
     {

@@ -1,11 +1,12 @@
 //! Laws about calls. Each law is the contract of a function that does nothing. A caller that needs the law calls this
 //! function.
-ghost use Rattle.std.specs.Prelude.{◌≡◌, ◌≤◌, false, Bool, List, Option, IfSome, sum_by};
+ghost use Rattle.std.specs.Prelude.{◌≡◌, ◌≤◌, false, Bool, List, IfSome, sum_by};
 ghost use Rattle.std.specs.List.{All};
 ghost use Rattle.std.specs.Map.{values_of};
-ghost use Rattle.lru_tenants.specs.Cache.{Cache, tenant};
+ghost use Rattle.lru_model.specs.Lists.{lookup};
+ghost use Rattle.lru_model.specs.State.{State};
 ghost use Rattle.lru_tenants.specs.Isolation.{Did, CacheRun, Chain};
-ghost use Rattle.lru_tenants.specs.Pool.{Part, Pool, PoolRun, Leaves, Spared, SparesOthers, part};
+ghost use Rattle.lru_tenants.specs.Pool.{Pool, PoolRun, Spared, SparesOthers};
 
 use crate::cache::TenantCache;
 use lru_limits::Budgeted;
@@ -27,11 +28,11 @@ pub fn each_tenant_has_its_own_run<
     L: Budgeted<K, V>,
     S: KeyHasher<K>,
 >()
-    ensures own { (name : N) (dids : List (Did N K V L S)) (old new : Cache N K V L S) → CacheRun N.eq old dids new →
-        Chain name (tenant (N.eq name) old) dids (tenant (N.eq name) new) }
-    ensures others { (name : N) (dids : List (Did N K V L S)) (old new : Cache N K V L S) →
+    ensures own { (name : N) (dids : List (Did N (State K V L S))) (old new : List (N × State K V L S)) →
+        CacheRun N.eq old dids new → Chain name (lookup (N.eq name) old) dids (lookup (N.eq name) new) }
+    ensures others { (name : N) (dids : List (Did N (State K V L S))) (old new : List (N × State K V L S)) →
         CacheRun N.eq old dids new → All (λ did. did.names name ≡ false) dids →
-        tenant (N.eq name) new ≡ tenant (N.eq name) old }
+        lookup (N.eq name) new ≡ lookup (N.eq name) old }
 {}
 
 /// If there is a total limit, the costs of all entries add up to at most this limit.
@@ -71,9 +72,11 @@ pub fn calls_spare_other_tenants<
     S: KeyHasher<K>,
 >()
     ensures others { (name : N) (calls : List (N → Bool)) (old new : Pool N K V L S) → PoolRun L.account N.eq old calls new →
-        All (λ names. names name ≡ false) calls → Spared L.account (part (N.eq name) old) (part (N.eq name) new) }
-    ensures leaves { (names : N → Bool) (left : Option (Part K V L S)) (old new : Pool N K V L S) →
-        Leaves N.eq names left old new → SparesOthers L.account N.eq names old new }
+        All (λ names. names name ≡ false) calls →
+        Spared L.account (lookup (N.eq name) old.tenants) (lookup (N.eq name) new.tenants) }
+    ensures leaves { (names : N → Bool) (old new : Pool N K V L S) →
+        ((other : N) → names other ≡ false → lookup (N.eq other) new.tenants ≡ lookup (N.eq other) old.tenants) →
+        SparesOthers L.account N.eq names old new }
     ensures joins { (names : N → Bool) (old mid new : Pool N K V L S) → SparesOthers L.account N.eq names old mid →
         SparesOthers L.account N.eq names mid new → SparesOthers L.account N.eq names old new }
 {}

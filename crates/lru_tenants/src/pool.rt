@@ -2,7 +2,7 @@ ghost use Rattle.std.specs.Prelude.{◌≡◌, []};
 ghost use Rattle.std.specs.Result.{OnErr};
 ghost use Rattle.lru_limits.specs.Admissions.{offers_of};
 ghost use Rattle.lru_limits.specs.Mixing.{seeded};
-ghost use Rattle.lru_tenants.specs.Pool.{part, opened, is_over, IsPool, On, SparesOthers};
+ghost use Rattle.lru_tenants.specs.Pool.{opened, is_over, IsPool, On, SparesOthers};
 ghost use Rattle.lru_tenants.specs.Pool.{Puts, PutsIfOpen, Closes};
 ghost use Rattle.lru_model.specs.Lists.{lookup};
 ghost use Rattle.ordered_table.specs.EntrySize.{entry_size};
@@ -194,7 +194,7 @@ impl<
     /// As `TenantCache::put`. No other tenant has changed.
     pub fn put<T: LookupKey<N>>(&mut self, name: &T, key: K, value: V) -> Result<bool, TenantError>
         ensures puts { PutsIfOpen (Puts L.rules (offers_of L.terms) L.account N.eq K.eq S.hash_of (T.names name.now) key value)
-            (part (T.names name.now) self.old) self.old result self.new }
+            (lookup (T.names name.now) self.old.tenants) self.old result self.new }
         ensures spares { SparesOthers L.account N.eq (T.names name.now) self.old self.new }
         ensures pool { IsPool K.eq L.cost_of L.account L.budget_of self.new }
     {

@@ -2,14 +2,15 @@ ghost use Rattle.std.specs.Prelude.{◌≡◌, ◌≤◌, IfOk, IfSome, sum_by};
 ghost use Rattle.std.specs.Map.{values_of};
 ghost use Rattle.std.specs.Result.{OnErr};
 ghost use Rattle.lru_limits.specs.Admissions.{offers_of};
+ghost use Rattle.lru_model.specs.Lists.{lookup};
 ghost use Rattle.ordered_table.specs.EntrySize.{entry_size};
-ghost use Rattle.lru_tenants.specs.Cache.{tenant, fresh, AreTenants, On};
-ghost use Rattle.lru_tenants.specs.TenantRuns.{named, Gets, TenantStep, IsOwnRun};
+ghost use Rattle.lru_tenants.specs.Cache.{fresh, AreTenants, On};
+ghost use Rattle.lru_tenants.specs.TenantRuns.{named, Gets, TenantStep, CacheStep, IsRun, IsOwnRun};
 
 use crate::cache::TenantCache;
 use crate::call::{TenantAnswer, TenantCall};
 use crate::error::TenantError;
-use crate::laws::{costs_are_within_the_total_limit, each_tenant_has_its_own_run};
+use crate::laws::costs_are_within_the_total_limit;
 use lru_limits::Budgeted;
 use schnellru::KeyHasher;
 use std::alloc::{AllocError, Global};
@@ -17,8 +18,8 @@ use std::hash::Hash;
 
 /// Carries out the calls in order, and returns one answer for each.
 ///
-/// Each call finds the named tenant as the previous call on this tenant left it (`each_tenant_has_its_own_run`). If the
-/// cache has a total limit, `open` may return `OverTotal`.
+/// Each call finds the cache as the previous call left it (`run`), and so the named tenant as the previous call on this
+/// tenant left it (`own`).
 ///
 /// ```
 /// let mut cache: TenantCache<u64, u64, u64> = TenantCache::new(alloc, [1, 2, 3, 4]);
@@ -44,11 +45,15 @@ pub fn run_tenants<
     cache: &mut TenantCache<N, K, V, L, S>,
     calls: Vec<TenantCall<N, K, V>>,
 ) -> Result<Vec<TenantAnswer<V>>, AllocError>
+    ensures run { IfOk result (λ answers.
+        IsRun L.rules (offers_of L.terms) L.cost_of L.account L.budget_of K.eq S.hash_of
+        (fresh L.made (entry_size K.row V.row L.LinkType.row) (L.LinkType.number L.LinkType.MAX)) N.eq
+        cache.old calls.items answers.items cache.new) }
     ensures own { IfOk result (λ answers. (name : N) →
         IsOwnRun L.rules (offers_of L.terms) L.cost_of L.account L.budget_of K.eq S.hash_of
-        (fresh L.made (entry_size K.row V.row L.LinkType.row) (L.LinkType.number L.LinkType.MAX) cache.old)
-        cache.old.total_limit (λ n. N.eq n name)
-        (tenant (N.eq name) cache.old) calls.items answers.items (tenant (N.eq name) cache.new)) }
+        (fresh L.made (entry_size K.row V.row L.LinkType.row) (L.LinkType.number L.LinkType.MAX)) N.eq
+        cache.old (λ n. N.eq n name)
+        (lookup (N.eq name) cache.old.tenants) calls.items answers.items (lookup (N.eq name) cache.new.tenants)) }
     ensures tenants { AreTenants K.eq L.cost_of L.account L.budget_of cache.new }
     ensures limit { IfOk result (λ answers. IfSome cache.new.total_limit
         (λ limit. sum_by (λ map. L.account map.limiter) (values_of cache.new.tenants) ≤ limit)) }
@@ -57,7 +62,6 @@ pub fn run_tenants<
     ensures hasher { cache.new.hasher ≡ cache.old.hasher }
     ensures total_limit { cache.new.total_limit ≡ cache.old.total_limit }
 {
-    each_tenant_has_its_own_run::<N, K, V, L, S>();
     let _len = cache.len();
     let mut answers = Vec::with_capacity(alloc, calls.len())?;
     for call in calls {
@@ -74,10 +78,9 @@ fn make_tenant_call<
     L: Budgeted<K, V> + Drop,
     S: KeyHasher<K> + Copy,
 >(cache: &mut TenantCache<N, K, V, L, S>, call: TenantCall<N, K, V>) -> TenantAnswer<V>
-    ensures step { On N.eq (N.eq (named call)) (TenantStep L.rules (offers_of L.terms) L.cost_of L.account L.budget_of K.eq S.hash_of
-        (fresh L.made (entry_size K.row V.row L.LinkType.row) (L.LinkType.number L.LinkType.MAX) cache.old)
-        cache.old.total_limit call) cache.old result cache.new }
-    ensures tenants { AreTenants K.eq L.cost_of L.account L.budget_of cache.new }
+    ensures { CacheStep L.rules (offers_of L.terms) L.cost_of L.account L.budget_of K.eq S.hash_of
+        (fresh L.made (entry_size K.row V.row L.LinkType.row) (L.LinkType.number L.LinkType.MAX)) N.eq
+        cache.old call result cache.new }
 {
     let answer = answer_to(cache, call);
     let _len = cache.len();
@@ -92,8 +95,8 @@ fn answer_to<
     S: KeyHasher<K> + Copy,
 >(cache: &mut TenantCache<N, K, V, L, S>, call: TenantCall<N, K, V>) -> TenantAnswer<V>
     ensures { On N.eq (N.eq (named call)) (TenantStep L.rules (offers_of L.terms) L.cost_of L.account L.budget_of K.eq S.hash_of
-        (fresh L.made (entry_size K.row V.row L.LinkType.row) (L.LinkType.number L.LinkType.MAX) cache.old)
-        cache.old.total_limit call) cache.old result cache.new }
+        (fresh L.made (entry_size K.row V.row L.LinkType.row) (L.LinkType.number L.LinkType.MAX)) N.eq cache.old call)
+        cache.old result cache.new }
 {
     match call {
         TenantCall::Open(name, budget) => TenantAnswer::Opened(cache.open(name, budget)),

@@ -1,7 +1,7 @@
 //! Functions with their own contracts, which call a cache and a pool.
 ghost use Rattle.std.specs.Prelude.{◌≡◌, ℕ, nat_eq, string_eq, false};
+ghost use Rattle.std.specs.Map.{lookup};
 ghost use Rattle.lru_limits.specs.Texts.{names_text};
-ghost use Rattle.lru_tenants.specs.Cache.{tenant};
 ghost use Rattle.lru_tenants.specs.Pool.{SparesOthers};
 
 use lru_tenants::{ByCost, TenantCache, TenantError, TenantPool, calls_spare_other_tenants};
@@ -16,7 +16,7 @@ fn put_beside(
     value: u64,
 ) -> Result<bool, TenantError>
     ensures { (other : ℕ) → nat_eq name.now other ≡ false →
-        tenant (nat_eq other) cache.new ≡ tenant (nat_eq other) cache.old }
+        lookup (nat_eq other) cache.new.tenants ≡ lookup (nat_eq other) cache.old.tenants }
 {
     cache.put(name, key, value)
 }

@@ -6,7 +6,7 @@ ghost use Rattle.std.specs.Map.{keys_of, values_of};
 ghost use Rattle.lru_limits.specs.Bytes.{both_own};
 ghost use Rattle.lru_model.specs.Theorems.{KeepsBytes};
 ghost use Rattle.lru_model.specs.Lists.{lookup};
-ghost use Rattle.lru_tenants.specs.Bytes.{tenant, IsWithin, reserved, On};
+ghost use Rattle.lru_tenants.specs.Bytes.{IsWithin, reserved, On};
 ghost use Rattle.lru_tenants.specs.Lending.{read};
 ghost use Rattle.lru_tenants.specs.TenantRuns.{read_of, Gets};
 
@@ -82,7 +82,7 @@ impl<
         key: &Q,
     ) -> Result<Option<&V>, TenantError>
         ensures { read result
-            ≡ read_of (λ map. lookup (Q.names key.now) map.pairs) (tenant (T.names name.now) self.now) }
+            ≡ read_of (λ map. lookup (Q.names key.now) map.pairs) (lookup (T.names name.now) self.now.tenants) }
     {
         let Some(own) = self.tenants.peek(name) else {
             return Err(TenantError::NotOpen);
@@ -119,7 +119,7 @@ impl<
             S.KeyHasher S.Hasher.Hasher self.entry
             (On N.eq (T.names name.now) (Gets (Q.names key.now)) self.old (read result))) }
         ensures value { read result
-            ≡ read_of (λ map. lookup (Q.names key.now) map.pairs) (tenant (T.names name.now) self.old) }
+            ≡ read_of (λ map. lookup (Q.names key.now) map.pairs) (lookup (T.names name.now) self.old.tenants) }
     {
         let Some(own) = self.tenants.peek_mut(name) else {
             return Err(TenantError::NotOpen);

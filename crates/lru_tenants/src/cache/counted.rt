@@ -3,7 +3,7 @@ ghost use Rattle.std.specs.Prelude.{◌≡◌, None, Some, Ok, Err, IfSome};
 ghost use Rattle.std.specs.Borrow.{sem};
 ghost use Rattle.lru_limits.specs.Admissions.{offers_of};
 ghost use Rattle.lru_model.specs.Lists.{lookup};
-ghost use Rattle.lru_tenants.specs.Cache.{tenant, budgets, AreTenants, On};
+ghost use Rattle.lru_tenants.specs.Cache.{budgets, AreTenants, On};
 ghost use Rattle.lru_tenants.specs.Counting.{counting_rules, counting_terms, AreCountingTenants, CountsGet, CountsPut};
 ghost use Rattle.lru_tenants.specs.Counting.{CountsGetOrPut, SetsCounts, TakesCounts};
 ghost use Rattle.lru_tenants.specs.GetOrPuts.{GetsOrPuts};
@@ -43,7 +43,7 @@ impl<N: Eq + Hash, K: Eq + Hash, V, L: Budgeted<K, V>, S: KeyHasher<K> + Copy> T
     ///
     /// `NotOpen`.
     pub fn counts<T: LookupKey<N>>(&self, name: &T) -> Result<Counts, TenantError>
-        ensures { result ≡ read_of (λ map. map.limiter.counts) (tenant (T.names name.now) self.now) }
+        ensures { result ≡ read_of (λ map. map.limiter.counts) (lookup (T.names name.now) self.now.tenants) }
     {
         let Some(map) = self.tenants.peek(name) else {
             return Err(TenantError::NotOpen);
@@ -126,7 +126,7 @@ impl<N: Eq + Hash, K: Eq + Hash, V, L: Budgeted<K, V>, S: KeyHasher<K> + Copy> T
             L.Budgeted L.LinkType.LinkType S.KeyHasher S.Hasher.Hasher self.entry
             (On N.eq (T.names name.now) (IfOpen (CountsGet (Q.names key.now))) self.old (read result))) }
         ensures value { read result
-            ≡ read_of (λ map. lookup (Q.names key.now) map.pairs) (tenant (T.names name.now) self.old) }
+            ≡ read_of (λ map. lookup (Q.names key.now) map.pairs) (lookup (T.names name.now) self.old.tenants) }
     {
         let Some(own) = self.tenants.peek_mut(name) else {
             return Err(TenantError::NotOpen);
@@ -199,15 +199,15 @@ impl<
         key: K,
         make: F,
     ) -> Result<Option<&V>, TenantError>
-        requires callable { IfSome (tenant (T.names name.now) self.old) (λ map.
+        requires callable { IfSome (lookup (T.names name.now) self.old.tenants) (λ map.
             lookup (K.eq key) map.pairs ≡ None → F.pre make) }
         ensures* leaves { sem 𝓛 (counted_ends_so N.row K.row V.row L.row S.row L.LinkType.row S.Hasher.row N.Hash K.Hash
             L.Budgeted L.LinkType.LinkType S.KeyHasher S.Hasher.Hasher self.entry
             (On N.eq (T.names name.now) (OfOpen (CountsGetOrPut (GetsOrPuts (counting_rules L.rules)
             (offers_of (counting_terms L.terms)) (λ s. L.budget_of s.limiter) K.eq S.hash_of (F.post make) key)
             (K.eq key))) self.old (read result))) }
-        ensures not_open { tenant (T.names name.now) self.old ≡ None → read result ≡ Err NotOpen }
-        ensures there { IfSome (tenant (T.names name.now) self.old) (λ map.
+        ensures not_open { lookup (T.names name.now) self.old.tenants ≡ None → read result ≡ Err NotOpen }
+        ensures there { IfSome (lookup (T.names name.now) self.old.tenants) (λ map.
             IfSome (lookup (K.eq key) map.pairs) (λ value. read result ≡ Ok (Some value))) }
     {
         let Some(own) = self.tenants.peek_mut(name) else {

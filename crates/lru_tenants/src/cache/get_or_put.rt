@@ -2,7 +2,7 @@ ghost use Rattle.std.specs.Prelude.{◌≡◌, None, Some, Ok, Err, IfSome};
 ghost use Rattle.std.specs.Borrow.{sem};
 ghost use Rattle.lru_limits.specs.Admissions.{offers_of};
 ghost use Rattle.lru_model.specs.Lists.{lookup};
-ghost use Rattle.lru_tenants.specs.Cache.{tenant, On};
+ghost use Rattle.lru_tenants.specs.Cache.{On};
 ghost use Rattle.lru_tenants.specs.GetOrPuts.{GetsOrPuts};
 ghost use Rattle.lru_tenants.specs.Lending.{read};
 ghost use Rattle.lru_tenants.specs.TenantRuns.{OfOpen};
@@ -45,14 +45,14 @@ impl<
         key: K,
         make: F,
     ) -> Result<Option<&V>, TenantError>
-        requires callable { IfSome (tenant (T.names name.now) self.old) (λ map.
+        requires callable { IfSome (lookup (T.names name.now) self.old.tenants) (λ map.
             lookup (K.eq key) map.pairs ≡ None → F.pre make) }
         ensures* leaves { sem 𝓛 (ends_so N.row K.row V.row L.row S.row L.LinkType.row S.Hasher.row N.Hash K.Hash
             L.Budgeted L.LinkType.LinkType S.KeyHasher S.Hasher.Hasher self.entry
             (On N.eq (T.names name.now) (OfOpen (GetsOrPuts L.rules (offers_of L.terms) L.budget_of K.eq S.hash_of (F.post make) key))
             self.old (read result))) }
-        ensures not_open { tenant (T.names name.now) self.old ≡ None → read result ≡ Err NotOpen }
-        ensures there { IfSome (tenant (T.names name.now) self.old) (λ map.
+        ensures not_open { lookup (T.names name.now) self.old.tenants ≡ None → read result ≡ Err NotOpen }
+        ensures there { IfSome (lookup (T.names name.now) self.old.tenants) (λ map.
             IfSome (lookup (K.eq key) map.pairs) (λ value. read result ≡ Ok (Some value))) }
     {
         let Some(own) = self.tenants.peek_mut(name) else {

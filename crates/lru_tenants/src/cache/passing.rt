@@ -3,7 +3,8 @@ ghost use Rattle.std.specs.Result.{OnErr};
 ghost use Rattle.lru_limits.specs.Admissions.{offers_of};
 ghost use Rattle.lru_model.specs.Callbacks.{CalledWith};
 ghost use Rattle.lru_model.specs.Inserts.{kept_of};
-ghost use Rattle.lru_tenants.specs.Cache.{tenant, budgets, budgets_with, is_over, AreTenants, On};
+ghost use Rattle.lru_model.specs.Lists.{lookup};
+ghost use Rattle.lru_tenants.specs.Cache.{budgets, budgets_with, is_over, AreTenants, On};
 ghost use Rattle.lru_tenants.specs.PutFulls.{comes_back, rejects};
 ghost use Rattle.lru_tenants.specs.TenantRuns.{put_answer, OfOpen, PassesOn, Puts, PutPasses, SetsBudget};
 ghost use Rattle.lru_tenants.specs.TenantRuns.{BudgetPasses, Closes, ClosePasses};
@@ -89,12 +90,12 @@ impl<
         requires callable { F.IsAlwaysCallable sink.old }
         ensures puts { On N.eq (T.names name.now) (OfOpen (Puts L.rules (offers_of L.terms) L.budget_of K.eq S.hash_of key value))
             self.old (kept_of result) self.new }
-        ensures unkept { IfOk result (λ inserted. IfSome (tenant (T.names name.now) self.old) (λ map. inserted.unkept
+        ensures unkept { IfOk result (λ inserted. IfSome (lookup (T.names name.now) self.old.tenants) (λ map. inserted.unkept
             ≡ comes_back L.terms K.eq key value L.rules map)) }
-        ensures rejects { IfSome (tenant (T.names name.now) self.old) (λ map.
+        ensures rejects { IfSome (lookup (T.names name.now) self.old.tenants) (λ map.
             rejects L.terms K.eq key value map ≡ true →
             (result ≡ Ok (record { kept = false; unkept = Some value }))
-            × (tenant (T.names name.now) self.new ≡ Some map)) }
+            × (lookup (T.names name.now) self.new.tenants ≡ Some map)) }
         ensures passed { (passed : List (K × V)) × CalledWith F.FnMut sink.old passed sink.new × On N.eq (T.names name.now)
             (PassesOn (PutPasses L.rules (offers_of L.terms) L.budget_of K.eq S.hash_of key value)) self.old passed self.new }
         ensures callable { F.IsAlwaysCallable sink.new }

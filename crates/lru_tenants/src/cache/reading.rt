@@ -3,7 +3,7 @@ ghost use Rattle.std.specs.Borrow.{sem};
 ghost use Rattle.std.specs.Map.{keys_of};
 ghost use Rattle.std.specs.Map.Iter.{ShowsInOrder, ShowsInReverse, deref, deref_pair};
 ghost use Rattle.lru_model.specs.Lists.{lookup};
-ghost use Rattle.lru_tenants.specs.Cache.{tenant, AreTenants, On};
+ghost use Rattle.lru_tenants.specs.Cache.{AreTenants, On};
 ghost use Rattle.lru_tenants.specs.TenantRuns.{read_of, Gets};
 ghost use Rattle.lru_tenants.specs.Lending.{read};
 
@@ -42,7 +42,7 @@ impl<N: Eq + Hash, K: Eq + Hash, V, L: Budgeted<K, V>, S: KeyHasher<K> + Copy> T
             L.Budgeted L.LinkType.LinkType S.KeyHasher S.Hasher.Hasher self.entry
             (On N.eq (T.names name.now) (Gets (Q.names key.now)) self.old (read result))) }
         ensures value { read result
-            ≡ read_of (λ map. lookup (Q.names key.now) map.pairs) (tenant (T.names name.now) self.old) }
+            ≡ read_of (λ map. lookup (Q.names key.now) map.pairs) (lookup (T.names name.now) self.old.tenants) }
     {
         let Some(map) = self.tenants.peek_mut(name) else {
             return Err(TenantError::NotOpen);
@@ -70,7 +70,7 @@ impl<N: Eq + Hash, K: Eq + Hash, V, L: Budgeted<K, V>, S: KeyHasher<K> + Copy> T
         key: &Q,
     ) -> Result<Option<&V>, TenantError>
         ensures { read result
-            ≡ read_of (λ map. lookup (Q.names key.now) map.pairs) (tenant (T.names name.now) self.now) }
+            ≡ read_of (λ map. lookup (Q.names key.now) map.pairs) (lookup (T.names name.now) self.now.tenants) }
     {
         let Some(map) = self.tenants.peek(name) else {
             return Err(TenantError::NotOpen);
@@ -95,7 +95,7 @@ impl<N: Eq + Hash, K: Eq + Hash, V, L: Budgeted<K, V>, S: KeyHasher<K> + Copy> T
         key: &Q,
     ) -> Result<bool, TenantError>
         ensures { result
-            ≡ read_of (λ map. is_some (lookup (Q.names key.now) map.pairs)) (tenant (T.names name.now) self.now) }
+            ≡ read_of (λ map. is_some (lookup (Q.names key.now) map.pairs)) (lookup (T.names name.now) self.now.tenants) }
     {
         let Some(map) = self.tenants.peek(name) else {
             return Err(TenantError::NotOpen);
@@ -115,10 +115,10 @@ impl<N: Eq + Hash, K: Eq + Hash, V, L: Budgeted<K, V>, S: KeyHasher<K> + Copy> T
     ///
     /// `NotOpen`.
     pub fn iter<T: LookupKey<N>>(&self, name: &T) -> Result<Iter<'_, K, V, L>, TenantError>
-        ensures rest { result ≡ read_of (λ map. map.pairs) (tenant (T.names name.now) self.now) }
+        ensures rest { result ≡ read_of (λ map. map.pairs) (lookup (T.names name.now) self.now.tenants) }
         ensures runs { IfOk result (λ walk. ShowsInOrder (deref_pair {K = K} {X = V})) }
         ensures runs_back { IfOk result (λ walk. ShowsInReverse (deref_pair {K = K} {X = V})) }
-        ensures fits { IfSome (tenant (T.names name.now) self.now) (λ map. length map.pairs < 2 ^ 64) }
+        ensures fits { IfSome (lookup (T.names name.now) self.now.tenants) (λ map. length map.pairs < 2 ^ 64) }
     {
         let Some(map) = self.tenants.peek(name) else {
             return Err(TenantError::NotOpen);
@@ -138,7 +138,7 @@ impl<N: Eq + Hash, K: Eq + Hash, V, L: Budgeted<K, V>, S: KeyHasher<K> + Copy> T
     ///
     /// `NotOpen`.
     pub fn entries<T: LookupKey<N>>(&self, name: &T) -> Result<usize, TenantError>
-        ensures { result ≡ read_of (λ map. length map.pairs) (tenant (T.names name.now) self.now) }
+        ensures { result ≡ read_of (λ map. length map.pairs) (lookup (T.names name.now) self.now.tenants) }
     {
         let Some(map) = self.tenants.peek(name) else {
             return Err(TenantError::NotOpen);
@@ -158,7 +158,7 @@ impl<N: Eq + Hash, K: Eq + Hash, V, L: Budgeted<K, V>, S: KeyHasher<K> + Copy> T
     ///
     /// `NotOpen`.
     pub fn budget<T: LookupKey<N>>(&self, name: &T) -> Result<u64, TenantError>
-        ensures { result ≡ read_of (λ map. L.budget_of map.limiter) (tenant (T.names name.now) self.now) }
+        ensures { result ≡ read_of (λ map. L.budget_of map.limiter) (lookup (T.names name.now) self.now.tenants) }
     {
         let Some(map) = self.tenants.peek(name) else {
             return Err(TenantError::NotOpen);
@@ -178,7 +178,7 @@ impl<N: Eq + Hash, K: Eq + Hash, V, L: Budgeted<K, V>, S: KeyHasher<K> + Copy> T
     ///
     /// `NotOpen`.
     pub fn cost<T: LookupKey<N>>(&self, name: &T) -> Result<u64, TenantError>
-        ensures cost { result ≡ read_of (λ map. L.account map.limiter) (tenant (T.names name.now) self.now) }
+        ensures cost { result ≡ read_of (λ map. L.account map.limiter) (lookup (T.names name.now) self.now.tenants) }
         ensures tenants { AreTenants K.eq L.cost_of L.account L.budget_of self.now }
     {
         let Some(map) = self.tenants.peek(name) else {

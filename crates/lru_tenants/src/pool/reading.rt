@@ -4,7 +4,7 @@ ghost use Rattle.std.specs.List.{IsDistinct};
 ghost use Rattle.std.specs.Map.{keys_of};
 ghost use Rattle.lru_model.specs.Lists.{is_empty, lookup};
 ghost use Rattle.lru_tenants.specs.Lending.{read};
-ghost use Rattle.lru_tenants.specs.Pool.{part, read_part, cost, total_cost, IsPool, On, Gets, Removes};
+ghost use Rattle.lru_tenants.specs.Pool.{read_part, cost, total_cost, IsPool, On, Gets, Removes};
 ghost use Rattle.lru_tenants.specs.TenantRuns.{OfOpen};
 
 use crate::error::TenantError;
@@ -91,7 +91,7 @@ impl<N: Eq + Hash, K: Eq + Hash, V, L: Budgeted<K, V>, S: KeyHasher<K> + Copy> T
     ///
     /// `NotOpen`.
     pub fn cost<T: LookupKey<N>>(&self, name: &T) -> Result<u64, TenantError>
-        ensures { result ≡ read_part (λ own. cost L.account own) (part (T.names name.now) self.now) }
+        ensures { result ≡ read_part (λ own. cost L.account own) (lookup (T.names name.now) self.now.tenants) }
     {
         let Some((_, map)) = self.tenants.peek(name) else {
             return Err(TenantError::NotOpen);
@@ -111,7 +111,7 @@ impl<N: Eq + Hash, K: Eq + Hash, V, L: Budgeted<K, V>, S: KeyHasher<K> + Copy> T
     ///
     /// `NotOpen`.
     pub fn share<T: LookupKey<N>>(&self, name: &T) -> Result<u64, TenantError>
-        ensures { result ≡ read_part (λ own. own.0) (part (T.names name.now) self.now) }
+        ensures { result ≡ read_part (λ own. own.0) (lookup (T.names name.now) self.now.tenants) }
     {
         let Some((share, _)) = self.tenants.peek(name) else {
             return Err(TenantError::NotOpen);
@@ -136,7 +136,7 @@ impl<N: Eq + Hash, K: Eq + Hash, V, L: Budgeted<K, V>, S: KeyHasher<K> + Copy> T
         key: &Q,
     ) -> Result<bool, TenantError>
         ensures { result ≡ read_part (λ own. is_some (lookup (Q.names key.now) own.1.pairs))
-            (part (T.names name.now) self.now) }
+            (lookup (T.names name.now) self.now.tenants) }
     {
         let Some((_, map)) = self.tenants.peek(name) else {
             return Err(TenantError::NotOpen);
@@ -161,7 +161,7 @@ impl<N: Eq + Hash, K: Eq + Hash, V, L: Budgeted<K, V>, S: KeyHasher<K> + Copy> T
         key: &Q,
     ) -> Result<Option<&V>, TenantError>
         ensures { read result ≡ read_part (λ own. lookup (Q.names key.now) own.1.pairs)
-            (part (T.names name.now) self.now) }
+            (lookup (T.names name.now) self.now.tenants) }
     {
         let Some((_, map)) = self.tenants.peek(name) else {
             return Err(TenantError::NotOpen);
@@ -189,7 +189,7 @@ impl<N: Eq + Hash, K: Eq + Hash, V, L: Budgeted<K, V>, S: KeyHasher<K> + Copy> T
             L.Budgeted L.LinkType.LinkType S.KeyHasher S.Hasher.Hasher self.entry
             (On N.eq (T.names name.now) (Gets (Q.names key.now)) self.old (read result))) }
         ensures value { read result ≡ read_part (λ own. lookup (Q.names key.now) own.1.pairs)
-            (part (T.names name.now) self.old) }
+            (lookup (T.names name.now) self.old.tenants) }
     {
         let Some(own) = self.tenants.peek_mut(name) else {
             return Err(TenantError::NotOpen);

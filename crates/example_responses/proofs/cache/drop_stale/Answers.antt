@@ -1,7 +1,7 @@
 use Rattle.std.proofs.Common.{Ok, refl, sym, ap, ◌∙◌}
 use Rattle.std.specs.String.{string_eq_equiv}
 use Rattle.lru_limits.specs.Texts.{names_text, names_text-lawful}
-use Rattle.lru_tenants.proofs.Changes.{leaves-same}
+use Rattle.lru_tenants.proofs.Changes.{only-same}
 use Rattle.example_responses.proofs.LookUps.{distinct-keys, fresh-stays, stale-dropped}
 use Rattle.example_responses.proofs.cache.drop_stale.Goals as goal
 
@@ -10,7 +10,7 @@ returns-then-branch c =
     let host = names_text c.args.host.now in
     fresh-stays (names_text c.args.path.now) c.args.now host c.args.entries.now
     (sym (c.in_ok-is_fresh.was ∙ ap Ok c.if-branch.true) ∙ c.is_fresh.ensures)
-    (leaves-same host ((names_text-lawful (λ bytes. bytes)).one c.args.host.now) c.args.entries.now)
+    (only-same ((names_text-lawful (λ bytes. bytes)).one c.args.host.now) c.args.entries.now.tenants)
 
 pub returns : goal.returns
 returns c =

@@ -6,15 +6,15 @@ use crate::erased::lru_limits::Budgeted;
 use crate::erased::lru_tenants::cache::TenantCache;
 use crate::erased::lru_tenants::call::{TenantAnswer, TenantCall};
 use crate::erased::lru_tenants::error::TenantError;
-use crate::erased::lru_tenants::laws::{costs_are_within_the_total_limit, each_tenant_has_its_own_run};
+use crate::erased::lru_tenants::laws::costs_are_within_the_total_limit;
 use crate::erased::schnellru::KeyHasher;
 use crate::rattle_std::alloc::{AllocError, Global};
 use crate::rattle_std::hash::Hash;
 
 /// Carries out the calls in order, and returns one answer for each.
 ///
-/// Each call finds the named tenant as the previous call on this tenant left it (`each_tenant_has_its_own_run`). If the
-/// cache has a total limit, `open` may return `OverTotal`.
+/// Each call finds the cache as the previous call left it (`run`), and so the named tenant as the previous call on this
+/// tenant left it (`own`).
 ///
 /// Cost: the costs of the calls, and one allocation for the answers.
 ///
@@ -26,7 +26,6 @@ pub fn run_tenants<N: Copy + Eq + Hash, K: Copy + Eq + Hash, V: Copy, L: Budgete
     cache: &mut TenantCache<N, K, V, L, S>,
     calls: Vec<TenantCall<N, K, V>>,
 ) -> Result<Vec<TenantAnswer<V>>, AllocError> {
-    each_tenant_has_its_own_run::<N, K, V, L, S>();
     let _len = cache.len();
     let mut answers = Vec::with_capacity(alloc, calls.len())?;
     for call in calls {

@@ -1,12 +1,10 @@
-use Rattle.std.proofs.Common.{◌≡◌, Some, None, Ok, Err, sym, refl, ap, ◌∙◌, option_map, length}
-use Rattle.std.proofs.lemmas.Iterator.Adapters.{option_map_id}
+use Rattle.std.proofs.Common.{Some, None, Ok, Err, sym, refl, ap, ◌∙◌, length}
 use Rattle.lru_limits.specs.Bytes.{both_own}
-use Rattle.lru_model.specs.Lists.{lookup}
 use Rattle.lru_model.specs.Runs.Step.{removes}
-use Rattle.lru_model.proofs.CallerLemmas.{lookup-entry, no_pair, without_none}
 use Rattle.lru_tenants.specs.TenantRuns.{OfOpen, Closes}
 use Rattle.lru_tenants.specs.declared.error.TenantError.TheVariants.{NotOpen}
-use Rattle.lru_tenants.proofs.ByteChanges.{left-view, leaves-removed, on-from, on-same}
+use Rattle.lru_tenants.proofs.ByteChanges.{left-rest}
+use Rattle.lru_tenants.proofs.Changes.{found-removed, on-removed}
 use Rattle.lru_tenants.proofs.ByteSums.{is_within, holds-removed}
 use Rattle.lru_tenants.proofs.bytes.ByteTenants.close.Goals as goal
 
@@ -39,30 +37,25 @@ returns-clause-within g c = is_within g.N.OwnedBytes.owned (both_own g.K.OwnedBy
 pub returns-in_default-clause-closes : goal.returns-in_default-clause-closes
 returns-in_default-clause-closes g c =
     let names = g.T.LookupKey.names c.args.name.now in let old = c.self.inside.tenants in
-    let law = c.calls_keep_the_bytes.ensures in let new = c.remove.new.self in
-    let found : c.remove.result ≡ lookup names old.pairs = c.remove.ensures.step.value
-    ∙ ap (option_map (λ p. p.1)) (option_map_id _) ∙ sym (lookup-entry names old.pairs) in
-    let absent = sym found ∙ c.in_default.is in
-    let same = law.limit old new c.len-len.ensures.map.sized (removes names c.remove.result c.remove.ensures.step)
-    c.self.invariant.all in
-    rw (
-      ← c.self.view_is,
-      left-view old new _ c.remove.ensures.step.state same,
-      without_none names old.pairs (no_pair names old.pairs absent),
+    let found = found-removed names old.pairs c.remove.ensures.step.value in
+    rw (← c.self.view_is) (
+      left-rest old c.remove.new.self _ c.remove.ensures.step.state (c.calls_keep_the_bytes.ensures.limit old
+          c.remove.new.self c.len-len.ensures.map.sized (removes names c.remove.result c.remove.ensures.step)
+          c.self.invariant.all),
+      rw (ap (λ st. st.pairs) c.remove.ensures.step.state.is) (on-removed (g.met.T.LookupKey.laws.one c.args.name.now)
+          (OfOpen Closes) (Err NotOpen) g.met.N.Eq.laws old.pairs c.len-len.ensures.map.distinct None
+          (sym found ∙ c.in_default.is) (refl, refl)),
     )
-    (on-same (OfOpen Closes) (Err NotOpen) _ None absent (refl, refl))
 
 pub returns-clause-closes : goal.returns-clause-closes
 returns-clause-closes g c =
     let names = g.T.LookupKey.names c.args.name.now in let old = c.self.inside.tenants in
-    let law = c.calls_keep_the_bytes.ensures in let new = c.remove.new.self in
-    let found : c.remove.result ≡ lookup names old.pairs = c.remove.ensures.step.value
-    ∙ ap (option_map (λ p. p.1)) (option_map_id _) ∙ sym (lookup-entry names old.pairs) in
-    let there = sym found ∙ c.in-Some.is in
-    let same = law.limit old new c.len-len.ensures.map.sized (removes names c.remove.result c.remove.ensures.step)
-    c.self.invariant.all in
-    rw (← c.self.view_is, left-view old new _ c.remove.ensures.step.state same)
-    (on-from (OfOpen Closes) _ _ _ (Some c.in-Some.own) None there
-    (ap Ok (c.len.ensures.len ∙ ap (λ st. length st.pairs) c.own.view_is), refl)
-    (leaves-removed names g.met.N.Eq.laws (g.met.T.LookupKey.laws.one c.args.name.now) _ _ _ old.pairs c.in-Some.own
-    there c.len-len.ensures.map.distinct))
+    let found = found-removed names old.pairs c.remove.ensures.step.value in
+    rw (← c.self.view_is) (
+      left-rest old c.remove.new.self _ c.remove.ensures.step.state (c.calls_keep_the_bytes.ensures.limit old
+          c.remove.new.self c.len-len.ensures.map.sized (removes names c.remove.result c.remove.ensures.step)
+          c.self.invariant.all),
+      rw (ap (λ st. st.pairs) c.remove.ensures.step.state.is) (on-removed (g.met.T.LookupKey.laws.one c.args.name.now)
+          (OfOpen Closes) _ g.met.N.Eq.laws old.pairs c.len-len.ensures.map.distinct (Some c.in-Some.own)
+          (sym found ∙ c.in-Some.is) (ap Ok (c.len.ensures.len ∙ ap (λ st. length st.pairs) c.own.view_is), refl)),
+    )

@@ -4,8 +4,7 @@ use Rattle.lru_model.specs.Theorems.{KeepsBytes}
 use Rattle.lru_model.specs.Lists.{lookup}
 use Rattle.lru_tenants.specs.Bytes.{limit_of}
 use Rattle.lru_tenants.specs.TenantRuns.{read_of, Gets}
-use Rattle.lru_tenants.proofs.Changes.{found-all}
-use Rattle.lru_tenants.proofs.ByteChanges.{leaves-written, on-from}
+use Rattle.lru_tenants.proofs.Changes.{found-all, on-written}
 use Rattle.lru_tenants.proofs.ByteSums.{holds-written, promoted-keeps}
 use Rattle.lru_tenants.proofs.bytes.ByteTenants.get.Goals as goal
 
@@ -22,16 +21,17 @@ invariant_of-self-2 g c =
 pub returns : goal.returns
 returns g c =
     let key = g.Q.LookupKey.names c.args.key.now in
-    let names = g.T.LookupKey.names c.args.name.now in let there = sym c.in-Some.ensures.value in
-    let was = c.in-Some.own.now in let left = c.get.follows.lender-at-none in
+    let there = sym c.in-Some.ensures.value in let was = c.in-Some.own.now in
     rw (← c.self.view_is) (
       (
         refl,
         λ _. tt,
-        on-from (Gets key) _ _ _ (Some was) (Some left) there
-            (ap Ok c.get.ensures.value, ap Some c.get.follows.holds-at-none)
-            (leaves-written names g.met.N.Eq.laws (g.met.T.LookupKey.laws.one c.args.name.now) _ _ _
-            c.self.inside.tenants.pairs was there left),
+        (
+          refl,
+          on-written (g.met.T.LookupKey.laws.one c.args.name.now) (Gets key) _ g.met.N.Eq.laws
+              c.self.inside.tenants.pairs was c.get.follows.lender-at-none there
+              (ap Ok c.get.ensures.value, ap Some c.get.follows.holds-at-none),
+        ),
       ),
       record {
         leaves = tt;

@@ -1,13 +1,12 @@
-use Rattle.std.proofs.Common.{◌+◌, ◌∷◌, inl, inr, false, Some, None, Ok, Err, sym, refl, ap, ◌∙◌}
+use Rattle.std.proofs.Common.{◌+◌, ◌∷◌, sym, refl, ap, ◌∙◌}
 use Rattle.std.proofs.lemmas.List.Elements.{All-cons}
 use Rattle.std.specs.Map.{lookup, values_of}
 use Rattle.lru_limits.specs.Bytes.{both_own, in_word}
 use Rattle.lru_model.specs.Theorems.{KeepsBytes}
 use Rattle.lru_tenants.specs.Bytes.{fresh, reserved}
-use Rattle.lru_tenants.specs.TenantRuns.{Opens}
-use Rattle.lru_tenants.specs.declared.error.TenantError.TheVariants.{Memory}
 use Rattle.lru_caches.proofs.Outcomes.{none_there}
-use Rattle.lru_tenants.proofs.ByteChanges.{leaves-opened, not-over, on-from, on-same}
+use Rattle.lru_tenants.proofs.ByteChanges.{not-over}
+use Rattle.lru_tenants.proofs.Changes.{opens-made, opens-unmade}
 use Rattle.lru_tenants.proofs.ByteSums.{is_within, holds-at, run-kept}
 use Rattle.lru_tenants.proofs.bytes.ByteTenants.open.Goals as goal
 
@@ -57,10 +56,11 @@ returns-in_default-clause-opens g c =
     let over = not-over _ (reserved g.N.OwnedBytes.owned c.args.self.now) c.left.result c.saturating_add-bytes.result _
     c.left.ensures c.if-bytes-left.false
     (c.saturating_add-bytes.ensures ∙ ap (λ n. in_word (n + c.args.limit)) c.owned_bytes.ensures) in
-    rw (c.in_default.ensures.ends.keeps, limit, c.in_default.ensures.ends.hasher, over, ← c.self.view_is)
-    (on-same (Opens false _) (Err Memory) _ None
-    (none_there (lookup (g.N.PartialEq.eq c.args.name) old.pairs) (sym c.contains.ensures ∙ c.if-contains.false))
-    (inr (refl, refl)))
+    rw (c.in_default.ensures.ends.keeps, limit, c.in_default.ensures.ends.hasher, over, ← c.self.view_is) (
+      refl,
+      opens-unmade g.met.N.Eq.laws c.args.name _ old.pairs
+          (none_there (lookup (g.N.PartialEq.eq c.args.name) old.pairs) (sym c.contains.ensures ∙ c.if-contains.false)) refl,
+    )
 
 pub returns-clause-opens : goal.returns-clause-opens
 returns-clause-opens g c =
@@ -70,8 +70,9 @@ returns-clause-opens g c =
     let over = not-over _ (reserved g.N.OwnedBytes.owned c.args.self.now) c.left.result c.saturating_add-bytes.result _
     c.left.ensures c.if-bytes-left.false
     (c.saturating_add-bytes.ensures ∙ ap (λ n. in_word (n + c.args.limit)) c.owned_bytes.ensures) in
-    rw (c.in-Ok.ensures.ends.added, limit, c.in-Ok.ensures.ends.hasher, over, ← c.self.view_is)
-    (on-from (Opens false _) (Ok tt) _ _ None (Some c.new-own.result)
-    (none_there (lookup (g.N.PartialEq.eq c.args.name) old.pairs) (sym c.contains.ensures ∙ c.if-contains.false))
-    (inl (refl, ap Some (c.new-own.ensures.map ∙ ap (λ h. fresh _ h c.args.limit) c.hasher.ensures)))
-    (leaves-opened g.met.N.Eq.laws c.args.name c.new-own.result _ _ _ old.pairs))
+    rw (c.in-Ok.ensures.ends.added, limit, c.in-Ok.ensures.ends.hasher, over, ← c.self.view_is) (
+      refl,
+      opens-made g.met.N.Eq.laws c.args.name _ old.pairs
+          (none_there (lookup (g.N.PartialEq.eq c.args.name) old.pairs) (sym c.contains.ensures ∙ c.if-contains.false)) refl
+          c.new-own.result (c.new-own.ensures.map ∙ ap (λ h. fresh _ h c.args.limit) c.hasher.ensures),
+    )

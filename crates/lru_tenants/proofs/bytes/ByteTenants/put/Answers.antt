@@ -1,10 +1,9 @@
-use Rattle.std.proofs.Common.{Some, None, Err, sym, refl, ap, ◌∙◌}
+use Rattle.std.proofs.Common.{None, Err, sym, refl, ap, ◌∙◌}
 use Rattle.lru_limits.specs.Bytes.{both_own, by_bytes, bytes_offers}
 use Rattle.lru_model.specs.Theorems.{KeepsBytes}
 use Rattle.lru_tenants.specs.TenantRuns.{OfOpen, Puts, put_answer}
 use Rattle.lru_tenants.specs.declared.error.TenantError.TheVariants.{NotOpen}
-use Rattle.lru_tenants.proofs.Changes.{found-all}
-use Rattle.lru_tenants.proofs.ByteChanges.{leaves-written, on-from, on-same}
+use Rattle.lru_tenants.proofs.Changes.{found-all, on-same, on-written}
 use Rattle.lru_tenants.proofs.ByteSums.{is_within, holds-written}
 use Rattle.lru_tenants.proofs.bytes.ByteTenants.put.Goals as goal
 use Rattle.lru_tenants.proofs.bytes.ByteTenants.put.Goals.{in-Ok, in-Err}
@@ -31,26 +30,30 @@ returns-clause-within g c = is_within g.N.OwnedBytes.owned (both_own g.K.OwnedBy
 pub returns-in_default-clause-puts : goal.returns-in_default-clause-puts
 returns-in_default-clause-puts g c =
     let of_pair = both_own g.K.OwnedBytes.owned g.V.OwnedBytes.owned in
-    rw (← c.self.view_is) (on-same (OfOpen (Puts (by_bytes of_pair) (bytes_offers of_pair) (λ limiter. limiter.limit)
-    g.K.PartialEq.eq g.S.KeyHasher.hash_of c.args.key c.args.value)) (Err NotOpen) _ None
-    (sym c.in_default.ensures.value) (refl, refl))
+    rw (← c.self.view_is) (
+      refl,
+      on-same (g.met.T.LookupKey.laws.one c.args.name.now) (OfOpen (Puts (by_bytes of_pair)
+          (bytes_offers of_pair) (λ limiter. limiter.limit) g.K.PartialEq.eq g.S.KeyHasher.hash_of c.args.key c.args.value))
+          (Err NotOpen) _ None (sym c.in_default.ensures.value) (refl, refl),
+    )
 
 pub returns-clause-puts : goal.returns-clause-puts
 returns-clause-puts g c =
     let of_pair = both_own g.K.OwnedBytes.owned g.V.OwnedBytes.owned in
-    let names = g.T.LookupKey.names c.args.name.now in let there = sym c.in-Some.ensures.value in
-    let was = c.in-Some.own.now in let left = c.insert.new.self in
-    rw (← c.self.view_is) (on-from (OfOpen (Puts (by_bytes of_pair) (bytes_offers of_pair) (λ limiter. limiter.limit)
-    g.K.PartialEq.eq g.S.KeyHasher.hash_of c.args.key c.args.value)) c.match-insert.result _ _ (Some was) (Some left)
-    there (record {
-      left = left;
-      result = c.insert.result;
-      inserts = c.insert.ensures.inserts;
-      budget = c.insert.ensures.limit;
-      said = elim (c.match-insert.branch) [
-        | in-Ok w ↦ w.result-is ∙ sym (ap put_answer w.in-Ok.is)
-        | in-Err w ↦ w.result-is ∙ sym (ap put_answer w.in-Err.is)
-      ];
-      is = refl;
-    }) (leaves-written names g.met.N.Eq.laws (g.met.T.LookupKey.laws.one c.args.name.now) _ _ _
-    c.self.inside.tenants.pairs was there left))
+    rw (← c.self.view_is) (
+      refl,
+      on-written (g.met.T.LookupKey.laws.one c.args.name.now) (OfOpen (Puts (by_bytes of_pair)
+          (bytes_offers of_pair) (λ limiter. limiter.limit) g.K.PartialEq.eq g.S.KeyHasher.hash_of c.args.key c.args.value))
+          c.match-insert.result g.met.N.Eq.laws c.self.inside.tenants.pairs c.in-Some.own.now c.insert.new.self
+          (sym c.in-Some.ensures.value) (record {
+            left = c.insert.new.self;
+            result = c.insert.result;
+            inserts = c.insert.ensures.inserts;
+            budget = c.insert.ensures.limit;
+            said = elim (c.match-insert.branch) [
+              | in-Ok w ↦ w.result-is ∙ sym (ap put_answer w.in-Ok.is)
+              | in-Err w ↦ w.result-is ∙ sym (ap put_answer w.in-Err.is)
+            ];
+            is = refl;
+          }),
+    )

@@ -1,11 +1,10 @@
-use Rattle.std.proofs.Common.{Some, None, Ok, Err, sym, refl}
+use Rattle.std.proofs.Common.{None, Ok, Err, sym, refl}
 use Rattle.lru_limits.specs.Bytes.{both_own, by_bytes}
 use Rattle.lru_model.specs.Theorems.{KeepsBytes}
 use Rattle.lru_model.specs.Calls.{Remove}
 use Rattle.lru_tenants.specs.TenantRuns.{IfOpen}
 use Rattle.lru_tenants.specs.declared.error.TenantError.TheVariants.{NotOpen}
-use Rattle.lru_tenants.proofs.Changes.{found-all}
-use Rattle.lru_tenants.proofs.ByteChanges.{leaves-written, on-from, on-same}
+use Rattle.lru_tenants.proofs.Changes.{found-all, on-same, on-written}
 use Rattle.lru_tenants.proofs.ByteSums.{is_within, holds-written}
 use Rattle.lru_tenants.proofs.bytes.ByteTenants.remove.Goals as goal
 
@@ -29,16 +28,19 @@ returns-clause-within g c = is_within g.N.OwnedBytes.owned (both_own g.K.OwnedBy
     (invariant_of-self-2 g c) (c.in-Some.ensures.map c.remove.new.self).sized
 
 pub returns-in_default-clause-removes : goal.returns-in_default-clause-removes
-returns-in_default-clause-removes g c = rw (← c.self.view_is)
-    (on-same (IfOpen (Remove (by_bytes (both_own g.K.OwnedBytes.owned g.V.OwnedBytes.owned))
-    (g.Q.LookupKey.names c.args.key.now))) (Err NotOpen) _ None (sym c.in_default.ensures.value) (refl, refl))
+returns-in_default-clause-removes g c = rw (← c.self.view_is) (
+  refl,
+  on-same (g.met.T.LookupKey.laws.one c.args.name.now) (IfOpen (Remove (by_bytes (both_own g.K.OwnedBytes.owned
+      g.V.OwnedBytes.owned)) (g.Q.LookupKey.names c.args.key.now))) (Err NotOpen) _ None (sym c.in_default.ensures.value)
+      (refl, refl),
+)
 
 pub returns-clause-removes : goal.returns-clause-removes
 returns-clause-removes g c =
-    let names = g.T.LookupKey.names c.args.name.now in let there = sym c.in-Some.ensures.value in
-    let was = c.in-Some.own.now in let left = c.remove.new.self in
-    rw (← c.self.view_is) (on-from (IfOpen (Remove (by_bytes (both_own g.K.OwnedBytes.owned g.V.OwnedBytes.owned))
-    (g.Q.LookupKey.names c.args.key.now))) (Ok c.remove.result) _ _ (Some was) (Some left) there
-    (c.remove.result, left, c.remove.ensures.removes, refl, refl)
-    (leaves-written names g.met.N.Eq.laws (g.met.T.LookupKey.laws.one c.args.name.now) _ _ _
-    c.self.inside.tenants.pairs was there left))
+    rw (← c.self.view_is) (
+      refl,
+      on-written (g.met.T.LookupKey.laws.one c.args.name.now) (IfOpen (Remove (by_bytes (both_own
+          g.K.OwnedBytes.owned g.V.OwnedBytes.owned)) (g.Q.LookupKey.names c.args.key.now))) (Ok c.remove.result)
+          g.met.N.Eq.laws c.self.inside.tenants.pairs c.in-Some.own.now c.remove.new.self (sym c.in-Some.ensures.value)
+          (c.remove.result, c.remove.new.self, c.remove.ensures.removes, refl, refl),
+    )

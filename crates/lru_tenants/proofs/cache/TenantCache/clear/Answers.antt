@@ -25,12 +25,18 @@ returns-clause-total g c = rw (← c.self.view_is) (same-sum c.self.inside.tenan
     c.clear.ensures.budget)
 
 pub returns-clause-clears : goal.returns-clause-clears
-returns-clause-clears g c = rw (← c.self.view_is) (on-written g.met.T.LookupKey.laws c.args.name.now
-    (IfOpen (λ old done new. new ≡ cleared g.L.Limiter.rules old))
-    _ g.met.N.Eq.laws c.self.inside.tenants.pairs c.in-Some.own.now c.clear.new.map
-    (sym c.in-Some.ensures.value) (tt, c.clear.new.map, c.clear.ensures.clears, refl, refl))
+returns-clause-clears g c = rw (← c.self.view_is) (
+  refl,
+  on-written (g.met.T.LookupKey.laws.one c.args.name.now)
+      (IfOpen (λ old done new. new ≡ cleared g.L.Limiter.rules old))
+      _ g.met.N.Eq.laws c.self.inside.tenants.pairs c.in-Some.own.now c.clear.new.map
+      (sym c.in-Some.ensures.value) (tt, c.clear.new.map, c.clear.ensures.clears, refl, refl),
+)
 
 pub returns-in_default-clause-clears : goal.returns-in_default-clause-clears
-returns-in_default-clause-clears g c = rw (← c.self.view_is) (on-same g.met.T.LookupKey.laws c.args.name.now
-    (IfOpen (λ old done new. new ≡ cleared g.L.Limiter.rules old))
-    _ _ None (sym c.in_default.ensures.value) (refl, refl))
+returns-in_default-clause-clears g c = rw (← c.self.view_is) (
+  refl,
+  on-same (g.met.T.LookupKey.laws.one c.args.name.now)
+      (IfOpen (λ old done new. new ≡ cleared g.L.Limiter.rules old))
+      _ _ None (sym c.in_default.ensures.value) (refl, refl),
+)

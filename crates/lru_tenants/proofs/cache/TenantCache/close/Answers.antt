@@ -1,13 +1,13 @@
-use Rattle.std.proofs.Common.{Some, None, Ok, Err, sym, refl, ◌∙◌, ap}
+use Rattle.std.proofs.Common.{Ok, Err, refl, ap}
 use Rattle.lru_tenants.specs.TenantRuns.{OfOpen, Closes}
 use Rattle.lru_tenants.specs.declared.error.TenantError.TheVariants.{NotOpen}
-use Rattle.lru_tenants.proofs.Changes.{on-from}
+use Rattle.lru_tenants.proofs.Changes.{on-taken}
 use Rattle.lru_tenants.proofs.cache.TenantCache.close.Goals as goal
 
 pub returns-in_default-clause-closes : goal.returns-in_default-clause-closes
-returns-in_default-clause-closes g c = on-from (OfOpen Closes) (Err NotOpen) _ _ None None
-    (sym c.take_tenant.ensures.taken ∙ c.in_default.is) (refl, refl) c.take_tenant.ensures.leaves
+returns-in_default-clause-closes g c = let (rest, takes) = c.take_tenant.ensures.takes in
+    (rest, on-taken (OfOpen Closes) (Err NotOpen) c.in_default.is (refl, refl) takes)
 
 pub returns-clause-closes : goal.returns-clause-closes
-returns-clause-closes g c = on-from (OfOpen Closes) _ _ _ (Some c.in-Some.map) None
-    (sym c.take_tenant.ensures.taken ∙ c.in-Some.is) (ap Ok c.len.ensures.len, refl) c.take_tenant.ensures.leaves
+returns-clause-closes g c = let (rest, takes) = c.take_tenant.ensures.takes in
+    (rest, on-taken (OfOpen Closes) _ c.in-Some.is (ap Ok c.len.ensures.len, refl) takes)

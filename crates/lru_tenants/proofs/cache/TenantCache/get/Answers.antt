@@ -1,12 +1,12 @@
-use Rattle.std.proofs.Common.{subst, Some, None, Err, sym, refl, ap}
+use Rattle.std.proofs.Common.{subst, Some, None, Ok, Err, sym, refl, ap, ◌∙◌}
 use Rattle.lru_model.specs.Calls.{promoted, written}
 use Rattle.lru_model.specs.Lists.{lookup}
 use Rattle.lru_model.proofs.CallerLemmas.{read_back, promoted-absent}
 use Rattle.lru_tenants.specs.Cache.{IsTenant}
 use Rattle.lru_tenants.specs.TenantRuns.{read_of, Gets}
 use Rattle.lru_tenants.specs.declared.error.TenantError.TheVariants.{NotOpen}
-use Rattle.lru_tenants.proofs.Changes.{found-all, leaves-written, on-same}
-use Rattle.lru_tenants.proofs.Gets.{promoted_is_tenant, gets-open}
+use Rattle.lru_tenants.proofs.Changes.{found-all, on-same, on-written}
+use Rattle.lru_tenants.proofs.Gets.{promoted_is_tenant}
 use Rattle.lru_tenants.proofs.Kept.{kept-written}
 use Rattle.lru_tenants.proofs.cache.TenantCache.get.Goals as goal
 
@@ -42,20 +42,18 @@ returns-in-Some-get g c =
     let left = written key c.in-Some-get.value.now (promoted key map) in
     let there = sym c.in-Some.ensures.value in
     let found = c.in-Some-get.ensures.value in
-    let gets = gets-open key (lookup named c.self.inside.tenants.pairs) map left
-    (Some c.in-Some-get.value.now) there found (read_back key map c.in-Some-get.value.now (sym found)) in
     rw (← c.self.view_is) (
       (
         refl,
         λ _. tt,
         (
-          Some left,
-          gets,
-          leaves-written named (g.met.T.LookupKey.laws.one c.args.name.now) g.met.N.Eq.laws c.self.inside.hasher
-              c.self.inside.total_limit c.self.inside.tenants.pairs map left there,
+          refl,
+          on-written (g.met.T.LookupKey.laws.one c.args.name.now) (Gets key) _ g.met.N.Eq.laws
+              c.self.inside.tenants.pairs map left there
+              (ap Ok found, ap Some (read_back key map c.in-Some-get.value.now (sym found))),
         ),
       ),
-      record { leaves = tt; value = gets.0 },
+      record { leaves = tt; value = ap Ok found ∙ sym (ap (read_of (λ map. lookup key map.pairs)) there) },
     )
 
 pub returns-in-None : goal.returns-in-None
@@ -65,20 +63,18 @@ returns-in-None g c =
     let named = g.T.LookupKey.names c.args.name.now in
     let there = sym c.in-Some.ensures.value in
     let found = c.in-None.ensures.value in
-    let gets = gets-open key (lookup named c.self.inside.tenants.pairs) map map None there found
-    (sym (promoted-absent key map (sym found))) in
     rw (← c.self.view_is) (
       (
         refl,
         λ _. tt,
         (
-          Some map,
-          gets,
-          leaves-written named (g.met.T.LookupKey.laws.one c.args.name.now) g.met.N.Eq.laws c.self.inside.hasher
-              c.self.inside.total_limit c.self.inside.tenants.pairs map map there,
+          refl,
+          on-written (g.met.T.LookupKey.laws.one c.args.name.now) (Gets key) _ g.met.N.Eq.laws
+              c.self.inside.tenants.pairs map map there
+              (ap Ok found, ap Some (sym (promoted-absent key map (sym found)))),
         ),
       ),
-      record { leaves = tt; value = gets.0 },
+      record { leaves = tt; value = ap Ok found ∙ sym (ap (read_of (λ map. lookup key map.pairs)) there) },
     )
 
 pub returns-in_default : goal.returns-in_default
@@ -89,7 +85,7 @@ returns-in_default g c =
       (
         refl,
         λ _. tt,
-        on-same g.met.T.LookupKey.laws c.args.name.now (Gets key) (Err NotOpen) _ None none (refl, refl),
+        (refl, on-same (g.met.T.LookupKey.laws.one c.args.name.now) (Gets key) (Err NotOpen) _ None none (refl, refl)),
       ),
       record { leaves = tt; value = sym (ap (read_of (λ map. lookup key map.pairs)) none) },
     )

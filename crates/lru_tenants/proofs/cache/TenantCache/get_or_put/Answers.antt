@@ -21,9 +21,12 @@ returns-in_default g c =
       (
         refl,
         λ _. tt,
-        on-same g.met.T.LookupKey.laws c.args.name.now (OfOpen (GetsOrPuts g.L.Limiter.rules (offers_of g.L.Admission.terms) g.L.Budgeted.budget_of
-            g.K.PartialEq.eq g.S.KeyHasher.hash_of (g.F.FnOnce.post c.args.make tt) c.args.key)) (Err NotOpen) _ None
-            (sym c.in_default.ensures.value) (refl, refl),
+        (
+          refl,
+          on-same (g.met.T.LookupKey.laws.one c.args.name.now) (OfOpen (GetsOrPuts g.L.Limiter.rules (offers_of g.L.Admission.terms) g.L.Budgeted.budget_of
+              g.K.PartialEq.eq g.S.KeyHasher.hash_of (g.F.FnOnce.post c.args.make tt) c.args.key)) (Err NotOpen) _ None
+              (sym c.in_default.ensures.value) (refl, refl),
+        ),
       ),
       record { leaves = tt; not_open = λ _. refl; there = rw (← c.in_default.ensures.value) tt },
     )
@@ -38,7 +41,7 @@ returns-in_default-get_or_insert g c = let u = c.get_or_insert.new.map in
     rw (← c.self.view_is) (
     let ended = ends g.L.Limiter.rules (offers_of g.L.Admission.terms) g.L.Budgeted.budget_of g.K.PartialEq.eq
     g.S.KeyHasher.hash_of (g.F.FnOnce.post c.args.make tt) c.args.key (Err Memory)
-    g.met.T.LookupKey.laws c.args.name.now g.met.N.Eq.laws c.self.inside.tenants.pairs c.in-Some.own.now u
+    (g.met.T.LookupKey.laws.one c.args.name.now) g.met.N.Eq.laws c.self.inside.tenants.pairs c.in-Some.own.now u
     (sym c.in-Some.ensures.value) (record {
       left = u;
       result = Err c.in_default-get_or_insert.field-0;
@@ -47,7 +50,7 @@ returns-in_default-get_or_insert g c = let u = c.get_or_insert.new.map in
       said = refl;
       is = refl;
     }) in
-    ((refl, λ _. tt, ended.on), record { leaves = tt; not_open = ended.not_open; there = ended.there })
+    ((refl, λ _. tt, (refl, ended.on)), record { leaves = tt; not_open = ended.not_open; there = ended.there })
     )
 
 pub invariant_of-self-then-not-there : goal.invariant_of-self-then-not-there
@@ -61,7 +64,7 @@ returns-then-not-there g c = let u = c.get_or_insert.new.map in
     rw (← c.self.view_is) (
     let ended = ends g.L.Limiter.rules (offers_of g.L.Admission.terms) g.L.Budgeted.budget_of g.K.PartialEq.eq
     g.S.KeyHasher.hash_of (g.F.FnOnce.post c.args.make tt) c.args.key (Ok None)
-    g.met.T.LookupKey.laws c.args.name.now g.met.N.Eq.laws c.self.inside.tenants.pairs c.in-Some.own.now u
+    (g.met.T.LookupKey.laws.one c.args.name.now) g.met.N.Eq.laws c.self.inside.tenants.pairs c.in-Some.own.now u
     (sym c.in-Some.ensures.value) (record {
       left = u;
       result = Ok c.in-Ok.there;
@@ -70,7 +73,7 @@ returns-then-not-there g c = let u = c.get_or_insert.new.map in
       said = sym (ap (λ b. newest_answer (Ok b) u) e);
       is = refl;
     }) in
-    ((refl, λ _. tt, ended.on), record { leaves = tt; not_open = ended.not_open; there = ended.there })
+    ((refl, λ _. tt, (refl, ended.on)), record { leaves = tt; not_open = ended.not_open; there = ended.there })
     )
 
 pub invariant_of-self-2 : goal.invariant_of-self-2
@@ -84,7 +87,7 @@ returns g c = let u = c.get_or_insert.new.map in
     rw (← c.self.view_is) (
     let ended = ends g.L.Limiter.rules (offers_of g.L.Admission.terms) g.L.Budgeted.budget_of g.K.PartialEq.eq
     g.S.KeyHasher.hash_of (g.F.FnOnce.post c.args.make tt) c.args.key (read (Ok c.newest.result))
-    g.met.T.LookupKey.laws c.args.name.now g.met.N.Eq.laws c.self.inside.tenants.pairs c.in-Some.own.now u
+    (g.met.T.LookupKey.laws.one c.args.name.now) g.met.N.Eq.laws c.self.inside.tenants.pairs c.in-Some.own.now u
     (sym c.in-Some.ensures.value) (record {
       left = u;
       result = Ok c.in-Ok.there;
@@ -93,5 +96,5 @@ returns g c = let u = c.get_or_insert.new.map in
       said = ap Ok c.newest.ensures ∙ sym (ap (λ b. newest_answer (Ok b) u) e);
       is = refl;
     }) in
-    ((refl, λ _. tt, ended.on), record { leaves = tt; not_open = ended.not_open; there = ended.there })
+    ((refl, λ _. tt, (refl, ended.on)), record { leaves = tt; not_open = ended.not_open; there = ended.there })
     )

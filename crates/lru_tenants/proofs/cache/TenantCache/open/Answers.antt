@@ -1,17 +1,14 @@
-use Rattle.std.proofs.Common.{rules, ◌+◌, ◌∷◌, Some, None, Ok, Err, arith, sym, refl, ◌∙◌, ap, subst}
+use Rattle.std.proofs.Common.{rules, ◌+◌, arith, sym, refl, ◌∙◌, ap, subst}
 use Rattle.std.proofs.lemmas.List.Sums.{sum_by-cons}
 use Rattle.std.specs.Map.{values_of}
 use denote.Param.{copied, param}
 use Rattle.ordered_table.specs.EntrySize.{entry_size}
-use Rattle.lru_tenants.specs.Cache.{tenant, fresh, is_above}
+use Rattle.lru_caches.proofs.Outcomes.{none_there}
+use Rattle.lru_model.specs.Lists.{lookup}
+use Rattle.lru_tenants.specs.Cache.{fresh}
 use Rattle.lru_tenants.specs.Inside.{Holds}
-use Rattle.lru_tenants.specs.TenantRuns.{Opens}
-use Rattle.lru_tenants.specs.declared.error.TenantError.TheVariants.{Memory, OverTotal}
-use Rattle.lru_caches.proofs.Outcomes.{none_there}
-use Rattle.lru_tenants.proofs.Changes.{cache_of, leaves-same, leaves-opened, on-from, open-again}
-use Rattle.lru_caches.proofs.Outcomes.{none_there}
-use Rattle.lru_tenants.proofs.Changes.{opens-over, opens-unmade, opens-made}
-use Rattle.lru_tenants.proofs.Kept.{kept-opened, sum-fits, sum-more}
+use Rattle.lru_tenants.proofs.Changes.{open-again, opens-over, opens-unmade, opens-made}
+use Rattle.lru_tenants.proofs.Kept.{kept-opened, sum-fits, over-more}
 use Rattle.lru_tenants.proofs.cache.TenantCache.open.Goals as goal
 
 pub overflow_add-sum : goal.overflow_add-sum
@@ -21,21 +18,20 @@ overflow_add-sum g c = omega (
 )
 
 pub returns-then-contains-clause-opens : goal.returns-then-contains-clause-opens
-returns-then-contains-clause-opens g c =
-    let cache = cache_of c.self.inside.tenants.pairs c.self.inside.hasher c.self.inside.total_limit in
-    rw (← c.self.view_is) (open-again g.met.N.Eq.laws c.args.name _ _ cache
-    (sym c.contains.ensures ∙ c.if-contains.true))
+returns-then-contains-clause-opens g c = rw (← c.self.view_is) (
+  refl,
+  open-again g.met.N.Eq.laws c.args.name _ c.self.inside.tenants.pairs _ (sym c.contains.ensures ∙ c.if-contains.true),
+)
 
 pub returns-then-is_above-clause-opens : goal.returns-then-is_above-clause-opens
 returns-then-is_above-clause-opens g c =
-    let cache = cache_of c.self.inside.tenants.pairs c.self.inside.hasher c.self.inside.total_limit in
-    let eq = g.N.PartialEq.eq c.args.name in
-    let absent = none_there (tenant eq cache) (sym c.contains.ensures ∙ c.if-contains.false) in
-    let over = ap (is_above c.self.inside.total_limit)
-    (sym (sum-more c.self.inside.tenants.pairs c.self.invariant eq absent c.self.inside.hasher c.args.budget))
-    ∙ sym c.is_above.ensures ∙ c.if-is_above.true in
-    rw (← c.self.view_is) (on-from (Opens _ _) (Err OverTotal) cache cache None (tenant eq cache) absent
-    (opens-over _ over absent) (leaves-same eq (g.met.N.Eq.laws.congr c.args.name) cache))
+    let tenants = c.self.inside.tenants.pairs in let eq = g.N.PartialEq.eq c.args.name in
+    let absent = none_there (lookup eq tenants) (sym c.contains.ensures ∙ c.if-contains.false) in
+    rw (← c.self.view_is) (
+      refl,
+      opens-over g.met.N.Eq.laws c.args.name _ tenants absent (over-more tenants c.self.invariant eq absent
+          c.self.inside.hasher c.args.budget (sym c.is_above.ensures ∙ c.if-is_above.true)),
+    )
 
 pub invariant_of-self-2 : goal.invariant_of-self-2
 invariant_of-self-2 g c = subst (λ entries. Holds g.K.PartialEq.eq g.L.Summing.cost_of g.L.Summing.account
@@ -62,34 +58,27 @@ returns-clause-total g c = rw (c.in-Ok.ensures.ends.added, ← c.self.view_is) (
 
 pub returns-clause-opens : goal.returns-clause-opens
 returns-clause-opens g c =
-    let cache = cache_of c.self.inside.tenants.pairs c.self.inside.hasher c.self.inside.total_limit in
-    let eq = g.N.PartialEq.eq c.args.name in
-    let absent = none_there (tenant eq cache) (sym c.contains.ensures ∙ c.if-contains.false) in
-    let over = ap (is_above c.self.inside.total_limit)
-    (sym (sum-more c.self.inside.tenants.pairs c.self.invariant eq absent c.self.inside.hasher c.args.budget))
-    ∙ sym c.is_above.ensures ∙ c.if-is_above.false in
-    let map = c.fresh-map.result in
+    let tenants = c.self.inside.tenants.pairs in let eq = g.N.PartialEq.eq c.args.name in
+    let absent = none_there (lookup eq tenants) (sym c.contains.ensures ∙ c.if-contains.false) in
     let is = c.fresh-map.ensures.map ∙ ap (λ k. fresh g.L.Budgeted.made (entry_size (param 1 g.row.K) (param 2 g.row.V)
     (copied 5 g.row.L-LinkType)) (g.L.LinkType.LinkType.number g.L.LinkType.LinkType.MAX) k c.args.budget)
     (sym c.self.view_is) in
-    rw (c.in-Ok.ensures.ends.added, ← c.self.view_is) (on-from (Opens _ _) (Ok tt) cache
-    (cache_of ((c.args.name, map) ∷ c.self.inside.tenants.pairs) c.self.inside.hasher c.self.inside.total_limit)
-    None (Some map) absent
-    (opens-made _ over (ap Some is))
-    (leaves-opened g.met.N.Eq.laws c.args.name map c.self.inside.hasher c.self.inside.total_limit
-    c.self.inside.tenants.pairs))
+    rw (c.in-Ok.ensures.ends.added, ← c.self.view_is) (
+      refl,
+      opens-made g.met.N.Eq.laws c.args.name _ tenants absent (over-more tenants c.self.invariant eq absent
+          c.self.inside.hasher c.args.budget (sym c.is_above.ensures ∙ c.if-is_above.false)) c.fresh-map.result is,
+    )
 
 pub returns-in_default : goal.returns-in_default
 returns-in_default g c =
-    let cache = cache_of c.self.inside.tenants.pairs c.self.inside.hasher c.self.inside.total_limit in
-    let eq = g.N.PartialEq.eq c.args.name in
-    let absent = none_there (tenant eq cache) (sym c.contains.ensures ∙ c.if-contains.false) in
-    let over = ap (is_above c.self.inside.total_limit)
-    (sym (sum-more c.self.inside.tenants.pairs c.self.invariant eq absent c.self.inside.hasher c.args.budget))
-    ∙ sym c.is_above.ensures ∙ c.if-is_above.false in
+    let tenants = c.self.inside.tenants.pairs in let eq = g.N.PartialEq.eq c.args.name in
+    let absent = none_there (lookup eq tenants) (sym c.contains.ensures ∙ c.if-contains.false) in
     rw (c.in_default.ensures.ends.keeps, ← c.self.view_is) (record {
-      opens = on-from (Opens _ _) (Err Memory) cache cache None (tenant eq cache) absent (opens-unmade _ over absent)
-          (leaves-same eq (g.met.N.Eq.laws.congr c.args.name) cache);
+      opens = (
+        refl,
+        opens-unmade g.met.N.Eq.laws c.args.name _ tenants absent (over-more tenants c.self.invariant eq absent
+            c.self.inside.hasher c.args.budget (sym c.is_above.ensures ∙ c.if-is_above.false)),
+      );
       total = search rules;
       unchanged = refl;
       tenants = c.self.invariant.each;

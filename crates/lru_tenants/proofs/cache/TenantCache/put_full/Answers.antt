@@ -3,10 +3,11 @@ use Rattle.std.specs.Map.{set_value}
 use Rattle.std.specs.Prelude.{IfSome}
 use Rattle.lru_limits.specs.Admissions.{offers_of}
 use Rattle.lru_model.specs.Inserts.{kept_of}
-use Rattle.lru_tenants.specs.Cache.{IsTenant, tenant}
+use Rattle.lru_model.specs.Lists.{lookup}
+use Rattle.lru_tenants.specs.Cache.{IsTenant}
 use Rattle.lru_tenants.specs.PutFulls.{rejects}
 use Rattle.lru_tenants.specs.TenantRuns.{put_answer, OfOpen, Puts, PutPasses, PassesOn}
-use Rattle.lru_tenants.proofs.Changes.{found-all, cache_of, leaves-written, on-same, on-written}
+use Rattle.lru_tenants.proofs.Changes.{found-all, on-same, on-written, written}
 use Rattle.lru_tenants.proofs.PutFulls.{kept-answer}
 use Rattle.lru_tenants.proofs.Kept.{kept-written, same-sum}
 use Rattle.lru_tenants.proofs.cache.TenantCache.put_full.Goals as goal
@@ -30,62 +31,74 @@ returns-clause-total g c = rw (← c.self.view_is) (same-sum c.self.inside.tenan
     c.insert_full.ensures.budget)
 
 pub returns-clause-puts : goal.returns-clause-puts
-returns-clause-puts g c = rw (← c.self.view_is) (on-written g.met.T.LookupKey.laws c.args.name.now
-    (OfOpen (Puts g.L.Limiter.rules (offers_of g.L.Admission.terms) g.L.Budgeted.budget_of g.K.PartialEq.eq
-    g.S.KeyHasher.hash_of c.args.key c.args.value))
-    (kept_of c.put_answer.result) g.met.N.Eq.laws c.self.inside.tenants.pairs c.in-Some.own.now c.insert_full.new.map
-    (sym c.in-Some.ensures.value) (record {
-      left = c.insert_full.new.map;
-      result = kept_of c.insert_full.result;
-      inserts = c.insert_full.ensures.inserts;
-      budget = c.insert_full.ensures.budget;
-      said = ap kept_of c.put_answer.ensures ∙ kept-answer c.insert_full.result;
-      is = refl;
-    }))
+returns-clause-puts g c = rw (← c.self.view_is) (
+  refl,
+  on-written (g.met.T.LookupKey.laws.one c.args.name.now)
+      (OfOpen (Puts g.L.Limiter.rules (offers_of g.L.Admission.terms) g.L.Budgeted.budget_of g.K.PartialEq.eq
+      g.S.KeyHasher.hash_of c.args.key c.args.value))
+      (kept_of c.put_answer.result) g.met.N.Eq.laws c.self.inside.tenants.pairs c.in-Some.own.now c.insert_full.new.map
+      (sym c.in-Some.ensures.value) (record {
+        left = c.insert_full.new.map;
+        result = kept_of c.insert_full.result;
+        inserts = c.insert_full.ensures.inserts;
+        budget = c.insert_full.ensures.budget;
+        said = ap kept_of c.put_answer.ensures ∙ kept-answer c.insert_full.result;
+        is = refl;
+      }),
+)
 
 pub returns-clause-passed : goal.returns-clause-passed
 returns-clause-passed g c = let (passed, takes, passes) = c.insert_full.ensures.passed in
     rw (← c.self.view_is) (
       passed,
       takes,
-      on-written g.met.T.LookupKey.laws c.args.name.now
-          (PassesOn (PutPasses g.L.Limiter.rules (offers_of g.L.Admission.terms) g.L.Budgeted.budget_of g.K.PartialEq.eq
-          g.S.KeyHasher.hash_of c.args.key c.args.value))
-          passed g.met.N.Eq.laws c.self.inside.tenants.pairs c.in-Some.own.now c.insert_full.new.map
-          (sym c.in-Some.ensures.value) (record {
-            left = c.insert_full.new.map;
-            result = kept_of c.insert_full.result;
-            inserts = passes;
-            is = refl;
-          }),
+      (
+        refl,
+        on-written (g.met.T.LookupKey.laws.one c.args.name.now)
+            (PassesOn (PutPasses g.L.Limiter.rules (offers_of g.L.Admission.terms) g.L.Budgeted.budget_of g.K.PartialEq.eq
+            g.S.KeyHasher.hash_of c.args.key c.args.value))
+            passed g.met.N.Eq.laws c.self.inside.tenants.pairs c.in-Some.own.now c.insert_full.new.map
+            (sym c.in-Some.ensures.value) (record {
+              left = c.insert_full.new.map;
+              result = kept_of c.insert_full.result;
+              inserts = passes;
+              is = refl;
+            }),
+      ),
     )
 
 pub returns-in_default-clause-passed : goal.returns-in_default-clause-passed
 returns-in_default-clause-passed g c = rw (← c.self.view_is) (
   [],
   refl,
-  on-same g.met.T.LookupKey.laws c.args.name.now
-      (PassesOn (PutPasses g.L.Limiter.rules (offers_of g.L.Admission.terms) g.L.Budgeted.budget_of g.K.PartialEq.eq
-      g.S.KeyHasher.hash_of c.args.key c.args.value))
-      [] _ None (sym c.in_default.ensures.value) (refl, refl),
+  (
+    refl,
+    on-same (g.met.T.LookupKey.laws.one c.args.name.now)
+        (PassesOn (PutPasses g.L.Limiter.rules (offers_of g.L.Admission.terms) g.L.Budgeted.budget_of g.K.PartialEq.eq
+        g.S.KeyHasher.hash_of c.args.key c.args.value))
+        [] _ None (sym c.in_default.ensures.value) (refl, refl),
+  ),
 )
 
 pub returns-clause-rejects : goal.returns-clause-rejects
 returns-clause-rejects g c = let u = c.insert_full.new.map in
     let there = sym c.in-Some.ensures.value in
     let names = g.T.LookupKey.names c.args.name.now in
-    let leaves = leaves-written names (g.met.T.LookupKey.laws.one c.args.name.now) g.met.N.Eq.laws
-    c.self.inside.hasher c.self.inside.total_limit c.self.inside.tenants.pairs c.in-Some.own.now u there in
     rw (← c.self.view_is) (subst (λ o. IfSome o
     (λ map. rejects g.L.Admission.terms g.K.PartialEq.eq c.args.key c.args.value map ≡ true →
     (c.put_answer.result ≡ Ok (record { kept = false; unkept = Some c.args.value }))
-    × (tenant names (cache_of (set_value names c.self.inside.tenants.pairs u) c.self.inside.hasher
-    c.self.inside.total_limit) ≡ Some map)))
-    c.in-Some.ensures.value (λ rejected. let (says, same) = c.insert_full.ensures.rejects rejected in
-    (c.put_answer.ensures ∙ ap put_answer says, leaves.own ∙ ap Some same)))
+    × (lookup names (set_value names c.self.inside.tenants.pairs u) ≡ Some map)))
+    c.in-Some.ensures.value (λ rejected. let (says, same) = c.insert_full.ensures.rejects rejected in (
+      c.put_answer.ensures ∙ ap put_answer says,
+      written (g.met.T.LookupKey.laws.one c.args.name.now) g.met.N.Eq.laws c.self.inside.tenants.pairs c.in-Some.own.now
+          u there ∙ ap Some same,
+    )))
 
 pub returns-in_default-clause-puts : goal.returns-in_default-clause-puts
-returns-in_default-clause-puts g c = rw (← c.self.view_is) (on-same g.met.T.LookupKey.laws c.args.name.now
-    (OfOpen (Puts g.L.Limiter.rules (offers_of g.L.Admission.terms) g.L.Budgeted.budget_of g.K.PartialEq.eq
-    g.S.KeyHasher.hash_of c.args.key c.args.value))
-    _ _ None (sym c.in_default.ensures.value) (refl, refl))
+returns-in_default-clause-puts g c = rw (← c.self.view_is) (
+  refl,
+  on-same (g.met.T.LookupKey.laws.one c.args.name.now)
+      (OfOpen (Puts g.L.Limiter.rules (offers_of g.L.Admission.terms) g.L.Budgeted.budget_of g.K.PartialEq.eq
+      g.S.KeyHasher.hash_of c.args.key c.args.value))
+      _ _ None (sym c.in_default.ensures.value) (refl, refl),
+)

@@ -25,48 +25,60 @@ returns-clause-total g c = rw (← c.self.view_is) (same-sum c.self.inside.tenan
     c.insert.ensures.budget)
 
 pub returns-clause-puts : goal.returns-clause-puts
-returns-clause-puts g c = rw (← c.self.view_is) (on-written g.met.T.LookupKey.laws c.args.name.now
-    (OfOpen (Puts g.L.Limiter.rules (offers_of g.L.Admission.terms) g.L.Budgeted.budget_of g.K.PartialEq.eq
-    g.S.KeyHasher.hash_of c.args.key c.args.value))
-    c.put_answer.result g.met.N.Eq.laws c.self.inside.tenants.pairs c.in-Some.own.now c.insert.new.map
-    (sym c.in-Some.ensures.value) (record {
-      left = c.insert.new.map;
-      result = c.insert.result;
-      inserts = c.insert.ensures.inserts;
-      budget = c.insert.ensures.budget;
-      said = c.put_answer.ensures;
-      is = refl;
-    }))
+returns-clause-puts g c = rw (← c.self.view_is) (
+  refl,
+  on-written (g.met.T.LookupKey.laws.one c.args.name.now)
+      (OfOpen (Puts g.L.Limiter.rules (offers_of g.L.Admission.terms) g.L.Budgeted.budget_of g.K.PartialEq.eq
+      g.S.KeyHasher.hash_of c.args.key c.args.value))
+      c.put_answer.result g.met.N.Eq.laws c.self.inside.tenants.pairs c.in-Some.own.now c.insert.new.map
+      (sym c.in-Some.ensures.value) (record {
+        left = c.insert.new.map;
+        result = c.insert.result;
+        inserts = c.insert.ensures.inserts;
+        budget = c.insert.ensures.budget;
+        said = c.put_answer.ensures;
+        is = refl;
+      }),
+)
 
 pub returns-clause-passed : goal.returns-clause-passed
 returns-clause-passed g c = let (passed, takes, passes) = c.insert.ensures.passed in
     rw (← c.self.view_is) (
       passed,
       takes,
-      on-written g.met.T.LookupKey.laws c.args.name.now
-          (PassesOn (PutPasses g.L.Limiter.rules (offers_of g.L.Admission.terms) g.L.Budgeted.budget_of g.K.PartialEq.eq
-          g.S.KeyHasher.hash_of c.args.key c.args.value))
-          passed g.met.N.Eq.laws c.self.inside.tenants.pairs c.in-Some.own.now c.insert.new.map
-          (sym c.in-Some.ensures.value) (record {
-            left = c.insert.new.map;
-            result = c.insert.result;
-            inserts = passes;
-            is = refl;
-          }),
+      (
+        refl,
+        on-written (g.met.T.LookupKey.laws.one c.args.name.now)
+            (PassesOn (PutPasses g.L.Limiter.rules (offers_of g.L.Admission.terms) g.L.Budgeted.budget_of g.K.PartialEq.eq
+            g.S.KeyHasher.hash_of c.args.key c.args.value))
+            passed g.met.N.Eq.laws c.self.inside.tenants.pairs c.in-Some.own.now c.insert.new.map
+            (sym c.in-Some.ensures.value) (record {
+              left = c.insert.new.map;
+              result = c.insert.result;
+              inserts = passes;
+              is = refl;
+            }),
+      ),
     )
 
 pub returns-in_default-clause-passed : goal.returns-in_default-clause-passed
 returns-in_default-clause-passed g c = rw (← c.self.view_is) (
   [],
   refl,
-  on-same g.met.T.LookupKey.laws c.args.name.now
-      (PassesOn (PutPasses g.L.Limiter.rules (offers_of g.L.Admission.terms) g.L.Budgeted.budget_of g.K.PartialEq.eq
-      g.S.KeyHasher.hash_of c.args.key c.args.value))
-      [] _ None (sym c.in_default.ensures.value) (refl, refl),
+  (
+    refl,
+    on-same (g.met.T.LookupKey.laws.one c.args.name.now)
+        (PassesOn (PutPasses g.L.Limiter.rules (offers_of g.L.Admission.terms) g.L.Budgeted.budget_of g.K.PartialEq.eq
+        g.S.KeyHasher.hash_of c.args.key c.args.value))
+        [] _ None (sym c.in_default.ensures.value) (refl, refl),
+  ),
 )
 
 pub returns-in_default-clause-puts : goal.returns-in_default-clause-puts
-returns-in_default-clause-puts g c = rw (← c.self.view_is) (on-same g.met.T.LookupKey.laws c.args.name.now
-    (OfOpen (Puts g.L.Limiter.rules (offers_of g.L.Admission.terms) g.L.Budgeted.budget_of g.K.PartialEq.eq
-    g.S.KeyHasher.hash_of c.args.key c.args.value))
-    _ _ None (sym c.in_default.ensures.value) (refl, refl))
+returns-in_default-clause-puts g c = rw (← c.self.view_is) (
+  refl,
+  on-same (g.met.T.LookupKey.laws.one c.args.name.now)
+      (OfOpen (Puts g.L.Limiter.rules (offers_of g.L.Admission.terms) g.L.Budgeted.budget_of g.K.PartialEq.eq
+      g.S.KeyHasher.hash_of c.args.key c.args.value))
+      _ _ None (sym c.in_default.ensures.value) (refl, refl),
+)

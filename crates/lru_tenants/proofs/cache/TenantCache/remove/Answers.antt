@@ -25,12 +25,18 @@ returns-clause-total g c = rw (← c.self.view_is) (same-sum c.self.inside.tenan
     c.remove.ensures.budget)
 
 pub returns-clause-removes : goal.returns-clause-removes
-returns-clause-removes g c = rw (← c.self.view_is) (on-written g.met.T.LookupKey.laws c.args.name.now
-    (IfOpen (Remove g.L.Limiter.rules (g.Q.LookupKey.names c.args.key.now)))
-    _ g.met.N.Eq.laws c.self.inside.tenants.pairs c.in-Some.own.now c.remove.new.map
-    (sym c.in-Some.ensures.value) (c.remove.result, c.remove.new.map, c.remove.ensures.removes, refl, refl))
+returns-clause-removes g c = rw (← c.self.view_is) (
+  refl,
+  on-written (g.met.T.LookupKey.laws.one c.args.name.now)
+      (IfOpen (Remove g.L.Limiter.rules (g.Q.LookupKey.names c.args.key.now)))
+      _ g.met.N.Eq.laws c.self.inside.tenants.pairs c.in-Some.own.now c.remove.new.map
+      (sym c.in-Some.ensures.value) (c.remove.result, c.remove.new.map, c.remove.ensures.removes, refl, refl),
+)
 
 pub returns-in_default-clause-removes : goal.returns-in_default-clause-removes
-returns-in_default-clause-removes g c = rw (← c.self.view_is) (on-same g.met.T.LookupKey.laws c.args.name.now
-    (IfOpen (Remove g.L.Limiter.rules (g.Q.LookupKey.names c.args.key.now)))
-    _ _ None (sym c.in_default.ensures.value) (refl, refl))
+returns-in_default-clause-removes g c = rw (← c.self.view_is) (
+  refl,
+  on-same (g.met.T.LookupKey.laws.one c.args.name.now)
+      (IfOpen (Remove g.L.Limiter.rules (g.Q.LookupKey.names c.args.key.now)))
+      _ _ None (sym c.in_default.ensures.value) (refl, refl),
+)

@@ -25,12 +25,18 @@ returns-clause-total g c = rw (← c.self.view_is) (same-sum c.self.inside.tenan
     c.retain.ensures.budget)
 
 pub returns-clause-retains : goal.returns-clause-retains
-returns-clause-retains g c = rw (← c.self.view_is) (on-written g.met.T.LookupKey.laws c.args.name.now
-    (IfOpen (λ old done new. Retains g.F.FnMut g.L.Limiter.rules c.args.keep old new))
-    _ g.met.N.Eq.laws c.self.inside.tenants.pairs c.in-Some.own.now c.retain.new.map
-    (sym c.in-Some.ensures.value) (tt, c.retain.new.map, c.retain.ensures.retains, refl, refl))
+returns-clause-retains g c = rw (← c.self.view_is) (
+  refl,
+  on-written (g.met.T.LookupKey.laws.one c.args.name.now)
+      (IfOpen (λ old done new. Retains g.F.FnMut g.L.Limiter.rules c.args.keep old new))
+      _ g.met.N.Eq.laws c.self.inside.tenants.pairs c.in-Some.own.now c.retain.new.map
+      (sym c.in-Some.ensures.value) (tt, c.retain.new.map, c.retain.ensures.retains, refl, refl),
+)
 
 pub returns-in_default-clause-retains : goal.returns-in_default-clause-retains
-returns-in_default-clause-retains g c = rw (← c.self.view_is) (on-same g.met.T.LookupKey.laws c.args.name.now
-    (IfOpen (λ old done new. Retains g.F.FnMut g.L.Limiter.rules c.args.keep old new))
-    _ _ None (sym c.in_default.ensures.value) (refl, refl))
+returns-in_default-clause-retains g c = rw (← c.self.view_is) (
+  refl,
+  on-same (g.met.T.LookupKey.laws.one c.args.name.now)
+      (IfOpen (λ old done new. Retains g.F.FnMut g.L.Limiter.rules c.args.keep old new))
+      _ _ None (sym c.in_default.ensures.value) (refl, refl),
+)

@@ -44,11 +44,14 @@ returns-then-is_above g c = let own = c.in-Some.own.now in
     (c.budget.ensures ∙ ap g.L.Budgeted.budget_of c.limiter.ensures))) ∙ sym c.is_above.ensures ∙
     c.if-is_above.true in
     rw (← c.self.view_is) (record {
-      sets = on-written g.met.T.LookupKey.laws c.args.name.now
-          (OfOpen (SetsBudget g.L.Limiter.rules (g.L.Budgeted.rebudgeted c.args.budget) _)) (Err OverTotal)
-          g.met.N.Eq.laws c.self.inside.tenants.pairs own own there
-          (subst (λ b. SetsBudget g.L.Limiter.rules (g.L.Budgeted.rebudgeted c.args.budget) b own
-          (Err OverTotal) (Some own)) (sym over) (refl, refl));
+      sets = (
+        refl,
+        on-written (g.met.T.LookupKey.laws.one c.args.name.now)
+            (OfOpen (SetsBudget g.L.Limiter.rules (g.L.Budgeted.rebudgeted c.args.budget) _)) (Err OverTotal)
+            g.met.N.Eq.laws c.self.inside.tenants.pairs own own there
+            (subst (λ b. SetsBudget g.L.Limiter.rules (g.L.Budgeted.rebudgeted c.args.budget) b own
+            (Err OverTotal) (Some own)) (sym over) (refl, refl)),
+      );
       total = search rules;
       unchanged = ap (λ entries. record {
         tenants = entries;
@@ -58,11 +61,14 @@ returns-then-is_above g c = let own = c.in-Some.own.now in
       passed = (
         [],
         refl,
-        on-written g.met.T.LookupKey.laws c.args.name.now
-            (PassesOn (BudgetPasses g.L.Limiter.rules (g.L.Budgeted.rebudgeted c.args.budget) _)) []
-            g.met.N.Eq.laws c.self.inside.tenants.pairs own own there
-            (subst (λ b. PassesOn (BudgetPasses g.L.Limiter.rules (g.L.Budgeted.rebudgeted c.args.budget) b)
-            (Some own) [] (Some own)) (sym over) (refl, refl)),
+        (
+          refl,
+          on-written (g.met.T.LookupKey.laws.one c.args.name.now)
+              (PassesOn (BudgetPasses g.L.Limiter.rules (g.L.Budgeted.rebudgeted c.args.budget) _)) []
+              g.met.N.Eq.laws c.self.inside.tenants.pairs own own there
+              (subst (λ b. PassesOn (BudgetPasses g.L.Limiter.rules (g.L.Budgeted.rebudgeted c.args.budget) b)
+              (Some own) [] (Some own)) (sym over) (refl, refl)),
+        ),
       );
       callable = search rules;
       tenants = (invariant_of-self-then-is_above g c).each;
@@ -93,11 +99,14 @@ returns g c = let u = c.set_budget.new.map in
     c.budget.result c.args.budget budget in
     let over = ap (is_above c.self.inside.total_limit) (sym with) ∙ sym c.is_above.ensures ∙ c.if-is_above.false in
     rw (← c.self.view_is) (record {
-      sets = on-written g.met.T.LookupKey.laws c.args.name.now
-          (OfOpen (SetsBudget g.L.Limiter.rules (g.L.Budgeted.rebudgeted c.args.budget) _)) (Ok tt)
-          g.met.N.Eq.laws c.self.inside.tenants.pairs own u there
-          (subst (λ b. SetsBudget g.L.Limiter.rules (g.L.Budgeted.rebudgeted c.args.budget) b own (Ok tt)
-          (Some u)) (sym over) (u, c.set_budget.ensures.trims, refl, refl));
+      sets = (
+        refl,
+        on-written (g.met.T.LookupKey.laws.one c.args.name.now)
+            (OfOpen (SetsBudget g.L.Limiter.rules (g.L.Budgeted.rebudgeted c.args.budget) _)) (Ok tt)
+            g.met.N.Eq.laws c.self.inside.tenants.pairs own u there
+            (subst (λ b. SetsBudget g.L.Limiter.rules (g.L.Budgeted.rebudgeted c.args.budget) b own (Ok tt)
+            (Some u)) (sym over) (u, c.set_budget.ensures.trims, refl, refl)),
+      );
       total = λ ok. omega (
         arith,
         budget,
@@ -110,11 +119,14 @@ returns g c = let u = c.set_budget.new.map in
       passed = (
         passed,
         takes,
-        on-written g.met.T.LookupKey.laws c.args.name.now
-            (PassesOn (BudgetPasses g.L.Limiter.rules (g.L.Budgeted.rebudgeted c.args.budget) _)) passed
-            g.met.N.Eq.laws c.self.inside.tenants.pairs own u there
-            (subst (λ b. PassesOn (BudgetPasses g.L.Limiter.rules (g.L.Budgeted.rebudgeted c.args.budget) b)
-            (Some own) passed (Some u)) (sym over) (u, passes, refl)),
+        (
+          refl,
+          on-written (g.met.T.LookupKey.laws.one c.args.name.now)
+              (PassesOn (BudgetPasses g.L.Limiter.rules (g.L.Budgeted.rebudgeted c.args.budget) _)) passed
+              g.met.N.Eq.laws c.self.inside.tenants.pairs own u there
+              (subst (λ b. PassesOn (BudgetPasses g.L.Limiter.rules (g.L.Budgeted.rebudgeted c.args.budget) b)
+              (Some own) passed (Some u)) (sym over) (u, passes, refl)),
+        ),
       );
       callable = search rules;
       tenants = (invariant_of-self-2 g c).each;
@@ -124,12 +136,18 @@ pub returns-in_default-clause-passed : goal.returns-in_default-clause-passed
 returns-in_default-clause-passed g c = rw (← c.self.view_is) (
   [],
   refl,
-  on-same g.met.T.LookupKey.laws c.args.name.now
-      (PassesOn (BudgetPasses g.L.Limiter.rules (g.L.Budgeted.rebudgeted c.args.budget) _)) [] _ None
-      (sym c.in_default.ensures.value) (refl, refl),
+  (
+    refl,
+    on-same (g.met.T.LookupKey.laws.one c.args.name.now)
+        (PassesOn (BudgetPasses g.L.Limiter.rules (g.L.Budgeted.rebudgeted c.args.budget) _)) [] _ None
+        (sym c.in_default.ensures.value) (refl, refl),
+  ),
 )
 
 pub returns-in_default-clause-sets : goal.returns-in_default-clause-sets
-returns-in_default-clause-sets g c = rw (← c.self.view_is) (on-same g.met.T.LookupKey.laws c.args.name.now
-    (OfOpen (SetsBudget g.L.Limiter.rules (g.L.Budgeted.rebudgeted c.args.budget) _)) _ _ None
-    (sym c.in_default.ensures.value) (refl, refl))
+returns-in_default-clause-sets g c = rw (← c.self.view_is) (
+  refl,
+  on-same (g.met.T.LookupKey.laws.one c.args.name.now)
+      (OfOpen (SetsBudget g.L.Limiter.rules (g.L.Budgeted.rebudgeted c.args.budget) _)) _ _ None
+      (sym c.in_default.ensures.value) (refl, refl),
+)

@@ -1,17 +1,14 @@
-use Rattle.std.proofs.Common.{◌≡◌, arith, sym, ◌∙◌, ap, option_map}
+use Rattle.std.proofs.Common.{arith, sym, refl, ◌∙◌, ap, option_map}
 use Rattle.std.specs.Option.{unwrap_or}
-use Rattle.std.proofs.lemmas.Iterator.Adapters.{option_map_id}
-use Rattle.lru_model.specs.Lists.{lookup}
-use Rattle.lru_model.proofs.CallerLemmas.{lookup-entry}
-use Rattle.lru_tenants.proofs.Changes.{leaves-removed}
+use Rattle.lru_tenants.specs.TenantRuns.{Takes}
+use Rattle.lru_tenants.proofs.Changes.{found-removed, on-removed}
 use Rattle.lru_tenants.proofs.Kept.{kept-removed, own-within, sum-removed}
 use Rattle.lru_tenants.proofs.cache.TenantCache.take_tenant.Goals as goal
 
 pub invariant_of-self : goal.invariant_of-self
 invariant_of-self g c = let names = g.T.LookupKey.names c.args.name.now in
     let tenants = c.self.inside.tenants.pairs in
-    let found : c.remove.result ≡ lookup names tenants = c.remove.ensures.step.value
-    ∙ ap (option_map (λ p. p.1)) (option_map_id _) ∙ sym (lookup-entry names tenants) in
+    let found = found-removed names tenants c.remove.ensures.step.value in
     rw (ap (λ st. st.pairs) c.remove.ensures.step.state.is)
     (kept-removed tenants c.self.invariant names c.self.inside.budgets (omega (
       arith,
@@ -21,8 +18,7 @@ invariant_of-self g c = let names = g.T.LookupKey.names c.args.name.now in
 pub overflow_sub-self : goal.overflow_sub-self
 overflow_sub-self g c = let names = g.T.LookupKey.names c.args.name.now in
     let tenants = c.self.inside.tenants.pairs in
-    let found : c.remove.result ≡ lookup names tenants = c.remove.ensures.step.value
-    ∙ ap (option_map (λ p. p.1)) (option_map_id _) ∙ sym (lookup-entry names tenants) in
+    let found = found-removed names tenants c.remove.ensures.step.value in
     omega (
       arith,
       c.budget.ensures ∙ ap g.L.Budgeted.budget_of c.limiter.ensures,
@@ -32,8 +28,7 @@ overflow_sub-self g c = let names = g.T.LookupKey.names c.args.name.now in
 pub invariant_of-self-2 : goal.invariant_of-self-2
 invariant_of-self-2 g c = let names = g.T.LookupKey.names c.args.name.now in
     let tenants = c.self.inside.tenants.pairs in
-    let found : c.remove.result ≡ lookup names tenants = c.remove.ensures.step.value
-    ∙ ap (option_map (λ p. p.1)) (option_map_id _) ∙ sym (lookup-entry names tenants) in
+    let found = found-removed names tenants c.remove.ensures.step.value in
     let there = sym found ∙ c.in-Some.is in
     rw (ap (λ st. st.pairs) c.remove.ensures.step.state.is)
     (kept-removed tenants c.self.invariant names _ (omega (
@@ -48,18 +43,6 @@ returns-clause-tenants g c = (invariant_of-self-2 g c).each
 
 pub returns-in_default-clause-tenants : goal.returns-in_default-clause-tenants
 returns-in_default-clause-tenants g c = (invariant_of-self g c).each
-
-pub returns-clause-taken : goal.returns-clause-taken
-returns-clause-taken g c = let names = g.T.LookupKey.names c.args.name.now in
-    let tenants = c.self.inside.tenants.pairs in
-    rw (← c.self.view_is) (sym c.in-Some.is ∙ c.remove.ensures.step.value
-    ∙ ap (option_map (λ p. p.1)) (option_map_id _) ∙ sym (lookup-entry names tenants))
-
-pub returns-in_default-clause-taken : goal.returns-in_default-clause-taken
-returns-in_default-clause-taken g c = let names = g.T.LookupKey.names c.args.name.now in
-    let tenants = c.self.inside.tenants.pairs in
-    rw (← c.self.view_is) (sym c.in_default.is ∙ c.remove.ensures.step.value
-    ∙ ap (option_map (λ p. p.1)) (option_map_id _) ∙ sym (lookup-entry names tenants))
 
 pub returns-in_default-clause-total : goal.returns-in_default-clause-total
 returns-in_default-clause-total g c =
@@ -77,16 +60,22 @@ returns-clause-total g c =
       sum-removed c.self.inside.tenants.pairs c.self.invariant (g.T.LookupKey.names c.args.name.now),
     ))
 
-pub returns-in_default-clause-leaves : goal.returns-in_default-clause-leaves
-returns-in_default-clause-leaves g c =
-    rw (ap (λ st. st.pairs) c.remove.ensures.step.state.is, ← c.self.view_is)
-    (leaves-removed (g.T.LookupKey.names c.args.name.now) (g.met.T.LookupKey.laws.one c.args.name.now)
-    g.met.N.Eq.laws c.self.inside.hasher c.self.inside.total_limit
-    c.self.inside.tenants.pairs c.len-len.ensures.map.distinct)
+pub returns-in_default-clause-takes : goal.returns-in_default-clause-takes
+returns-in_default-clause-takes g c = let names = g.T.LookupKey.names c.args.name.now in
+    let tenants = c.self.inside.tenants.pairs in
+    let found = found-removed names tenants c.remove.ensures.step.value in
+    rw (ap (λ st. st.pairs) c.remove.ensures.step.state.is, ← c.self.view_is) (
+      refl,
+      on-removed (g.met.T.LookupKey.laws.one c.args.name.now) Takes _ g.met.N.Eq.laws tenants
+          c.len-len.ensures.map.distinct c.remove.result (sym found) (sym c.in_default.is, refl),
+    )
 
-pub returns-clause-leaves : goal.returns-clause-leaves
-returns-clause-leaves g c =
-    rw (ap (λ st. st.pairs) c.remove.ensures.step.state.is, ← c.self.view_is)
-    (leaves-removed (g.T.LookupKey.names c.args.name.now) (g.met.T.LookupKey.laws.one c.args.name.now)
-    g.met.N.Eq.laws c.self.inside.hasher c.self.inside.total_limit
-    c.self.inside.tenants.pairs c.len-len.ensures.map.distinct)
+pub returns-clause-takes : goal.returns-clause-takes
+returns-clause-takes g c = let names = g.T.LookupKey.names c.args.name.now in
+    let tenants = c.self.inside.tenants.pairs in
+    let found = found-removed names tenants c.remove.ensures.step.value in
+    rw (ap (λ st. st.pairs) c.remove.ensures.step.state.is, ← c.self.view_is) (
+      refl,
+      on-removed (g.met.T.LookupKey.laws.one c.args.name.now) Takes _ g.met.N.Eq.laws tenants
+          c.len-len.ensures.map.distinct c.remove.result (sym found) (sym c.in-Some.is, refl),
+    )

@@ -1,20 +1,17 @@
-use Rattle.std.proofs.Common.{◌≡◌, ◌-◌, Some, None, Ok, Err, arith, sym, refl, ◌∙◌, ap, subst, option_map}
-use Rattle.std.proofs.lemmas.Iterator.Adapters.{option_map_id}
-use Rattle.lru_model.specs.Lists.{lookup, without}
-use Rattle.lru_model.proofs.CallerLemmas.{lookup-entry}
+use Rattle.std.proofs.Common.{◌-◌, Some, None, Ok, Err, arith, sym, refl, ◌∙◌, ap, subst}
+use Rattle.lru_model.specs.Lists.{without}
 use Rattle.lru_tenants.specs.Inside.{HoldsPool}
 use Rattle.lru_tenants.specs.Pool.{Closes}
 use Rattle.lru_tenants.specs.TenantRuns.{OfOpen}
 use Rattle.lru_tenants.specs.declared.error.TenantError.TheVariants.{NotOpen}
-use Rattle.lru_tenants.proofs.PoolKept.{pool_of, is_pool, own-cost, own-share, pool-absent, pool-removed, leaves-removed}
-use Rattle.lru_tenants.proofs.PoolKept.{on-from, closed-same}
+use Rattle.lru_tenants.proofs.Changes.{found-removed, on-removed}
+use Rattle.lru_tenants.proofs.PoolKept.{is_pool, own-cost, own-share, pool-absent, pool-removed}
 use Rattle.lru_tenants.proofs.pool.TenantPool.close.Goals as goal
 
 pub invariant_of-self : goal.invariant_of-self
 invariant_of-self g c =
     let ps = c.self.inside.tenants.pairs in let names = g.T.LookupKey.names c.args.name.now in
-    let found : c.remove.result ≡ lookup names ps = c.remove.ensures.step.value
-    ∙ ap (option_map (λ p. p.1)) (option_map_id _) ∙ sym (lookup-entry names ps) in
+    let found = found-removed names ps c.remove.ensures.step.value in
     rw (ap (λ st. st.pairs) c.remove.ensures.step.state.is)
     (pool-absent ps c.self.invariant names (sym found ∙ c.in_default.is))
 
@@ -25,24 +22,23 @@ returns-in_default-clause-pool g c =
 pub returns-in_default-clause-closes : goal.returns-in_default-clause-closes
 returns-in_default-clause-closes g c =
     let ps = c.self.inside.tenants.pairs in let names = g.T.LookupKey.names c.args.name.now in
-    let found : c.remove.result ≡ lookup names ps = c.remove.ensures.step.value
-    ∙ ap (option_map (λ p. p.1)) (option_map_id _) ∙ sym (lookup-entry names ps) in
-    rw (ap (λ st. st.pairs) c.remove.ensures.step.state.is, ← c.self.view_is)
-    (closed-same (Err NotOpen) (OfOpen Closes) c.self.inside.limit c.self.inside.hasher ps
-    (sym found ∙ c.in_default.is) (refl, refl))
+    let found = found-removed names ps c.remove.ensures.step.value in
+    rw (ap (λ st. st.pairs) c.remove.ensures.step.state.is, ← c.self.view_is) (
+      refl,
+      on-removed (g.met.T.LookupKey.laws.one c.args.name.now) (OfOpen Closes) (Err NotOpen) g.met.N.Eq.laws ps
+          c.len-len.ensures.map.distinct None (sym found ∙ c.in_default.is) (refl, refl),
+    )
 
 pub overflow_sub-self : goal.overflow_sub-self
 overflow_sub-self g c =
     let ps = c.self.inside.tenants.pairs in let names = g.T.LookupKey.names c.args.name.now in
-    let found : c.remove.result ≡ lookup names ps = c.remove.ensures.step.value
-    ∙ ap (option_map (λ p. p.1)) (option_map_id _) ∙ sym (lookup-entry names ps) in
+    let found = found-removed names ps c.remove.ensures.step.value in
     own-share ps c.self.invariant names c.in-Some.own (sym found ∙ c.in-Some.is)
 
 pub overflow_sub-self-2 : goal.overflow_sub-self-2
 overflow_sub-self-2 g c =
     let ps = c.self.inside.tenants.pairs in let names = g.T.LookupKey.names c.args.name.now in
-    let found : c.remove.result ≡ lookup names ps = c.remove.ensures.step.value
-    ∙ ap (option_map (λ p. p.1)) (option_map_id _) ∙ sym (lookup-entry names ps) in
+    let found = found-removed names ps c.remove.ensures.step.value in
     omega (
       arith,
       c.cost_of.ensures,
@@ -52,8 +48,7 @@ overflow_sub-self-2 g c =
 pub invariant_of-self-2 : goal.invariant_of-self-2
 invariant_of-self-2 g c =
     let ps = c.self.inside.tenants.pairs in let names = g.T.LookupKey.names c.args.name.now in
-    let found : c.remove.result ≡ lookup names ps = c.remove.ensures.step.value
-    ∙ ap (option_map (λ p. p.1)) (option_map_id _) ∙ sym (lookup-entry names ps) in
+    let found = found-removed names ps c.remove.ensures.step.value in
     rw (ap (λ st. st.pairs) c.remove.ensures.step.state.is)
     (subst (λ n. HoldsPool g.K.PartialEq.eq g.L.Summing.cost_of g.L.Summing.account g.L.Budgeted.budget_of
     (without names ps) c.self.inside.limit (c.self.inside.shares - c.in-Some.own.0) (c.self.inside.total - n))
@@ -65,12 +60,9 @@ returns-clause-pool g c = is_pool _ (invariant_of-self-2 g c) c.self.inside.hash
 pub returns-clause-closes : goal.returns-clause-closes
 returns-clause-closes g c =
     let ps = c.self.inside.tenants.pairs in let names = g.T.LookupKey.names c.args.name.now in
-    let found : c.remove.result ≡ lookup names ps = c.remove.ensures.step.value
-    ∙ ap (option_map (λ p. p.1)) (option_map_id _) ∙ sym (lookup-entry names ps) in
-    let there = sym found ∙ c.in-Some.is in
-    rw (ap (λ st. st.pairs) c.remove.ensures.step.state.is, ← c.self.view_is)
-    (on-from (OfOpen Closes) _ (pool_of ps c.self.inside.limit c.self.inside.hasher)
-    (pool_of (without names ps) c.self.inside.limit c.self.inside.hasher)
-    (Some c.in-Some.own) None there (ap Ok c.len.ensures.len, refl)
-    (leaves-removed g.met.N.Eq.laws names (g.met.T.LookupKey.laws.one c.args.name.now) c.self.inside.limit
-    c.self.inside.hasher ps c.in-Some.own there c.len-len.ensures.map.distinct))
+    let found = found-removed names ps c.remove.ensures.step.value in
+    rw (ap (λ st. st.pairs) c.remove.ensures.step.state.is, ← c.self.view_is) (
+      refl,
+      on-removed (g.met.T.LookupKey.laws.one c.args.name.now) (OfOpen Closes) _ g.met.N.Eq.laws ps
+          c.len-len.ensures.map.distinct (Some c.in-Some.own) (sym found ∙ c.in-Some.is) (ap Ok c.len.ensures.len, refl),
+    )

@@ -1,4 +1,4 @@
-use Rattle.std.proofs.Common.{subst, Some, None, Err, sym, refl, ap}
+use Rattle.std.proofs.Common.{subst, Some, None, Ok, Err, sym, refl, ap, ◌∙◌}
 use Rattle.lru_model.specs.Calls.{promoted, written}
 use Rattle.lru_model.specs.Lists.{lookup}
 use Rattle.lru_model.proofs.CallerLemmas.{read_back, promoted-absent}
@@ -6,7 +6,8 @@ use Rattle.lru_tenants.specs.Cache.{IsTenant}
 use Rattle.lru_tenants.specs.Pool.{read_part, with_map, Gets}
 use Rattle.lru_tenants.specs.declared.error.TenantError.TheVariants.{NotOpen}
 use Rattle.lru_tenants.proofs.Gets.{promoted_is_tenant}
-use Rattle.lru_tenants.proofs.PoolKept.{own-part, pool-written, leaves-written, on-same, gets-open}
+use Rattle.lru_tenants.proofs.Changes.{on-same, on-written}
+use Rattle.lru_tenants.proofs.PoolKept.{own-part, pool-written}
 use Rattle.lru_tenants.proofs.pool.TenantPool.get.Goals as goal
 
 pub invariant_of-self-in-Some-get : goal.invariant_of-self-in-Some-get
@@ -42,21 +43,20 @@ returns-in-Some-get g c =
     let left = written key c.in-Some-get.value.now (promoted key was.1) in
     let there = sym c.in-Some.ensures.value in
     let found = c.in-Some-get.ensures.value in
-    let gets = gets-open key (lookup named c.self.inside.tenants.pairs) was left
-    (Some c.in-Some-get.value.now) there found (read_back key was.1 c.in-Some-get.value.now (sym found)) in
     rw (← c.self.view_is) (
       (
         refl,
         λ _. tt,
         (
-          Some (with_map left was),
-          gets,
-          leaves-written g.met.N.Eq.laws named (g.met.T.LookupKey.laws.one c.args.name.now) c.self.inside.limit
-              c.self.inside.hasher c.self.inside.tenants.pairs was (with_map left was)
-              there,
+          refl,
+          on-written (g.met.T.LookupKey.laws.one c.args.name.now) (Gets key) _ g.met.N.Eq.laws
+              c.self.inside.tenants.pairs was (with_map left was) there (
+                ap Ok found,
+                ap (λ map. Some (with_map map was)) (read_back key was.1 c.in-Some-get.value.now (sym found)),
+              ),
         ),
       ),
-      record { leaves = tt; value = gets.0 },
+      record { leaves = tt; value = ap Ok found ∙ sym (ap (read_part (λ own. lookup key own.1.pairs)) there) },
     )
 
 pub returns-in-None : goal.returns-in-None
@@ -66,21 +66,18 @@ returns-in-None g c =
     let named = g.T.LookupKey.names c.args.name.now in
     let there = sym c.in-Some.ensures.value in
     let found = c.in-None.ensures.value in
-    let gets = gets-open key (lookup named c.self.inside.tenants.pairs) was was.1 None there found
-    (sym (promoted-absent key was.1 (sym found))) in
     rw (← c.self.view_is) (
       (
         refl,
         λ _. tt,
         (
-          Some (with_map was.1 was),
-          gets,
-          leaves-written g.met.N.Eq.laws named (g.met.T.LookupKey.laws.one c.args.name.now) c.self.inside.limit
-              c.self.inside.hasher c.self.inside.tenants.pairs was (with_map was.1 was)
-              there,
+          refl,
+          on-written (g.met.T.LookupKey.laws.one c.args.name.now) (Gets key) _ g.met.N.Eq.laws
+              c.self.inside.tenants.pairs was (with_map was.1 was) there
+              (ap Ok found, ap (λ map. Some (with_map map was)) (sym (promoted-absent key was.1 (sym found)))),
         ),
       ),
-      record { leaves = tt; value = gets.0 },
+      record { leaves = tt; value = ap Ok found ∙ sym (ap (read_part (λ own. lookup key own.1.pairs)) there) },
     )
 
 pub returns-in_default : goal.returns-in_default
@@ -88,6 +85,10 @@ returns-in_default g c =
     let key = g.Q.LookupKey.names c.args.key.now in
     let none = sym c.in_default.ensures.value in
     rw (← c.self.view_is) (
-      (refl, λ _. tt, on-same (Gets key) (Err NotOpen) _ None none (refl, refl)),
+      (
+        refl,
+        λ _. tt,
+        (refl, on-same (g.met.T.LookupKey.laws.one c.args.name.now) (Gets key) (Err NotOpen) _ None none (refl, refl)),
+      ),
       record { leaves = tt; value = sym (ap (read_part (λ own. lookup key own.1.pairs)) none) },
     )

@@ -1,16 +1,18 @@
-use Rattle.std.proofs.Common.{Some, None, Ok, Err, arith, sym, refl, ◌∙◌}
-use Rattle.std.specs.Map.{set_value}
+use Rattle.std.proofs.Common.{None, Ok, Err, arith, sym, refl, ◌∙◌}
 use Rattle.lru_tenants.specs.Pool.{with_map, Removes}
 use Rattle.lru_tenants.specs.TenantRuns.{OfOpen}
 use Rattle.lru_tenants.specs.declared.error.TenantError.TheVariants.{NotOpen}
-use Rattle.lru_tenants.proofs.PoolKept.{pool_of, is_pool, own-part, own-cost, pool-written, leaves-written, on-from, on-same}
+use Rattle.lru_tenants.proofs.Changes.{on-same, on-written}
+use Rattle.lru_tenants.proofs.PoolKept.{is_pool, own-part, own-cost, pool-written}
 use Rattle.lru_tenants.proofs.PoolPuts.{remove-falls}
 use Rattle.lru_tenants.proofs.pool.TenantPool.remove.Goals as goal
 
 pub returns-in_default-clause-removes : goal.returns-in_default-clause-removes
-returns-in_default-clause-removes g c = rw (← c.self.view_is)
-    (on-same (OfOpen (Removes g.L.Limiter.rules (g.Q.LookupKey.names c.args.key.now))) (Err NotOpen) _ None
-    (sym c.in_default.ensures.value) (refl, refl))
+returns-in_default-clause-removes g c = rw (← c.self.view_is) (
+  refl,
+  on-same (g.met.T.LookupKey.laws.one c.args.name.now) (OfOpen (Removes g.L.Limiter.rules
+      (g.Q.LookupKey.names c.args.key.now))) (Err NotOpen) _ None (sym c.in_default.ensures.value) (refl, refl),
+)
 
 pub returns-in_default-clause-pool : goal.returns-in_default-clause-pool
 returns-in_default-clause-pool g c =
@@ -66,14 +68,11 @@ returns-clause-pool g c = is_pool _ (invariant_of-self-2 g c) c.self.inside.hash
 
 pub returns-clause-removes : goal.returns-clause-removes
 returns-clause-removes g c =
-    let ps = c.self.inside.tenants.pairs in let names = g.T.LookupKey.names c.args.name.now in
     let was = c.in-Some.own.now in let left = c.remove-value.new.map in
-    let there = sym c.in-Some.ensures.value in
-    rw (← c.self.view_is)
-    (on-from (OfOpen (Removes g.L.Limiter.rules (g.Q.LookupKey.names c.args.key.now))) (Ok c.remove-value.result)
-    (pool_of ps c.self.inside.limit c.self.inside.hasher)
-    (pool_of (set_value names ps (with_map left was)) c.self.inside.limit c.self.inside.hasher)
-    (Some was) (Some (with_map left was)) there
-    (c.remove-value.result, left, c.remove-value.ensures.removes, refl, refl)
-    (leaves-written g.met.N.Eq.laws names (g.met.T.LookupKey.laws.one c.args.name.now) c.self.inside.limit
-    c.self.inside.hasher ps was (with_map left was) there))
+    rw (← c.self.view_is) (
+      refl,
+      on-written (g.met.T.LookupKey.laws.one c.args.name.now)
+          (OfOpen (Removes g.L.Limiter.rules (g.Q.LookupKey.names c.args.key.now))) (Ok c.remove-value.result)
+          g.met.N.Eq.laws c.self.inside.tenants.pairs was (with_map left was) (sym c.in-Some.ensures.value)
+          (c.remove-value.result, left, c.remove-value.ensures.removes, refl, refl),
+    )

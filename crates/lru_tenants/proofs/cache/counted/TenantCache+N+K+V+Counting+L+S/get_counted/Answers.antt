@@ -28,9 +28,12 @@ returns-then-not-look_up g c =
       (
         refl,
         λ _. tt,
-        on-written g.met.T.LookupKey.laws c.args.name.now (IfOpen (CountsGet key)) (Ok None) g.met.N.Eq.laws
-            c.self.inside.tenants.pairs own c.look_up.new.map there
-            (counts-get key own c.look_up.new.map None c.look_up.result (sym none) (sym e) c.look_up.ensures.map),
+        (
+          refl,
+          on-written (g.met.T.LookupKey.laws.one c.args.name.now) (IfOpen (CountsGet key)) (Ok None) g.met.N.Eq.laws
+              c.self.inside.tenants.pairs own c.look_up.new.map there
+              (counts-get key own c.look_up.new.map None c.look_up.result (sym none) (sym e) c.look_up.ensures.map),
+        ),
       ),
       record { leaves = tt; value = ap Ok (sym none) ∙ sym (ap (read_of (λ map. lookup key map.pairs)) there) },
     )
@@ -51,10 +54,13 @@ returns g c =
       (
         refl,
         λ _. tt,
-        on-written g.met.T.LookupKey.laws c.args.name.now (IfOpen (CountsGet key)) _ g.met.N.Eq.laws
-            c.self.inside.tenants.pairs own c.look_up.new.map there
-            (counts-get key own c.look_up.new.map _ c.look_up.result value
-            (ap is_some value ∙ sym c.look_up.ensures.there) c.look_up.ensures.map),
+        (
+          refl,
+          on-written (g.met.T.LookupKey.laws.one c.args.name.now) (IfOpen (CountsGet key)) _ g.met.N.Eq.laws
+              c.self.inside.tenants.pairs own c.look_up.new.map there
+              (counts-get key own c.look_up.new.map _ c.look_up.result value
+              (ap is_some value ∙ sym c.look_up.ensures.there) c.look_up.ensures.map),
+        ),
       ),
       record { leaves = tt; value = ap Ok value ∙ sym (ap (read_of (λ map. lookup key map.pairs)) there) },
     )
@@ -67,7 +73,7 @@ returns-in_default g c =
       (
         refl,
         λ _. tt,
-        on-same g.met.T.LookupKey.laws c.args.name.now (IfOpen (CountsGet key)) (Err NotOpen) _ None none (refl, refl),
+        (refl, on-same (g.met.T.LookupKey.laws.one c.args.name.now) (IfOpen (CountsGet key)) (Err NotOpen) _ None none (refl, refl)),
       ),
       record { leaves = tt; value = sym (ap (read_of (λ map. lookup key map.pairs)) none) },
     )

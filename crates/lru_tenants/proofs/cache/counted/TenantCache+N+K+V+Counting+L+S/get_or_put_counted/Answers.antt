@@ -21,10 +21,13 @@ returns-in_default g c =
       (
         refl,
         λ _. tt,
-        on-same g.met.T.LookupKey.laws c.args.name.now (OfOpen (CountedCall (counting_rules g.L.Limiter.rules)
-            (offers_of (counting_terms g.L.Admission.terms)) g.L.Budgeted.budget_of g.K.PartialEq.eq
-            g.S.KeyHasher.hash_of (g.F.FnOnce.post c.args.make tt) c.args.key)) (Err NotOpen) _ None
-            (sym c.in_default.ensures.value) (refl, refl),
+        (
+          refl,
+          on-same (g.met.T.LookupKey.laws.one c.args.name.now) (OfOpen (CountedCall (counting_rules g.L.Limiter.rules)
+              (offers_of (counting_terms g.L.Admission.terms)) g.L.Budgeted.budget_of g.K.PartialEq.eq
+              g.S.KeyHasher.hash_of (g.F.FnOnce.post c.args.make tt) c.args.key)) (Err NotOpen) _ None
+              (sym c.in_default.ensures.value) (refl, refl),
+        ),
       ),
       record { leaves = tt; not_open = λ _. refl; there = rw (← c.in_default.ensures.value) tt },
     )
@@ -42,8 +45,8 @@ returns-in_default-get_or_insert_counted g c = let u = c.get_or_insert_counted.n
     (Err Memory) c.in-Some.own.now (Err c.in_default-get_or_insert_counted.field-0) u refl
     c.in_default-get_or_insert_counted.ensures.step c.in_default-get_or_insert_counted.ensures.newest
     c.in_default-get_or_insert_counted.ensures.budget
-    g.met.T.LookupKey.laws c.args.name.now g.met.N.Eq.laws c.self.inside.tenants.pairs (sym c.in-Some.ensures.value) in
-    ((refl, λ _. tt, ended.on), record { leaves = tt; not_open = ended.not_open; there = ended.there })
+    (g.met.T.LookupKey.laws.one c.args.name.now) g.met.N.Eq.laws c.self.inside.tenants.pairs (sym c.in-Some.ensures.value) in
+    ((refl, λ _. tt, (refl, ended.on)), record { leaves = tt; not_open = ended.not_open; there = ended.there })
     )
 
 pub invariant_of-self-then-not-there : goal.invariant_of-self-then-not-there
@@ -59,8 +62,8 @@ returns-then-not-there g c = let u = c.get_or_insert_counted.new.map in
     g.L.Budgeted.budget_of g.K.PartialEq.eq g.S.KeyHasher.hash_of (g.F.FnOnce.post c.args.make tt) c.args.key
     (Ok None) c.in-Some.own.now (Ok c.in-Ok.there) u (sym (ap (λ b. newest_answer (Ok b) u) e))
     c.in-Ok.ensures.step c.in-Ok.ensures.newest c.in-Ok.ensures.budget
-    g.met.T.LookupKey.laws c.args.name.now g.met.N.Eq.laws c.self.inside.tenants.pairs (sym c.in-Some.ensures.value) in
-    ((refl, λ _. tt, ended.on), record { leaves = tt; not_open = ended.not_open; there = ended.there })
+    (g.met.T.LookupKey.laws.one c.args.name.now) g.met.N.Eq.laws c.self.inside.tenants.pairs (sym c.in-Some.ensures.value) in
+    ((refl, λ _. tt, (refl, ended.on)), record { leaves = tt; not_open = ended.not_open; there = ended.there })
     )
 
 pub invariant_of-self-2 : goal.invariant_of-self-2
@@ -77,6 +80,6 @@ returns g c = let u = c.get_or_insert_counted.new.map in
     (read (Ok c.newest.result)) c.in-Some.own.now (Ok c.in-Ok.there) u
     (ap Ok c.newest.ensures ∙ sym (ap (λ b. newest_answer (Ok b) u) e))
     c.in-Ok.ensures.step c.in-Ok.ensures.newest c.in-Ok.ensures.budget
-    g.met.T.LookupKey.laws c.args.name.now g.met.N.Eq.laws c.self.inside.tenants.pairs (sym c.in-Some.ensures.value) in
-    ((refl, λ _. tt, ended.on), record { leaves = tt; not_open = ended.not_open; there = ended.there })
+    (g.met.T.LookupKey.laws.one c.args.name.now) g.met.N.Eq.laws c.self.inside.tenants.pairs (sym c.in-Some.ensures.value) in
+    ((refl, λ _. tt, (refl, ended.on)), record { leaves = tt; not_open = ended.not_open; there = ended.there })
     )

@@ -26,20 +26,26 @@ returns-clause-total g c = rw (← c.self.view_is) (same-sum c.self.inside.tenan
     c.insert_counted.ensures.budget)
 
 pub returns-clause-puts : goal.returns-clause-puts
-returns-clause-puts g c = rw (← c.self.view_is) (on-written g.met.T.LookupKey.laws c.args.name.now
-    (OfOpen (CountsPut (Puts (counting_rules g.L.Limiter.rules)
-    (offers_of (counting_terms g.L.Admission.terms)) (λ s. g.L.Budgeted.budget_of s.limiter) g.K.PartialEq.eq
-    g.S.KeyHasher.hash_of c.args.key c.args.value) (g.K.PartialEq.eq c.args.key))) c.put_answer.result
-    g.met.N.Eq.laws c.self.inside.tenants.pairs c.in-Some.own.now
-    c.insert_counted.new.map (sym c.in-Some.ensures.value) (counts-put
-    (counting_rules g.L.Limiter.rules) (offers_of (counting_terms g.L.Admission.terms)) g.L.Budgeted.budget_of
-    g.K.PartialEq.eq g.S.KeyHasher.hash_of c.args.key c.args.value c.in-Some.own.now c.insert_counted.result
-    c.put_answer.result c.insert_counted.new.map c.put_answer.ensures c.insert_counted.ensures.inserts
-    c.insert_counted.ensures.budget))
+returns-clause-puts g c = rw (← c.self.view_is) (
+  refl,
+  on-written (g.met.T.LookupKey.laws.one c.args.name.now)
+      (OfOpen (CountsPut (Puts (counting_rules g.L.Limiter.rules)
+      (offers_of (counting_terms g.L.Admission.terms)) (λ s. g.L.Budgeted.budget_of s.limiter) g.K.PartialEq.eq
+      g.S.KeyHasher.hash_of c.args.key c.args.value) (g.K.PartialEq.eq c.args.key))) c.put_answer.result
+      g.met.N.Eq.laws c.self.inside.tenants.pairs c.in-Some.own.now
+      c.insert_counted.new.map (sym c.in-Some.ensures.value) (counts-put
+      (counting_rules g.L.Limiter.rules) (offers_of (counting_terms g.L.Admission.terms)) g.L.Budgeted.budget_of
+      g.K.PartialEq.eq g.S.KeyHasher.hash_of c.args.key c.args.value c.in-Some.own.now c.insert_counted.result
+      c.put_answer.result c.insert_counted.new.map c.put_answer.ensures c.insert_counted.ensures.inserts
+      c.insert_counted.ensures.budget),
+)
 
 pub returns-in_default-clause-puts : goal.returns-in_default-clause-puts
-returns-in_default-clause-puts g c = rw (← c.self.view_is) (on-same g.met.T.LookupKey.laws c.args.name.now
-    (OfOpen (CountsPut (Puts (counting_rules g.L.Limiter.rules)
-    (offers_of (counting_terms g.L.Admission.terms)) (λ s. g.L.Budgeted.budget_of s.limiter) g.K.PartialEq.eq
-    g.S.KeyHasher.hash_of c.args.key c.args.value) (g.K.PartialEq.eq c.args.key))) _ _ None
-    (sym c.in_default.ensures.value) (refl, refl))
+returns-in_default-clause-puts g c = rw (← c.self.view_is) (
+  refl,
+  on-same (g.met.T.LookupKey.laws.one c.args.name.now)
+      (OfOpen (CountsPut (Puts (counting_rules g.L.Limiter.rules)
+      (offers_of (counting_terms g.L.Admission.terms)) (λ s. g.L.Budgeted.budget_of s.limiter) g.K.PartialEq.eq
+      g.S.KeyHasher.hash_of c.args.key c.args.value) (g.K.PartialEq.eq c.args.key))) _ _ None
+      (sym c.in_default.ensures.value) (refl, refl),
+)

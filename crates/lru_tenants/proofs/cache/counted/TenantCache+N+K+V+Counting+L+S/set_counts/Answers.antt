@@ -19,10 +19,16 @@ pub returns-clause-tenants : goal.returns-clause-tenants
 returns-clause-tenants g c = (invariant_of-self-2 g c).each
 
 pub returns-clause-sets : goal.returns-clause-sets
-returns-clause-sets g c = rw (← c.self.view_is) (on-written g.met.T.LookupKey.laws c.args.name.now
-    (IfOpen (SetsCounts c.args.counts)) _ g.met.N.Eq.laws c.self.inside.tenants.pairs c.in-Some.own.now
-    c.set_counts.new.map (sym c.in-Some.ensures.value) (tt, c.set_counts.new.map, c.set_counts.ensures.map, refl, refl))
+returns-clause-sets g c = rw (← c.self.view_is) (
+  refl,
+  on-written (g.met.T.LookupKey.laws.one c.args.name.now)
+      (IfOpen (SetsCounts c.args.counts)) _ g.met.N.Eq.laws c.self.inside.tenants.pairs c.in-Some.own.now
+      c.set_counts.new.map (sym c.in-Some.ensures.value) (tt, c.set_counts.new.map, c.set_counts.ensures.map, refl, refl),
+)
 
 pub returns-in_default-clause-sets : goal.returns-in_default-clause-sets
-returns-in_default-clause-sets g c = rw (← c.self.view_is) (on-same g.met.T.LookupKey.laws c.args.name.now
-    (IfOpen (SetsCounts c.args.counts)) _ _ None (sym c.in_default.ensures.value) (refl, refl))
+returns-in_default-clause-sets g c = rw (← c.self.view_is) (
+  refl,
+  on-same (g.met.T.LookupKey.laws.one c.args.name.now)
+      (IfOpen (SetsCounts c.args.counts)) _ _ None (sym c.in_default.ensures.value) (refl, refl),
+)

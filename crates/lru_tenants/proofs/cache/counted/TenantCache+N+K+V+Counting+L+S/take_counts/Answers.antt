@@ -29,20 +29,26 @@ returns-clause-takes g c =
       rejections = is.1.1.1.0 i;
       evictions = is.1.1.1.1 i;
     } in
-    rw (← c.self.view_is) (on-written g.met.T.LookupKey.laws c.args.name.now
-    (IfOpen TakesCounts) _ g.met.N.Eq.laws c.self.inside.tenants.pairs c.in-Some.own.now
-    c.set_counts.new.map (sym c.in-Some.ensures.value) (
-      c.limiter.result.now.counts,
-      c.set_counts.new.map,
-      (
-        ap (λ s. s.counts) c.limiter.ensures,
-        c.set_counts.ensures.map
-            ∙ ap (λ counts. with_counts counts c.in-Some.own.now) none,
-      ),
+    rw (← c.self.view_is) (
       refl,
-      refl,
-    ))
+      on-written (g.met.T.LookupKey.laws.one c.args.name.now)
+          (IfOpen TakesCounts) _ g.met.N.Eq.laws c.self.inside.tenants.pairs c.in-Some.own.now
+          c.set_counts.new.map (sym c.in-Some.ensures.value) (
+            c.limiter.result.now.counts,
+            c.set_counts.new.map,
+            (
+              ap (λ s. s.counts) c.limiter.ensures,
+              c.set_counts.ensures.map
+                  ∙ ap (λ counts. with_counts counts c.in-Some.own.now) none,
+            ),
+            refl,
+            refl,
+          ),
+    )
 
 pub returns-in_default-clause-takes : goal.returns-in_default-clause-takes
-returns-in_default-clause-takes g c = rw (← c.self.view_is) (on-same g.met.T.LookupKey.laws c.args.name.now
-    (IfOpen TakesCounts) _ _ None (sym c.in_default.ensures.value) (refl, refl))
+returns-in_default-clause-takes g c = rw (← c.self.view_is) (
+  refl,
+  on-same (g.met.T.LookupKey.laws.one c.args.name.now)
+      (IfOpen TakesCounts) _ _ None (sym c.in_default.ensures.value) (refl, refl),
+)
