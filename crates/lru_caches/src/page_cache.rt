@@ -12,6 +12,7 @@ use std::marker::Model;
 use thiserror::Error;
 
 mod blocks;
+mod boxed;
 mod evict;
 mod flush;
 mod laws;
@@ -70,6 +71,7 @@ pub struct PageCache<B: Copy, D: BlockDevice<B>, S: KeyHasher<u64> = RandomState
     keeps_dirty: bool,
     counts: Counts,
     device: D,
+    alloc: Global,
 }
 
 impl<B: Copy, D: BlockDevice<B>, S: KeyHasher<u64>> Model for PageCache<B, D, S> {
@@ -145,6 +147,7 @@ impl<B: Copy, D: BlockDevice<B>, S: KeyHasher<u64>> PageCache<B, D, S> {
                 evictions: 0,
             },
             device,
+            alloc,
         }
     }
 
@@ -345,6 +348,7 @@ impl<B: Copy, D: BlockDevice<B>, S: KeyHasher<u64>> PageCache<B, D, S> {
             keeps_dirty: _,
             counts: _,
             device,
+            alloc: _,
         } = self;
         device
     }

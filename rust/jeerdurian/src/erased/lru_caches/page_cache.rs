@@ -10,6 +10,7 @@ use crate::rattle_std::alloc::Global;
 use crate::rattle_std::fmt::Display;
 
 mod blocks;
+mod boxed;
 mod evict;
 mod flush;
 mod laws;
@@ -66,6 +67,7 @@ pub struct PageCache<B: Copy, D: BlockDevice<B>, S = RandomState> {
     keeps_dirty: bool,
     counts: Counts,
     device: D,
+    alloc: Global,
 }
 
 impl<B: Copy, D: BlockDevice<B>> PageCache<B, D, RandomState> {
@@ -94,6 +96,7 @@ impl<B: Copy, D: BlockDevice<B>, S: KeyHasher<u64>> PageCache<B, D, S> {
             keeps_dirty: false,
             counts: Counts { hits: 0, misses: 0, evictions: 0 },
             device,
+            alloc,
         }
     }
 
@@ -185,7 +188,7 @@ where {
     /// Cost: `O(1)`.
     pub fn discard(self) -> D
 where {
-        let PageCache { map: _, numbers: _, capacity: _, keeps_dirty: _, counts: _, device } = self;
+        let PageCache { map: _, numbers: _, capacity: _, keeps_dirty: _, counts: _, device, alloc: _ } = self;
         device
     }
 }
