@@ -136,6 +136,7 @@ impl<B: Copy, D: BlockDevice<B>, S: KeyHasher<u64>> PageCache<B, D, S> {
     /// # Errors
     ///
     /// As `read`, but `Broken` is possible even if the page is cached. After an error, the block is not replaced.
+    // A call that is not inlined copies the block.
     #[inline]
     pub fn write(&mut self, n: u64, block: B) -> Result<(), PageError<D::Error>>
         ensures written { OnOk result (shown D.BlockDevice self.new n ≡ Some (D.seen block)) }

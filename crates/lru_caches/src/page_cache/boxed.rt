@@ -5,7 +5,7 @@ use std::alloc::{AllocError, Global};
 use std::boxed::Box;
 use std::marker::Model;
 
-/// A block in a box of its own, so that a bucket of the table only contains a pointer. Contracts see the block.
+/// A block in a box of its own, so that a bucket of the table contains only a pointer. Contracts see the block.
 #[derive(Drop)]
 pub(super) struct Boxed<B> {
     inner: Box<B>,

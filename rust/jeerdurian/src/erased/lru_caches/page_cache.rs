@@ -75,8 +75,8 @@ impl<B: Copy, D: BlockDevice<B>> PageCache<B, D, RandomState> {
     ///
     /// If strangers choose the block numbers, call `with_hasher`.
     ///
-    /// The blocks lie in the table, which grows by doubling. In a trial, the cache took up to about 4.2 times the
-    /// memory of its pages, and up to 6.2 times while its table grew.
+    /// Each block is in a box of its own. In a trial, a page took up to 160 bytes besides its block, and up to 244 while
+    /// the table grew.
     ///
     /// Cost: `O(1)`, and no memory.
     pub fn new(alloc: Global, device: D, capacity: usize) -> Self {
@@ -185,7 +185,7 @@ where {
 
     /// Drops the cached pages and returns the device. Writes since the last flush may be lost.
     ///
-    /// Cost: `O(1)`.
+    /// Cost: `O(len)`.
     pub fn discard(self) -> D
 where {
         let PageCache { map: _, numbers: _, capacity: _, keeps_dirty: _, counts: _, device, alloc: _ } = self;

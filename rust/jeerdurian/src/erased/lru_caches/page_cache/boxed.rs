@@ -5,7 +5,7 @@ use crate::rattle_std::prelude::*;
 use crate::rattle_std::alloc::{AllocError, Global};
 use crate::rattle_std::boxed::Box;
 
-/// A block in a box of its own, so that a bucket of the table only contains a pointer. Contracts see the block.
+/// A block in a box of its own, so that a bucket of the table contains only a pointer. Contracts see the block.
 
 pub(super) struct Boxed<B> {
     inner: Box<B>,
