@@ -114,8 +114,7 @@ fn panics<R>(cache: &mut Cache, f: impl FnOnce(&mut Cache) -> R) {
 
 #[test]
 fn a_panic_leaks_no_box() {
-    for ends in
-        [|cache| drop(cache), |cache: Cache| drop(cache.discard()), |cache: Cache| assert!(cache.close().is_ok())]
+    for ends in [|cache| drop(cache), |cache: Cache| _ = cache.discard(), |cache: Cache| assert!(cache.close().is_ok())]
     {
         let bytes = (held(), aligned());
         let mut cache = filled(3, 3);
