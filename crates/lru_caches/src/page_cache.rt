@@ -12,6 +12,7 @@ use std::marker::Model;
 use thiserror::Error;
 
 mod blocks;
+mod boxed;
 mod evict;
 mod flush;
 mod laws;
@@ -70,6 +71,7 @@ pub struct PageCache<B: Copy, D: BlockDevice<B>, S: KeyHasher<u64> = RandomState
     keeps_dirty: bool,
     counts: Counts,
     device: D,
+    alloc: Global,
 }
 
 impl<B: Copy, D: BlockDevice<B>, S: KeyHasher<u64>> Model for PageCache<B, D, S> {
@@ -97,8 +99,8 @@ impl<B: Copy, D: BlockDevice<B>> PageCache<B, D, RandomState> {
     ///
     /// If strangers choose the block numbers, call `with_hasher`.
     ///
-    /// The blocks lie in the table, which grows by doubling. In a trial, the cache took up to about 4.2 times the
-    /// memory of its pages, and up to 6.2 times while its table grew.
+    /// Each block is in a box of its own. In a trial, a page took up to 160 bytes besides its block, and up to 244 while
+    /// the table grew.
     ///
     /// Cost: `O(1)`, and no memory.
     ///
@@ -145,6 +147,7 @@ impl<B: Copy, D: BlockDevice<B>, S: KeyHasher<u64>> PageCache<B, D, S> {
                 evictions: 0,
             },
             device,
+            alloc,
         }
     }
 
@@ -332,7 +335,7 @@ impl<B: Copy, D: BlockDevice<B>, S: KeyHasher<u64>> PageCache<B, D, S> {
     /// cache.discard();
     /// ```
     ///
-    /// Cost: `O(1)`.
+    /// Cost: `O(len)`.
     pub fn discard(self) -> D
     where
         S: Drop,
@@ -345,6 +348,7 @@ impl<B: Copy, D: BlockDevice<B>, S: KeyHasher<u64>> PageCache<B, D, S> {
             keeps_dirty: _,
             counts: _,
             device,
+            alloc: _,
         } = self;
         device
     }

@@ -272,8 +272,8 @@ fn a_cache_calls_its_device_only_if_it_has_to() {
     assert_eq!(unclosed.cache.discard().0.get(), [0, 1, 0]);
 }
 
-/// While memory lasts, calls succeed for any number of pages. In addition to its entry in the map, each page takes 8 to
-/// 16 bytes for its number.
+/// While memory lasts, calls succeed for any number of pages. In addition to its entry in the map, each page takes 8
+/// bytes for its block, and 8 to 16 bytes for its number.
 #[test]
 fn caches_of_many_pages() {
     let bytes = held();
@@ -282,8 +282,8 @@ fn caches_of_many_pages() {
         let page = n + 8;
         assert!(if n % 2 == 0 { cache.write(page, n) } else { cache.read(page).map(|_| ()) } == Ok(()), "page {page}");
         assert!(map.insert(page, (n, false, false)));
-        let numbers = held() - bytes - 2 * map.memory_usage() as i64;
-        assert!((n as i64 * 8..=n as i64 * 16 + 1024).contains(&numbers), "{numbers} bytes for {n} pages");
+        let more = held() - bytes - 2 * map.memory_usage() as i64;
+        assert!((n as i64 * 16..=n as i64 * 24 + 1024).contains(&more), "{more} bytes for {n} pages");
     }
     assert_eq!((cache.len(), cache.dirty_len(), cache.flush()), (100_000, 50_000, Ok(())));
     cache.discard();

@@ -176,9 +176,9 @@ fn pages() -> PageCache<[u8; 8], FileDevice<Cursor<[u8; 64]>, 8>> {
 
 #[test]
 fn caches_out_of_memory_return_errors() {
-    errs(3, pages, |cache| cache.write(3, [3; 8]).is_ok());
-    errs(3, pages, |cache| cache.read(3).is_ok());
-    errs(3, pages, |cache| cache.write_with(3, |block| block[0] = 3).is_ok());
+    errs(4, pages, |cache| cache.write(3, [3; 8]).is_ok());
+    errs(4, pages, |cache| cache.read(3).is_ok());
+    errs(4, pages, |cache| cache.write_with(3, |block| block[0] = 3).is_ok());
     let map = || {
         let mut map = OrderedMap::new();
         (0..14u64).for_each(|n| assert_eq!(map.insert(n, n), Ok(None)));

@@ -6,7 +6,7 @@ ghost use Rattle.lru_caches.specs.Pages.{ReadsPages, ReadsUntil};
 use crate::device::BlockDevice;
 use crate::page_cache::evict::{find_room, replace};
 use crate::page_cache::flush::reserve_number;
-use crate::page_cache::pages::{Page, admit, load, overwrite, promote, read_newest, write_newest};
+use crate::page_cache::pages::{admit, load, overwrite, promote, read_newest, write_newest};
 use crate::page_cache::{PageCache, PageError};
 use schnellru::KeyHasher;
 use std::ops::Range;
@@ -29,6 +29,7 @@ impl<B: Copy, D: BlockDevice<B>, S: KeyHasher<u64>> PageCache<B, D, S> {
         reserve_number(&mut self.numbers, self.map.len())?;
         let gone = find_room(&self.map, self.capacity, self.keeps_dirty)?;
         load(
+            self.alloc,
             &mut self.map,
             &mut self.device,
             &mut self.counts,
@@ -135,6 +136,8 @@ impl<B: Copy, D: BlockDevice<B>, S: KeyHasher<u64>> PageCache<B, D, S> {
     /// # Errors
     ///
     /// As `read`, but `Broken` is possible even if the page is cached. After an error, the block is not replaced.
+    // A call that is not inlined copies the block.
+    #[inline]
     pub fn write(&mut self, n: u64, block: B) -> Result<(), PageError<D::Error>>
         ensures written { OnOk result (shown D.BlockDevice self.new n ≡ Some (D.seen block)) }
         ensures others { D.IsHonest self.new.device →
@@ -147,24 +150,21 @@ impl<B: Copy, D: BlockDevice<B>, S: KeyHasher<u64>> PageCache<B, D, S> {
     {
         admit(&self.device, n)?;
         let hash = self.map.hasher().hash_named(&n);
-        if overwrite(&mut self.map, &mut self.counts, hash, n, block) {
+        if overwrite(&mut self.map, &mut self.counts, hash, n, &block) {
             return Ok(());
         }
         reserve_number(&mut self.numbers, self.map.len())?;
         let gone = find_room(&self.map, self.capacity, self.keeps_dirty)?;
-        let page = Page {
-            block,
-            is_dirty: true,
-            is_pinned: false,
-        };
         replace(
+            self.alloc,
             &mut self.map,
             &mut self.device,
             &mut self.counts,
             gone,
             hash,
             n,
-            page,
+            &block,
+            true,
         )
     }
 

@@ -6,9 +6,11 @@ ghost use Rattle.lru_caches.specs.Pages.{AreClean, AreThere, CrashAdds, IsFault,
 
 use crate::device::BlockDevice;
 use crate::page_cache::PageError;
+use crate::page_cache::boxed::{Boxed, store};
 use crate::page_cache::flush::write_page;
 use crate::page_cache::pages::{Counts, Page, Pages, add_page};
 use schnellru::KeyHasher;
+use std::alloc::Global;
 
 fn find_victim<B: Copy, S: KeyHasher<u64>>(map: &Pages<B, S>, keeps_dirty: bool) -> Option<u64>
     ensures { result ≡ victim keeps_dirty map.now.pairs }
@@ -44,11 +46,12 @@ pub(super) fn find_room<B: Copy, E, S: KeyHasher<u64>>(
     }
 }
 
+/// Evicts the page `gone`, if any, and returns its box.
 fn evict<B: Copy, D: BlockDevice<B>, S: KeyHasher<u64>>(
     map: &mut Pages<B, S>,
     device: &mut D,
     gone: Option<u64>,
-) -> Result<(), PageError<D::Error>>
+) -> Result<Option<Boxed<B>>, PageError<D::Error>>
     requires usable { IsTrue (D.is_usable device.old) }
     requires clean { AreClean D.BlockDevice map.old.pairs device.old }
     requires there { AreThere D.BlockDevice map.old.pairs device.old }
@@ -67,30 +70,31 @@ fn evict<B: Copy, D: BlockDevice<B>, S: KeyHasher<u64>>(
     ensures hasher { map.new.hasher ≡ map.old.hasher }
 {
     let Some(n) = gone else {
-        return Ok(());
+        return Ok(None);
     };
     let _ = map.len();
     write_page(map, device, n)?;
-    map.remove(&n);
-    Ok(())
+    Ok(map.remove(&n).map(|page| page.block))
 }
 
 /// Evicts the page `gone`, if any, and inserts page n as the newest.
 pub(super) fn replace<B: Copy, D: BlockDevice<B>, S: KeyHasher<u64>>(
+    alloc: Global,
     map: &mut Pages<B, S>,
     device: &mut D,
     counts: &mut Counts,
     gone: Option<u64>,
     hash: u64,
     n: u64,
-    page: Page<B>,
+    block: &B,
+    is_dirty: bool,
 ) -> Result<(), PageError<D::Error>>
     requires usable { IsTrue (D.is_usable device.old) }
     requires number { IsTrue (D.has device.old n) }
     requires absent { lookup (nat_eq n) map.old.pairs ≡ None }
     requires hash { hash ≡ S.hash_of map.old.hasher n }
-    requires as_read { page.is_dirty ≡ false → D.IsHonest device.old
-        → D.blocks device.old n ≡ Some (D.seen page.block) }
+    requires as_read { is_dirty ≡ false → D.IsHonest device.old
+        → D.blocks device.old n ≡ Some (D.seen block.now) }
     requires clean { AreClean D.BlockDevice map.old.pairs device.old }
     requires there { AreThere D.BlockDevice map.old.pairs device.old }
     ensures clean { AreClean D.BlockDevice map.new.pairs device.new }
@@ -99,7 +103,8 @@ pub(super) fn replace<B: Copy, D: BlockDevice<B>, S: KeyHasher<u64>>(
         → block_at D.BlockDevice map.new.pairs device.new m ≡ block_at D.BlockDevice map.old.pairs device.old m }
     ensures failed { OnErr result (D.IsHonest device.new → (m : ℕ)
         → block_at D.BlockDevice map.new.pairs device.new m ≡ block_at D.BlockDevice map.old.pairs device.old m) }
-    ensures stored { OnOk result (map.new.pairs ≡ (n, page) ∷ evicted gone map.old.pairs) }
+    ensures stored { OnOk result (map.new.pairs
+        ≡ (n, record { block = block.now; is_dirty = is_dirty; is_pinned = false }) ∷ evicted gone map.old.pairs) }
     ensures within { (capacity : ℕ) → length map.old.pairs ≤ capacity → length (evicted gone map.old.pairs) < capacity
         → length map.new.pairs ≤ capacity }
     ensures no_more { length map.new.pairs ≤ length map.old.pairs + 1 }
@@ -114,9 +119,14 @@ pub(super) fn replace<B: Copy, D: BlockDevice<B>, S: KeyHasher<u64>>(
         ≡ missed (length map.old.pairs - length (evicted gone map.old.pairs)) counts.old) }
 {
     let before = map.len();
-    evict(map, device, gone)?;
+    let spare = evict(map, device, gone)?;
     let evicted = before - map.len();
     counts.evictions = counts.evictions.saturating_add(evicted as u64);
+    let page = Page {
+        block: store(alloc, spare, block).map_err(|_| PageError::Memory)?,
+        is_dirty,
+        is_pinned: false,
+    };
     add_page(map, hash, n, page)?;
     counts.misses = counts.misses.saturating_add(1);
     Ok(())

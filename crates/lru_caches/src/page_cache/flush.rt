@@ -71,7 +71,7 @@ pub(super) fn write_back<B: Copy, D: BlockDevice<B>>(
     if !page.is_dirty {
         return Ok(());
     }
-    device.write(n, &page.block).map_err(PageError::Device)
+    device.write(n, page.block.get()).map_err(PageError::Device)
 }
 
 pub(super) fn write_page<B: Copy, D: BlockDevice<B>, S: KeyHasher<u64>>(

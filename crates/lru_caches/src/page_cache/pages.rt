@@ -9,12 +9,14 @@ ghost use Rattle.lru_caches.specs.Pages.{AreClean, AreThere, CrashAdds, CrashKee
 
 use crate::device::BlockDevice;
 use crate::page_cache::PageError;
+use crate::page_cache::boxed::Boxed;
 use crate::page_cache::evict::replace;
 use schnellru::{KeyHasher, LruMap, UnlimitedCompact};
+use std::alloc::Global;
 
-#[derive(Clone, Copy)]
+#[derive(Drop)]
 pub(super) struct Page<B> {
-    pub(super) block: B,
+    pub(super) block: Boxed<B>,
     pub(super) is_dirty: bool,
     pub(super) is_pinned: bool,
 }
@@ -81,6 +83,7 @@ fn read_block<B: Copy, D: BlockDevice<B>>(device: &mut D, n: u64) -> Result<B, P
 }
 
 pub(super) fn load<B: Copy, D: BlockDevice<B>, S: KeyHasher<u64>>(
+    alloc: Global,
     map: &mut Pages<B, S>,
     device: &mut D,
     counts: &mut Counts,
@@ -115,12 +118,7 @@ pub(super) fn load<B: Copy, D: BlockDevice<B>, S: KeyHasher<u64>>(
         ≡ missed (length map.old.pairs - length (evicted gone map.old.pairs)) counts.old) }
 {
     let block = read_block(device, n)?;
-    let page = Page {
-        block,
-        is_dirty: false,
-        is_pinned: false,
-    };
-    replace(map, device, counts, gone, hash, n, page)
+    replace(alloc, map, device, counts, gone, hash, n, &block, false)
 }
 
 pub(super) fn promote<B: Copy, S: KeyHasher<u64>>(
@@ -161,7 +159,7 @@ pub(super) fn overwrite<B: Copy, S: KeyHasher<u64>>(
     counts: &mut Counts,
     hash: u64,
     n: u64,
-    block: B,
+    block: &B,
 ) -> bool
     requires { hash ≡ S.hash_of map.old.hasher n }
     ensures there { result ≡ is_some (lookup (nat_eq n) map.old.pairs) }
@@ -170,14 +168,14 @@ pub(super) fn overwrite<B: Copy, S: KeyHasher<u64>>(
     ensures others { (m : ℕ) → m ≢ n → lookup (nat_eq m) map.new.pairs ≡ lookup (nat_eq m) map.old.pairs }
     ensures len { length map.new.pairs ≡ length map.old.pairs }
     ensures written { result ≡ true → lookup (nat_eq n) map.new.pairs ≡ Some (record {
-      block = block;
+      block = block.now;
       is_dirty = true;
       is_pinned = is_pinned (lookup (nat_eq n) map.old.pairs);
     }) }
     ensures used { result ≡ true → map.new.pairs ≡ (
       n,
       record {
-        block = block;
+        block = block.now;
         is_dirty = true;
         is_pinned = is_pinned (lookup (nat_eq n) map.old.pairs);
       },
@@ -191,12 +189,12 @@ pub(super) fn overwrite<B: Copy, S: KeyHasher<u64>>(
     true
 }
 
-fn fill_newest<B: Copy, S: KeyHasher<u64>>(map: &mut Pages<B, S>, block: B)
+fn fill_newest<B: Copy, S: KeyHasher<u64>>(map: &mut Pages<B, S>, block: &B)
     ensures { (n : ℕ) (page : Page B) (others : List (ℕ × Page B)) → map.old.pairs ≡ (n, page) ∷ others
-        → map.new.pairs ≡ (n, record page { block = block; is_dirty = true }) ∷ others }
+        → map.new.pairs ≡ (n, record page { block = block.now; is_dirty = true }) ∷ others }
 {
     if let Some(page) = map.newest_mut() {
-        page.block = block;
+        page.block.set(block);
         page.is_dirty = true;
     }
 }
@@ -227,7 +225,7 @@ pub(super) fn read_newest<B: Copy, S: KeyHasher<u64>, R, U: FnOnce(&B) -> R>(
         → FnOnceReturnsAt U.FnOnce read page.block result }
 {
     match map.peek_newest() {
-        Some((_, page)) => read(&page.block),
+        Some((_, page)) => read(page.block.get()),
         None => unreachable!(),
     }
 }
@@ -245,7 +243,7 @@ pub(super) fn write_newest<B: Copy, S: KeyHasher<u64>, R, U: FnOnce(&mut B) -> R
     match map.newest_mut() {
         Some(page) => {
             page.is_dirty = true;
-            write(&mut page.block)
+            page.block.write(write)
         }
         None => unreachable!(),
     }

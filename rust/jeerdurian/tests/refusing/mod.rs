@@ -6,6 +6,7 @@ use std::cell::Cell;
 thread_local! {
     static REFUSED: Cell<u64> = const { Cell::new(0) };
     static HELD: Cell<i64> = const { Cell::new(0) };
+    static MOST: Cell<i64> = const { Cell::new(0) };
     static ALIGNED: Cell<i64> = const { Cell::new(0) };
 }
 
@@ -20,6 +21,7 @@ unsafe impl GlobalAlloc for Refusing {
             return core::ptr::null_mut();
         }
         HELD.set(HELD.get() + layout.size() as i64);
+        MOST.set(MOST.get().max(HELD.get()));
         ALIGNED.set(ALIGNED.get() + layout.align() as i64);
         // SAFETY: as the caller says.
         unsafe { System.alloc(layout) }
@@ -45,10 +47,26 @@ pub fn refused<R>(n: u64, f: impl FnOnce() -> R) -> (R, bool) {
     (result, was_made)
 }
 
+/// Calls `f`. Returns its result, and the number of its requests.
+#[allow(dead_code)]
+pub fn requests<R>(f: impl FnOnce() -> R) -> (R, u64) {
+    REFUSED.set(u64::MAX);
+    let result = f();
+    (result, u64::MAX - REFUSED.replace(0))
+}
+
 /// Returns how many bytes the thread has allocated and not freed.
 #[allow(dead_code)]
 pub fn held() -> i64 {
     HELD.get()
+}
+
+/// Calls `f`. Returns its result, and the most bytes that the thread had allocated during the call.
+#[allow(dead_code)]
+pub fn most_held<R>(f: impl FnOnce() -> R) -> (R, i64) {
+    MOST.set(HELD.get());
+    let result = f();
+    (result, MOST.get())
 }
 
 /// Returns the sum of the alignments of the blocks that the thread has allocated and not freed.

@@ -15,7 +15,7 @@ returns-clause-used g c =
     let was = c.args.map.now.pairs in
     let (page, found) = some_there (lookup (nat_eq n) was) (sym c.promote.ensures.there ∙ c.if-not-promote.false) in λ _.
     c.fill_newest.ensures n page (without (nat_eq n) was) (c.promote.ensures.used page found)
-    ∙ ap (λ o. (n, record { block = c.args.block; is_dirty = true; is_pinned = is_pinned o })
+    ∙ ap (λ o. (n, record { block = c.args.block.now; is_dirty = true; is_pinned = is_pinned o })
     ∷ without (nat_eq n) was) (sym found)
 
 pub returns-clause-written : goal.returns-clause-written
@@ -23,7 +23,7 @@ returns-clause-written g c =
     let n = c.args.n in
     let was = c.args.map.now.pairs in
     let page : Page g.row.B.Denot = record {
-      block = c.args.block;
+      block = c.args.block.now;
       is_dirty = true;
       is_pinned = is_pinned (lookup (nat_eq n) was);
     } in λ yes.

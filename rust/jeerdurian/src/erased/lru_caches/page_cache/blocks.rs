@@ -5,7 +5,7 @@ use crate::rattle_std::prelude::*;
 use crate::erased::lru_caches::device::BlockDevice;
 use crate::erased::lru_caches::page_cache::evict::{find_room, replace};
 use crate::erased::lru_caches::page_cache::flush::reserve_number;
-use crate::erased::lru_caches::page_cache::pages::{Page, admit, load, overwrite, promote, read_newest, write_newest};
+use crate::erased::lru_caches::page_cache::pages::{admit, load, overwrite, promote, read_newest, write_newest};
 use crate::erased::lru_caches::page_cache::{PageCache, PageError};
 use crate::erased::schnellru::KeyHasher;
 use crate::rattle_std::ops::Range;
@@ -19,7 +19,7 @@ impl<B: Copy, D: BlockDevice<B>, S: KeyHasher<u64>> PageCache<B, D, S> {
         admit(&self.device, n)?;
         reserve_number(&mut self.numbers, self.map.len())?;
         let gone = find_room(&self.map, self.capacity, self.keeps_dirty)?;
-        load(&mut self.map, &mut self.device, &mut self.counts, gone, hash, n)
+        load(self.alloc, &mut self.map, &mut self.device, &mut self.counts, gone, hash, n)
     }
 
     /// Returns a block, and makes its page the newest.
@@ -75,16 +75,17 @@ impl<B: Copy, D: BlockDevice<B>, S: KeyHasher<u64>> PageCache<B, D, S> {
     /// # Errors
     ///
     /// As `read`, but `Broken` is possible even if the page is cached. After an error, the block is not replaced.
+    // A call that is not inlined copies the block.
+    #[inline]
     pub fn write(&mut self, n: u64, block: B) -> Result<(), PageError<D::Error>> {
         admit(&self.device, n)?;
         let hash = self.map.hasher().hash_named(&n);
-        if overwrite(&mut self.map, &mut self.counts, hash, n, block) {
+        if overwrite(&mut self.map, &mut self.counts, hash, n, &block) {
             return Ok(());
         }
         reserve_number(&mut self.numbers, self.map.len())?;
         let gone = find_room(&self.map, self.capacity, self.keeps_dirty)?;
-        let page = Page { block, is_dirty: true, is_pinned: false };
-        replace(&mut self.map, &mut self.device, &mut self.counts, gone, hash, n, page)
+        replace(self.alloc, &mut self.map, &mut self.device, &mut self.counts, gone, hash, n, &block, true)
     }
 
     /// Lends a block to a closure, and returns what the closure returns. The closure may write the block in place. The

@@ -4,9 +4,11 @@ use crate::rattle_std::prelude::*;
 
 use crate::erased::lru_caches::device::BlockDevice;
 use crate::erased::lru_caches::page_cache::PageError;
+use crate::erased::lru_caches::page_cache::boxed::{Boxed, store};
 use crate::erased::lru_caches::page_cache::flush::write_page;
 use crate::erased::lru_caches::page_cache::pages::{Counts, Page, Pages, add_page};
 use crate::erased::schnellru::KeyHasher;
+use crate::rattle_std::alloc::Global;
 
 fn find_victim<B: Copy, S: KeyHasher<u64>>(map: &Pages<B, S>, keeps_dirty: bool) -> Option<u64> {
     let mut pages = map.iter();
@@ -33,34 +35,37 @@ pub(super) fn find_room<B: Copy, E, S: KeyHasher<u64>>(
     }
 }
 
+/// Evicts the page `gone`, if any, and returns its box.
 fn evict<B: Copy, D: BlockDevice<B>, S: KeyHasher<u64>>(
     map: &mut Pages<B, S>,
     device: &mut D,
     gone: Option<u64>,
-) -> Result<(), PageError<D::Error>> {
+) -> Result<Option<Boxed<B>>, PageError<D::Error>> {
     let Some(n) = gone else {
-        return Ok(());
+        return Ok(None);
     };
     let _ = map.len();
     write_page(map, device, n)?;
-    map.remove(&n);
-    Ok(())
+    Ok(map.remove(&n).map(|page| page.block))
 }
 
 /// Evicts the page `gone`, if any, and inserts page n as the newest.
 pub(super) fn replace<B: Copy, D: BlockDevice<B>, S: KeyHasher<u64>>(
+    alloc: Global,
     map: &mut Pages<B, S>,
     device: &mut D,
     counts: &mut Counts,
     gone: Option<u64>,
     hash: u64,
     n: u64,
-    page: Page<B>,
+    block: &B,
+    is_dirty: bool,
 ) -> Result<(), PageError<D::Error>> {
     let before = map.len();
-    evict(map, device, gone)?;
+    let spare = evict(map, device, gone)?;
     let evicted = before - map.len();
     counts.evictions = counts.evictions.saturating_add(evicted as u64);
+    let page = Page { block: store(alloc, spare, block).map_err(|_| PageError::Memory)?, is_dirty, is_pinned: false };
     add_page(map, hash, n, page)?;
     counts.misses = counts.misses.saturating_add(1);
     Ok(())

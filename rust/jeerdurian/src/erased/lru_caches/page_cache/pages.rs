@@ -4,12 +4,13 @@ use crate::rattle_std::prelude::*;
 
 use crate::erased::lru_caches::device::BlockDevice;
 use crate::erased::lru_caches::page_cache::PageError;
+use crate::erased::lru_caches::page_cache::boxed::Boxed;
 use crate::erased::lru_caches::page_cache::evict::replace;
 use crate::erased::schnellru::{KeyHasher, LruMap, UnlimitedCompact};
+use crate::rattle_std::alloc::Global;
 
-#[derive(Clone, Copy)]
 pub(super) struct Page<B> {
-    pub(super) block: B,
+    pub(super) block: Boxed<B>,
     pub(super) is_dirty: bool,
     pub(super) is_pinned: bool,
 }
@@ -52,6 +53,7 @@ fn read_block<B: Copy, D: BlockDevice<B>>(device: &mut D, n: u64) -> Result<B, P
 }
 
 pub(super) fn load<B: Copy, D: BlockDevice<B>, S: KeyHasher<u64>>(
+    alloc: Global,
     map: &mut Pages<B, S>,
     device: &mut D,
     counts: &mut Counts,
@@ -60,8 +62,7 @@ pub(super) fn load<B: Copy, D: BlockDevice<B>, S: KeyHasher<u64>>(
     n: u64,
 ) -> Result<(), PageError<D::Error>> {
     let block = read_block(device, n)?;
-    let page = Page { block, is_dirty: false, is_pinned: false };
-    replace(map, device, counts, gone, hash, n, page)
+    replace(alloc, map, device, counts, gone, hash, n, &block, false)
 }
 
 pub(super) fn promote<B: Copy, S: KeyHasher<u64>>(
@@ -88,7 +89,7 @@ pub(super) fn overwrite<B: Copy, S: KeyHasher<u64>>(
     counts: &mut Counts,
     hash: u64,
     n: u64,
-    block: B,
+    block: &B,
 ) -> bool {
     if !promote(map, counts, hash, n) {
         return false;
@@ -97,9 +98,9 @@ pub(super) fn overwrite<B: Copy, S: KeyHasher<u64>>(
     true
 }
 
-fn fill_newest<B: Copy, S: KeyHasher<u64>>(map: &mut Pages<B, S>, block: B) {
+fn fill_newest<B: Copy, S: KeyHasher<u64>>(map: &mut Pages<B, S>, block: &B) {
     if let Some(page) = map.newest_mut() {
-        page.block = block;
+        page.block.set(block);
         page.is_dirty = true;
     }
 }
@@ -115,7 +116,7 @@ pub(super) fn add_page<B: Copy, E, S: KeyHasher<u64>>(
 
 pub(super) fn read_newest<B: Copy, S: KeyHasher<u64>, R, U: FnOnce(&B) -> R>(map: &Pages<B, S>, read: U) -> R {
     match map.peek_newest() {
-        Some((_, page)) => read(&page.block),
+        Some((_, page)) => read(page.block.get()),
         None => unreachable!(),
     }
 }
@@ -127,7 +128,7 @@ pub(super) fn write_newest<B: Copy, S: KeyHasher<u64>, R, U: FnOnce(&mut B) -> R
     match map.newest_mut() {
         Some(page) => {
             page.is_dirty = true;
-            write(&mut page.block)
+            page.block.write(write)
         }
         None => unreachable!(),
     }
