@@ -18,6 +18,7 @@ struct sqlite3_pcache {
     struct lru pages;
     struct lru unpinned;
     struct page *strays; /* pinned pages that `pages` had no memory for after they got another number */
+    unsigned greatest;   /* no page has a greater number */
     size_t page_bytes;
     size_t extra_bytes;
     size_t limit;
@@ -141,6 +142,11 @@ static int count_pages(sqlite3_pcache *cache) {
     return (int)page_count(cache);
 }
 
+static void set_number(sqlite3_pcache *cache, struct page *page, unsigned number) {
+    page->number = number;
+    if (number > cache->greatest) cache->greatest = number;
+}
+
 /* create_if: 0 never creates a page, 1 does if that is easy, 2 does if there is memory. */
 static sqlite3_pcache_page *fetch(sqlite3_pcache *cache, unsigned number, int create_if) {
     struct page *page = find(cache, number);
@@ -151,7 +157,7 @@ static sqlite3_pcache_page *fetch(sqlite3_pcache *cache, unsigned number, int cr
     if (create_if == 0) return NULL;
     page = memory_for_page(cache, create_if == 2);
     if (page == NULL) return NULL;
-    page->number = number;
+    set_number(cache, page, number);
     memset(page->buffers.pExtra, 0, cache->extra_bytes);
     if (lru_put(&cache->pages, number, address_of(page)) == LRU_STORED) return &page->buffers;
     free(page);
@@ -174,15 +180,17 @@ static void rekey(sqlite3_pcache *cache, sqlite3_pcache_page *buffers, unsigned 
     if (other == page) return;
     if (other != NULL) drop_page(cache, other);
     take_out(cache, page);
-    page->number = new_number;
+    set_number(cache, page, new_number);
     if (lru_put(&cache->pages, new_number, address_of(page)) != LRU_STORED) {
         page->next = cache->strays;
         cache->strays = page;
     }
 }
 
-/* Drops each page whose number is `first` or more. It turns `pages` once around, which takes no memory. */
+/* Drops each page whose number is `first` or more. If there may be one, this turns `pages` once around, which takes no
+ * memory. */
 static void truncate_pages(sqlite3_pcache *cache, unsigned first) {
+    if (first > cache->greatest) return;
     for (size_t left = lru_len(&cache->pages); left > 0; left--) {
         struct lru_pair oldest = lru_peek_oldest(&cache->pages);
         if (oldest.key >= first)
@@ -194,6 +202,7 @@ static void truncate_pages(sqlite3_pcache *cache, unsigned first) {
         next = page->next;
         if (page->number >= first) drop_page(cache, page);
     }
+    cache->greatest = first > 0 ? first - 1 : 0;
 }
 
 static void destroy(sqlite3_pcache *cache) {
