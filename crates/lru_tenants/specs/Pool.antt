@@ -129,7 +129,7 @@ module _ {N K V L S : Type 0} where
   SparesOthers account eq names old new =
       (other : N) → names other ≡ false → Spared account (lookup (eq other) old.tenants) (lookup (eq other) new.tenants)
 
-  -- The calls change the pool from `old` to `new`. Each call spares the tenants that it does not name (`Spares`).
+  -- The calls change the pool from `old` to `new`. Each call spares the tenants that it does not name (`SparesOthers`).
   abbrev pub PoolRun : (L → ℕ) → (N → N → Bool) → Pool N K V L S → List (N → Bool) → Pool N K V L S → Type 0
   PoolRun account eq old [] new = new ≡ old
   PoolRun account eq old (names ∷ more) new =

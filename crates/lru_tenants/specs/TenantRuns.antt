@@ -127,7 +127,8 @@ module _ {N K V L S : Type 0} (rules : Rules K V L) (offers : Offers K V L K) (c
   TenantStep cache (calls.Close name) old answer new = (result : Result ℕ TenantError)
       × OfOpen Closes old result new × (answer ≡ answers.Closed result)
 
-  -- The call changes the tenant that it names as `TenantStep` says, and nothing else.
+  -- The call changes the tenant that it names as `TenantStep` says, and nothing else. Afterwards, each tenant keeps to
+  -- its budget (`AreTenants`).
   abbrev pub CacheStep : Cache N K V L S → TenantCall N K V → TenantAnswer V → Cache N K V L S → Type 0
   CacheStep old call answer new = On same (same (named call)) (TenantStep old call) old answer new
       × AreTenants eq cost account budget_of new

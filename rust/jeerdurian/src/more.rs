@@ -71,8 +71,8 @@ where
     /// ```
     fn find_entry(&mut self, key: &(impl Hash + PartialEq<K> + ?Sized)) -> Option<OccupiedEntry<'_, K, V, L, S>>;
 
-    /// Returns a handle on the entry with this hash that the closure accepts. [`LruMap::get_by_hash`] says which hash a
-    /// key has. Proved: the same as for this call, except the promotion. Cost: as this call.
+    /// Returns a handle on the entry with this [hash](LruMap::get_by_hash) that the closure accepts. Proved: the same as
+    /// for [`LruMap::get_by_hash`], except the promotion. Cost: as `get_by_hash`.
     fn find_entry_by_hash(
         &mut self,
         hash: u64,

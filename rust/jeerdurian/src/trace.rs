@@ -63,8 +63,8 @@ impl Default for Options {
     }
 }
 
-/// Which misses are counted: the misses of LRU after a warm-up, with limits of entries, for a trace that also deletes
-/// keys, or with limits of bytes; or also the misses of the best possible policies.
+/// Which misses are counted: those of LRU after a warm-up (with limits of entries, with or without deletes, or with
+/// limits of bytes), or those of LRU and of the best possible policies.
 ///
 /// ```
 /// use jeerdurian::trace::Policies;

@@ -140,7 +140,7 @@ pub use crate::erased::lru_limits::Costed;
 pub use crate::erased::lru_limits::OwnedBytes;
 
 /// The result of [`More::insert_full`](crate::More::insert_full) and of
-/// [`TenantCache::put_full`](crate::tenants::TenantCache::put_full), which says what it returns for a rejected new key.
+/// [`TenantCache::put_full`](crate::tenants::TenantCache::put_full). For a rejected new key, see the docs of `put_full`.
 ///
 /// ```
 /// use jeerdurian::{ByLength, Inserted, LruMap, More};

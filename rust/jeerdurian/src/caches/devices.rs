@@ -28,7 +28,7 @@ impl core::error::Error for FileError {}
 
 impl Eq for FileError {}
 
-/// Defines a device for callers in Rust: the proved device, with Rust's allocator, and whether a sync has panicked.
+/// Defines a device for callers in Rust: the proved device, with Rust's allocator, and whether a sync has failed.
 macro_rules! file_device {
     ($(#[$docs:meta])* $name:ident, $least:literal) => {
         $(#[$docs])*
@@ -156,7 +156,8 @@ macro_rules! file_device {
 file_device!(
     /// A device of the blocks of a file, of `N` bytes each. Only the file is kept in memory, no blocks.
     ///
-    /// A call fails with `File` if the file fails, if the device has no such block, or after a `sync` failed or panicked.
+    /// A call fails with `File` if the file fails, if the device has no such block, or after a `sync` failed or
+    /// panicked.
     ///
     /// ```
     /// use jeerdurian::caches::{BlockDevice, FileDevice};

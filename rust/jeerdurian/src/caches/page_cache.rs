@@ -63,8 +63,8 @@ impl<B: Copy, D: BlockDevice<B>> PageCache<B, D> {
     /// Makes an empty cache of a device, for at most `capacity` pages; 0 counts as 1. Its hasher of block numbers has
     /// random seeds. Cost: `O(1)`, and no memory.
     ///
-    /// Each block is in a box of its own. In a trial, a page took up to 160 bytes besides its block, and up to 244 while
-    /// the table grew. Choose `capacity` so that this memory is there.
+    /// Each block is in a box of its own. In a trial, a page took up to 160 bytes besides its block (244 while the table
+    /// grew). Choose `capacity` so that this memory is there.
     ///
     /// ```
     /// # use jeerdurian::caches::{FileDevice, PageCache};

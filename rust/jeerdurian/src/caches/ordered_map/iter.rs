@@ -49,7 +49,7 @@ pub use crate::erased::lru_caches::Values;
 
 /// An iterator over the entries of an [`OrderedMap`] that lends their values for writing, oldest first, from both ends.
 ///
-/// It is not proved, as [`IterMut`](crate::IterMut).
+/// Like [`IterMut`](crate::IterMut), it is not proved.
 pub struct EntriesMut<'a, K, V> {
     walk: Rev<WalkMut<'a, K, V, usize>>,
 }

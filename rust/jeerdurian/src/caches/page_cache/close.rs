@@ -30,7 +30,7 @@ impl<B: Copy, D: BlockDevice<B>, S: BuildHasher> PageCache<B, D, S> {
         }
     }
 
-    /// Drops the cached pages and returns the device. Writes since the last flush may be lost. Cost: `O(1)`.
+    /// Drops the cached pages and returns the device. Writes since the last flush may be lost. Cost: `O(len)`.
     ///
     /// ```
     /// # use jeerdurian::caches::{FileDevice, PageCache};
